@@ -29,7 +29,7 @@ use Rattle.epoch_pools.specs.declared.record.Away.{Away}
 use Rattle.epoch_pools.specs.declared.record.Noted.{Noted}
 use Rattle.epoch_pools.specs.declared.record.Record.{Record}
 use Rattle.epoch_pools.specs.declared.views.SeatPart.{SeatPart}
-use Rattle.epoch_pools.specs.Record.{noted_after, looked_with, is_judging, gained_by}
+use Rattle.epoch_pools.specs.Record.{asked_after, noted_after, looked_with, is_judging, gained_by}
 use Rattle.epoch_pools.specs.Running.{pass_kept, Enables, part_after, core_after}
 use Rattle.epoch_pools.specs.declared.stuck.Stuck.{Stuck}
 use Rattle.epoch_pools.specs.declared.stuck.Stuck.TheVariants.{Inside, Away as IsAway}
@@ -60,16 +60,17 @@ none_looked t before now judging gained none same = ap (λ (o : Option Cursor). 
     gone None = refl
     gone (Some c) = refl
 
--- a step of a seat that holds nothing, and which leaves epoch, cursor and hand, is one of a pool call
+-- a step of a seat that holds nothing, and which leaves epoch, cursor and hand and fills no node, is one of a pool call
 pub pool_call : {P : Type 0} (rested : P → P) (p q : SeatPart P) (step : Step) (w : ℕ) (u : View) → q ≡ part_after rested p step w
     → p.core.own ≡ Nothing → q.core ≡ u
-    → u.epoch ≡ p.core.epoch → u.cursor ≡ p.core.cursor → u.hand ≡ p.core.hand → IsPoolCall p q
-pool_call {P} rested p q step w u made own core epoch cursor hand = record {
+    → u.epoch ≡ p.core.epoch → u.cursor ≡ p.core.cursor → u.hand ≡ p.core.hand → asked_after p.trace p.core step ≡ p.trace.asked → IsPoolCall p q
+pool_call {P} rested p q step w u made own core epoch cursor hand asks = record {
   number = ap (λ (x : SeatPart P). x.number) made;
   seats = ap (λ (x : SeatPart P). x.seats) made;
   pass = ap (λ (x : SeatPart P). x.pass) made ∙ pass_none rested p.core.own (held_at (core_after p step w).own) p.pass own;
   client = ap (λ (x : SeatPart P). x.trace.client) made;
   list = ap (λ (x : SeatPart P). x.trace.list) made;
+  asked = ap (λ (x : SeatPart P). x.trace.asked) made ∙ asks;
   epoch = ap (λ (v : View). v.epoch) core ∙ epoch;
   cursor = ap (λ (v : View). v.cursor) core ∙ cursor;
   hand = ap (λ (v : View). v.hand) core ∙ hand;
@@ -88,6 +89,7 @@ no_call p = record {
   pass = refl;
   client = refl;
   list = refl;
+  asked = refl;
   epoch = refl;
   cursor = refl;
   hand = refl;
@@ -103,6 +105,7 @@ both_calls p q r a b = record {
   pass = b.pass ∙ a.pass;
   client = b.client ∙ a.client;
   list = b.list ∙ a.list;
+  asked = b.asked ∙ a.asked;
   epoch = b.epoch ∙ a.epoch;
   cursor = b.cursor ∙ a.cursor;
   hand = b.hand ∙ a.hand;
@@ -352,10 +355,13 @@ module _ {P : Type 0} (rested : P → P) (p q : SeatPart P) (j w : ℕ) (free : 
     where
       split : (b : Bool) → q.core ≡ (if b then released u else u) → IsLooking p q
       split true e = record {
-        call = pool_call rested p q (ReadEpoch j) w (released u) made free.own e l.epoch l.cursor l.hand;
+        call = pool_call rested p q (ReadEpoch j) w (released u) made free.own e l.epoch l.cursor l.hand refl;
         own = ap (λ (v : View). v.own) e ∙ l.own;
       }
-      split false e = record { call = pool_call rested p q (ReadEpoch j) w u made free.own e l.epoch l.cursor l.hand; own = ap (λ (v : View). v.own) e ∙ l.own }
+      split false e = record {
+        call = pool_call rested p q (ReadEpoch j) w u made free.own e l.epoch l.cursor l.hand refl;
+        own = ap (λ (v : View). v.own) e ∙ l.own;
+      }
 
   noted_else : (k : ℕ) → k ≢ j → find (λ n. n.seat == k) q.trace.noted ≡ find (λ n. n.seat == k) p.trace.noted
   noted_else k d = split (w % 2 == 0 || is_passed q.core j) noted_now

@@ -6,8 +6,11 @@ use Rattle.std.specs.Prelude.{ℕ, suc, ◌+◌, ◌-◌, ◌*◌, ◌/◌, ◌%
 use Rattle.std.specs.Prelude.{[], ◌∷◌, Option, Some, None, unwrap_or, is_some, is_none}
 use Rattle.lock_core.specs.declared.views.View.{View}
 use Rattle.lock_core.specs.declared.views.Cursor.{Cursor}
+use Rattle.lock_core.specs.declared.views.Own.{Own}
+use Rattle.lock_core.specs.declared.views.Own.TheVariants.{Nothing, Filling, Linked}
+use Rattle.lock_core.specs.declared.range.Held.{Held}
 use Rattle.lock_core.specs.declared.steps.Step.{Step}
-use Rattle.lock_core.specs.declared.steps.Step.TheVariants.{ReadEpoch, ReadHome, Walk, ReadHi, Mark, Link, Unlink, QuickLink, QuickUnlink, Settle}
+use Rattle.lock_core.specs.declared.steps.Step.TheVariants.{FillHi, ReadEpoch, ReadHome, Walk, ReadHi, Mark, Link, Unlink, QuickLink, QuickUnlink, Settle}
 use Rattle.lock_core.specs.Words.{mode_of}
 use Rattle.lock_core.specs.Nodes.{Listed, listed_of}
 use Rattle.lock_core.specs.Views.{is_passed}
@@ -21,7 +24,7 @@ use Rattle.epoch_pools.specs.declared.record.Record.{Record}
 
 -- before the first step
 abbrev pub no_steps : Record
-no_steps = record { taken = 0; client = None; met = None; lost = None; away = []; noted = []; looked = None; walked = 0; list = 0 }
+no_steps = record { taken = 0; client = None; met = None; lost = None; away = []; noted = []; looked = None; asked = []; walked = 0; list = 0 }
 
 -- ReadHi meets the cursor's node, with the lower end that was read before and the hi word that it finds
 abbrev pub met_at : Record → Option Cursor → ℕ → Option Met
@@ -95,6 +98,18 @@ looked_with t before None judging gained = t.looked
 looked_with t None (Some c) judging gained = Some (record { nodes = c.seen; judged = 0; ended = c.cur == 0; held = gained; list = t.list; step = t.taken })
 looked_with t (Some b) (Some c) judging gained = looked_on t.looked c judging gained
 
+-- the lower end that is filled in the own node
+abbrev pub low_end : Own → ℕ
+low_end Nothing = 0
+low_end (Filling node lo hi mode aimed) = unwrap_or lo 0
+low_end (Linked node range mode todo) = range.lo
+
+-- FillHi asks for the range that it completes. FillLo before it forgets the higher end, and a node is linked only where
+-- both ends are known, so this is the last store of an end before a link
+abbrev pub asked_after : Record → View → Step → List Held
+asked_after t v (FillHi hi mode) = record { range = record { lo = low_end v.own; hi = hi }; mode = mode } ∷ t.asked
+asked_after t v _ = t.asked
+
 -- the number of the last Walk
 abbrev pub walked_at : Record → Step → ℕ
 walked_at t Walk = t.taken
@@ -111,6 +126,7 @@ record_after t v step place found now =
       away = away_after t step found;
       noted = noted_after t now step found;
       looked = looked_with t v.cursor now.cursor (is_judging step) (gained_by v now);
+      asked = asked_after t v step;
       walked = walked_at t step;
       list = t.list;
     }

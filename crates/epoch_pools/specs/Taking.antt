@@ -21,13 +21,15 @@ pub record IsFree (v : View) : Type 0 where
   pub outside : v.epoch % 2 ≡ 0
   pub own : v.own ≡ Nothing
 
--- a call that makes no step on a client word, enters and leaves no operation, and touches no node but of the pools
+-- a call that makes no step on a client word, enters and leaves no operation, and touches no node but of the pools; it
+-- fills none
 pub record IsPoolCall {P : Type 0} (p q : SeatPart P) : Type 0 where
   pub number : q.number ≡ p.number
   pub seats : q.seats ≡ p.seats
   pub pass : q.pass ≡ p.pass
   pub client : q.trace.client ≡ p.trace.client
   pub list : q.trace.list ≡ p.trace.list
+  pub asked : q.trace.asked ≡ p.trace.asked
   pub epoch : q.core.epoch ≡ p.core.epoch
   pub cursor : q.core.cursor ≡ p.core.cursor
   pub hand : q.core.hand ≡ p.core.hand

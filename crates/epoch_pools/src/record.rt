@@ -83,6 +83,9 @@ pub struct Record {
     /// The epochs that were read without passing their seats, the latest first.
     pub noted: LinkedList<Noted>,
     pub looked: Option<Looked>,
+    /// The range of each node that the seat has filled, with its mode, the latest first. A node is filled before it is
+    /// linked, and what is held is linked: so nothing is held that doesn't stand here.
+    pub asked: LinkedList<Held>,
     /// The number of the last Walk, which `met` carries on.
     pub walked: u64,
     /// The list in which the seat makes its next steps: that to which its hand is turned.

@@ -73,7 +73,7 @@ module _ {P : Type 0} (p : SeatPart P) (may : MayBeginWalk p.core) where
     -- the step leaves the cursor at the word that it found, in a walk that this call began
     pub cursor_made : IsCursorMade p q w
     cursor_made = record {
-      later = on_made rested p q Walk out_plan w m (may_walk_free p.core.own may.own) (ap (λ (v : View). v.epoch) view_is)
+      later = on_made rested p q Walk out_plan w m refl (may_walk_free p.core.own may.own) (ap (λ (v : View). v.epoch) view_is)
           (subst (IsSamePools p.core) (sym view_is) (record {
             ready = refl;
             used = refl;
@@ -136,7 +136,7 @@ module _ {P : Type 0} (p : SeatPart P) (head : IsAtOddHead p.core) where
         let view : settle_plan.view w ≡ settled p.core head.cursor = ap settled_by (eq-eqb _ _ e) in
         let core : q.core ≡ settled p.core head.cursor = m'.core ∙ view in
         record {
-          later = on_made rested p q Settle settle_plan w m' (free_unlinked p.core.own head.unlinked) (ap (λ (v : View). v.epoch) view)
+          later = on_made rested p q Settle settle_plan w m' refl (free_unlinked p.core.own head.unlinked) (ap (λ (v : View). v.epoch) view)
               (subst (IsSamePools p.core) (sym view) (record {
                 ready = refl;
                 used = refl;
@@ -155,7 +155,7 @@ module _ {P : Type 0} (p : SeatPart P) (head : IsAtOddHead p.core) where
     settle_fails : w ≢ head.cursor.cur → IsHandView p → HasRoom p → (l : Lost)
         → l.place ≡ cell_place p.seats (cell_of head.cursor.prev) → l.expected ≡ head.cursor.cur → l.found ≡ w → IsFailed p q l
     settle_fails d view room l placed wanted had =
-        failed rested p q Settle settle_plan w m' head.cursor head.is tt refl (ap settled_by (ne_eqb _ _ d)) (ne_eqb _ _ d)
+        failed rested p q Settle settle_plan w m' head.cursor head.is tt refl refl (ap settled_by (ne_eqb _ _ d)) (ne_eqb _ _ d)
         (free_unlinked p.core.own head.unlinked) head.inside.hand view room l
         (placed ∙ ap (λ (o : Option ℕ). cell_place p.seats (cell_of o)) head.prev) wanted had
 

@@ -98,7 +98,7 @@ module _ {P : Type 0} (p : SeatPart P) (st : StandsAt p.core) where
         plan_is = ap (λ (o : Option Cursor). walked p.core o w) st.is
 
         on_load : IsLaterInWalk p q
-        on_load = on_made rested p q Walk walk_plan w m (may_walk_free p.core.own st.own) (ap (λ (v : View). v.epoch) plan_is)
+        on_load = on_made rested p q Walk walk_plan w m refl (may_walk_free p.core.own st.own) (ap (λ (v : View). v.epoch) plan_is)
             (subst (IsSamePools p.core) (sym plan_is) (same_pools p.core (Some next_cursor))) (ap (λ (v : View). v.hand) plan_is ∙ st.inside.hand)
 
     -- the record takes the load as the one at which the cursor's node was found
@@ -160,7 +160,7 @@ module _ {P : Type 0} (p : SeatPart P) (n : ℕ) (k : KnowsNext p.core n) (even 
     -- the load leaves the cursor at its node, and all else as it was
     pub lo_loaded : IsLoad p q
     lo_loaded = record {
-      later = on_made rested p q ReadLo lo_plan w lo_made (may_walk_free p.core.own k.stands.own) refl
+      later = on_made rested p q ReadLo lo_plan w lo_made refl (may_walk_free p.core.own k.stands.own) refl
           (same_pools p.core (Some lo_cursor)) k.stands.inside.hand;
       own = ap (λ (v : View). v.own) core_lo;
       seen = ap (λ (v : View). seen_of v.cursor) core_lo ∙ sym (ap seen_of k.stands.is);
@@ -314,7 +314,7 @@ module _ {P : Type 0} (p : SeatPart P) (n lo : ℕ) (k : KnowsLo p.core n lo) (e
 
     -- the judgement leaves what a call that walks leaves
     pub judged_on : IsLaterInWalk p q
-    judged_on = on_made rested p q ReadHi hi_plan w hi_made (may_walk_free p.core.own st.own) (judged_epoch p.core st.cursor st.node n verdict)
+    judged_on = on_made rested p q ReadHi hi_plan w hi_made refl (may_walk_free p.core.own st.own) (judged_epoch p.core st.cursor st.node n verdict)
         (judged_pools p.core st.cursor st.node n verdict) (judged_hand p.core st.cursor st.node n verdict ∙ st.inside.hand)
 
     -- it is a step of the same walk

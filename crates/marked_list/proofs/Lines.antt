@@ -11,7 +11,7 @@ use Rattle.lock_core.proofs.Table.{plan_of_line}
 use Rattle.epoch_pools.specs.declared.record.Looked.{Looked}
 use Rattle.epoch_pools.specs.declared.record.Record.{Record}
 use Rattle.epoch_pools.specs.declared.views.SeatPart.{SeatPart}
-use Rattle.epoch_pools.specs.Record.{met_after, lost_by, expected_by, looked_with, looked_on, walked_at, is_judging, gained_by}
+use Rattle.epoch_pools.specs.Record.{asked_after, met_after, lost_by, expected_by, looked_with, looked_on, walked_at, is_judging, gained_by}
 use Rattle.epoch_pools.specs.Running.{Enables, line_for, part_after, pass_kept}
 use Rattle.marked_list.specs.Leaves.{IsSamePools, IsLaterInWalk, IsCall, IsSameWalk, HasJudged}
 
@@ -35,6 +35,8 @@ pub record Made {P : Type 0} (rested : P → P) (p q : SeatPart P) (step : Step)
   pub pass : q.pass ≡ pass_kept rested (held_at p.core.own) (held_at (plan.view found).own) p.pass
   -- the last client step stays
   pub client : q.trace.client ≡ p.trace.client
+  -- a range that the step completes is asked for
+  pub asked : q.trace.asked ≡ asked_after p.trace p.core step
   -- the hand is turned to the same list
   pub list : q.trace.list ≡ p.trace.list
   -- one step more was made
@@ -60,6 +62,7 @@ made_by {P} rested p q step plan found line made =
       core = refl;
       pass = refl;
       client = refl;
+      asked = refl;
       list = refl;
       taken = refl;
       walked = refl;
@@ -132,14 +135,17 @@ module _ {P : Type 0} (rested : P → P) (p q : SeatPart P) (step : Step) (plan 
   same_walk there l is = let r = same_looked p.trace p.core.cursor (plan.view found).cursor (is_judging step)
       (gained_by p.core (plan.view found)) there l is in (r.0, m.looked ∙ r.1, r.2, r.3)
 
-  -- a step of a seat that holds nothing, whose plan keeps epoch and pools, leaves what a call that walks leaves
-  pub on_made : held_at p.core.own ≡ None → (plan.view found).epoch ≡ p.core.epoch → IsSamePools p.core (plan.view found)
+  -- a step of a seat that holds nothing, which asks for nothing and whose plan keeps epoch and pools, leaves what a
+  -- call that walks leaves
+  pub on_made : asked_after p.trace p.core step ≡ p.trace.asked → held_at p.core.own ≡ None → (plan.view found).epoch ≡ p.core.epoch
+      → IsSamePools p.core (plan.view found)
       → (plan.view found).hand ≡ None → IsLaterInWalk p q
-  on_made free epoch pools hand = record {
+  on_made none free epoch pools hand = record {
     number = m.number;
     seats = m.seats;
     pass = m.pass ∙ pass_stays rested (held_at p.core.own) (held_at (plan.view found).own) p.pass free;
     client = m.client;
+    asked = m.asked ∙ none;
     list = m.list;
     epoch = ap (λ (v : View). v.epoch) m.core ∙ epoch;
     pools = subst (IsSamePools p.core) (sym m.core) pools;

@@ -1,5 +1,5 @@
 -- The own node on its way: filled, aimed, linked, marked, and by the fast path.
-use Rattle.std.proofs.Common.{◌≡◌, ◌≢◌, ◌⊎◌, ℕ, suc, ◌+◌, ◌*◌, ◌%◌, ◌^◌, ◌≤◌, ◌<◌, Bool, true, false, inl, inr, ⊎_elim}
+use Rattle.std.proofs.Common.{◌≡◌, ◌≢◌, ◌⊎◌, ℕ, suc, ◌+◌, ◌*◌, ◌%◌, ◌^◌, ◌≤◌, ◌<◌, Bool, true, false, ◌∷◌, inl, inr, ⊎_elim}
 use Rattle.std.proofs.Common.{refl, sym, ap, ◌∙◌, subst, arith, eq-eqb, ne_eqb}
 use Rattle.std.specs.Prelude.{Option, Some, None, unwrap_or, if◌then◌else◌, ◌==◌}
 use Rattle.lock_core.specs.declared.range.Held.{Held}
@@ -21,7 +21,7 @@ use Rattle.epoch_pools.specs.declared.record.Looked.{Looked}
 use Rattle.epoch_pools.specs.declared.record.Record.{Record}
 use Rattle.epoch_pools.specs.declared.views.SeatPart.{SeatPart}
 use Rattle.epoch_pools.specs.Hands.{IsHandView}
-use Rattle.epoch_pools.specs.Record.{cursor_word, own_word, looked_on, looked_with, is_judging, gained_by}
+use Rattle.epoch_pools.specs.Record.{low_end, cursor_word, own_word, looked_on, looked_with, is_judging, gained_by}
 use Rattle.epoch_pools.specs.Running.{Enables, part_after, pass_kept}
 use Rattle.marked_list.specs.declared.answers.Lost.{Lost}
 use Rattle.marked_list.specs.Order.{HasEnds, StandsAtPlace, MayFill, MayAim, MayLink, MayMark, MayQuickUnlink}
@@ -105,6 +105,12 @@ module _ {P : Type 0} (p : SeatPart P) (n lo : ℕ) (may : MayFill p.core n) whe
       hi_made : Made rested q r (FillHi hi mode) hi_plan u
       hi_made = made_by rested q r (FillHi hi mode) hi_plan u hi_line last
 
+      -- after both fills the range is asked for
+      pub filled_asks : r.trace.asked ≡ record { range = record { lo = lo; hi = hi }; mode = mode } ∷ p.trace.asked
+      filled_asks =
+          let own = ap (λ (v : View). v.own) core_lo in
+          hi_made.asked ∙ (λ i. record { range = record { lo = low_end (own i); hi = hi }; mode = mode } ∷ lo_made.asked i)
+
 aims : (o : Option Cursor) → (o ≡ None) ⊎ StandsAtPlace o → Aims o (cursor_word o)
 aims o place = ⊎_elim (λ e. subst (λ (x : Option Cursor). Aims x (cursor_word x)) (sym e) refl)
     (λ (s : StandsAtPlace o). subst (λ (x : Option Cursor). Aims x (cursor_word x)) (sym s.is) (refl, s.even, s.place)) place
@@ -128,6 +134,7 @@ module _ {P : Type 0} (p : SeatPart P) (may : MayAim p.core) where
         call = call_made rested p q Aim aim_plan w m (ap held_at may.own.is);
         core = m.core ∙ ap (λ (o : Own). record p.core { own = aimed_own (cursor_word p.core.cursor) o }) (sym may.own.is);
         look = same_look rested p q Aim aim_plan w m view (inr refl);
+        asked = m.asked;
       }
 
 -- the own node that was linked
@@ -173,6 +180,10 @@ module _ {P : Type 0} (p q : SeatPart P) (a : IsAimed p q) where
       -- aim and link leave the count of nodes that the walk looked at
       pub link_look : IsHandView q → IsSameLook p r
       link_look view = look_on_look p q r a.look (same_look rested q r Link link_plan w link_made view (inl (gone_by (w == may.place.cursor.cur))))
+
+      -- they ask for nothing
+      pub link_asks : r.trace.asked ≡ p.trace.asked
+      link_asks = link_made.asked ∙ a.asked
 
       -- they are a call of two steps
       pub link_call : IsCall 2 p r
@@ -232,7 +243,11 @@ module _ {P : Type 0} (p q : SeatPart P) (a : IsAimed p q) where
       abbrev quick_by : Bool → View
       quick_by b = if b then quick_linked q.core ended.node own.lo own.hi ended.mode else q.core
 
-      -- aim and quick link are a call of two steps
+      -- aim and quick link ask for nothing
+      pub quick_asks : r.trace.asked ≡ p.trace.asked
+      quick_asks = quick_made.asked ∙ a.asked
+
+      -- they are a call of two steps
       pub quick_call : IsCall 2 p r
       quick_call = call_on p q r a.call (call_made rested q r QuickLink quick_plan w quick_made (ap held_at own_quick))
 
@@ -275,6 +290,7 @@ module _ {P : Type 0} (is_at_rest : P → Type 0) (p : SeatPart P) (may : MayMar
         number = m.number;
         seats = m.seats;
         client = m.client;
+        asked = m.asked;
         list = m.list;
         taken = m.taken;
         core = λ k is. let same : listed may.node ≡ listed k = sym may.is ∙ is in let node : may.node.node ≡ k.node = cc in m.core ∙ ap (marked p.core) node;
@@ -314,6 +330,7 @@ module _ {P : Type 0} (is_at_rest : P → Type 0) (p : SeatPart P) (may : MayQui
       number = back_made.number;
       seats = back_made.seats;
       client = back_made.client;
+      asked = back_made.asked;
       list = back_made.list;
       met = back_made.met;
       taken = back_made.taken;

@@ -107,6 +107,7 @@ module _ {P : Type 0} (p e : SeatPart P) (may : MaySweep p.core) (entering : e �
       seats = seats_out ∙ (on.seats ∙ ap (λ (x : SeatPart P). x.seats) entering);
       pass = ap (λ (x : SeatPart P). x.pass) leaving ∙ (on.pass ∙ ap (λ (x : SeatPart P). x.pass) entering);
       client = ap (λ (x : SeatPart P). x.trace.client) leaving ∙ (on.client ∙ ap (λ (x : SeatPart P). x.trace.client) entering);
+      asked = ap (λ (x : SeatPart P). x.trace.asked) leaving ∙ (on.asked ∙ ap (λ (x : SeatPart P). x.trace.asked) entering);
       list = list_out ∙ (on.list ∙ ap (λ (x : SeatPart P). x.trace.list) entering);
       pools = record {
         ready = ap (λ (x : SeatPart P). x.core.ready) leaving

@@ -15,7 +15,7 @@ use Rattle.lock_core.specs.StepTable.{Plan, IsLine, exchanges, unlink}
 use Rattle.lock_core.specs.Machine.{held_at}
 use Rattle.epoch_pools.specs.declared.record.Record.{Record}
 use Rattle.epoch_pools.specs.declared.views.SeatPart.{SeatPart}
-use Rattle.epoch_pools.specs.Record.{expected_by, lost_by, cursor_word, looked_with, is_judging, gained_by}
+use Rattle.epoch_pools.specs.Record.{asked_after, expected_by, lost_by, cursor_word, looked_with, is_judging, gained_by}
 use Rattle.epoch_pools.specs.Running.{Enables, part_after}
 use Rattle.epoch_pools.specs.Hands.{IsHandView, quiet_after}
 use Rattle.marked_list.specs.declared.answers.Lost.{Lost}
@@ -73,11 +73,12 @@ gone_looked t (Some c) j g = refl
 module _ {P : Type 0} (rested : P → P) (p q : SeatPart P) (step : Step) (plan : Plan) (w : ℕ) (m : Made rested p q step plan w)
     (c : Cursor) (is : p.core.cursor ≡ Some c) where
   -- an exchange of a walk that found another value is the walk's answer, and takes the cursor away
-  pub failed : IsWalkLoss step → expected_by p.core step ≡ Some (cursor_word p.core.cursor) → plan.view w ≡ dropped p.core
+  pub failed : IsWalkLoss step → expected_by p.core step ≡ Some (cursor_word p.core.cursor) → asked_after p.trace p.core step ≡ p.trace.asked
+      → plan.view w ≡ dropped p.core
       → (w == c.cur) ≡ false → held_at p.core.own ≡ None → p.core.hand ≡ None → IsHandView p → HasRoom p
       → (l : Lost) → l.place ≡ plan.place → l.expected ≡ c.cur → l.found ≡ w → IsFailed p q l
-  failed kind expects gone far free hand view room l placed wanted had = record {
-    later = on_made rested p q step plan w m free (ap (λ (v : View). v.epoch) gone)
+  failed kind expects none gone far free hand view room l placed wanted had = record {
+    later = on_made rested p q step plan w m none free (ap (λ (v : View). v.epoch) gone)
         (subst (IsSamePools p.core) (sym gone) (record { ready = refl; used = refl; homes = refl; notes = refl; passed = refl }))
         (ap (λ (v : View). v.hand) gone ∙ hand);
     outcome = (
@@ -130,6 +131,7 @@ module _ {P : Type 0} (p : SeatPart P) (n : ℕ) (k : KnowsNext p.core n) (odd :
           call = call_made rested p q Unlink unlink_plan w m (may_walk_free p.core.own st.own);
           epoch = ap (λ (v : View). v.epoch) core;
           pools = subst (IsSamePools p.core) (sym core) (record { ready = refl; used = refl; homes = refl; notes = refl; passed = refl });
+          asked = m.asked;
           hand = ap (λ (v : View). v.hand) core;
           came = record {
             cursor = record { prev = st.cursor.prev; cur = n - 1; next = None; lo = None; seen = seen_after st.cursor.seen (n - 1) };
@@ -151,7 +153,7 @@ module _ {P : Type 0} (p : SeatPart P) (n : ℕ) (k : KnowsNext p.core n) (odd :
       where
         by_value : (b : Bool) → (w == st.cursor.cur) ≡ b → IsFailed p q l
         by_value true e = absurd (let h : ◌≡◌ {A = Option ℕ} (Some st.node) None = sym (won e).hand ∙ hand in cc)
-        by_value false e = failed rested p q Unlink unlink_plan w m st.cursor st.is tt refl (ap view_by e) e
+        by_value false e = failed rested p q Unlink unlink_plan w m st.cursor st.is tt refl refl (ap view_by e) e
             (may_walk_free p.core.own st.own) st.inside.hand view room l placed wanted had
 
     -- the same, in the words of the cursor that was read before the step
@@ -174,6 +176,7 @@ module _ {P : Type 0} (p q r : SeatPart P) (x : ℕ) (u : IsUnlinked p q x) (mad
     seats = ap (λ (z : SeatPart P). z.seats) made ∙ u.call.seats;
     pass = ap (λ (z : SeatPart P). z.pass) made ∙ u.call.pass;
     client = ap (λ (z : SeatPart P). z.trace.client) made ∙ u.call.client;
+    asked = ap (λ (z : SeatPart P). z.trace.asked) made ∙ u.asked;
     list = ap (λ (z : SeatPart P). z.trace.list) made ∙ u.call.list;
     epoch = ap (λ (v : View). v.epoch) core_home ∙ u.epoch;
     pools = subst (IsSamePools p.core) (sym core_home)

@@ -75,6 +75,7 @@ module _ {P : Type 0} where
     pub call : IsCall 1 p q
     pub core : q.core ≡ record p.core { own = aimed_own (cursor_word p.core.cursor) p.core.own }
     pub look : IsSameLook p q
+    pub asked : q.trace.asked ≡ p.trace.asked
 
   -- why a link gives an answer: the node is linked and has its validation still to do, or the exchange found another
   -- value; the cursor is gone
@@ -94,6 +95,7 @@ module _ {P : Type 0} where
     pub number : q.number ≡ p.number
     pub seats : q.seats ≡ p.seats
     pub client : q.trace.client ≡ p.trace.client
+    pub asked : q.trace.asked ≡ p.trace.asked
     pub list : q.trace.list ≡ p.trace.list
     pub taken : q.trace.taken ≡ p.trace.taken + 1
     pub core : (k : Listed) → p.core.own ≡ listed k → q.core ≡ marked p.core k.node
@@ -113,6 +115,7 @@ module _ {P : Type 0} where
     pub number : q.number ≡ p.number
     pub seats : q.seats ≡ p.seats
     pub client : q.trace.client ≡ p.trace.client
+    pub asked : q.trace.asked ≡ p.trace.asked
     pub list : q.trace.list ≡ p.trace.list
     pub met : q.trace.met ≡ p.trace.met
     pub taken : q.trace.taken ≡ p.trace.taken + 1

@@ -1,6 +1,6 @@
 -- What the calls on a list leave of a hand, whatever they answer. None makes a client step, and none but a mark and a
--- quick unlink changes the pass; the pools stay, since nodes are taken and come home elsewhere. Every call but a quick
--- unlink leaves no node that is still to be given home. This project's own profile.
+-- quick unlink changes the pass; none but a fill asks for a range. The pools stay, since nodes are taken and come home
+-- elsewhere. Every call but a quick unlink leaves no node that is still to be given home. This project's own profile.
 use Rattle.std.specs.Prelude.{◌≡◌, ℕ, ◌+◌, ◌≤◌, ◌<◌, Some, None}
 use Rattle.lock_core.specs.declared.views.View.{View}
 use Rattle.lock_core.specs.declared.views.Own.TheVariants.{Nothing}
@@ -23,6 +23,7 @@ pub record IsLaterInWalk {P : Type 0} (p q : SeatPart P) : Type 0 where
   pub seats : q.seats ≡ p.seats
   pub pass : q.pass ≡ p.pass
   pub client : q.trace.client ≡ p.trace.client
+  pub asked : q.trace.asked ≡ p.trace.asked
   pub list : q.trace.list ≡ p.trace.list
   pub epoch : q.core.epoch ≡ p.core.epoch
   pub pools : IsSamePools p.core q.core
@@ -60,6 +61,7 @@ pub record IsSwept {P : Type 0} (p q : SeatPart P) : Type 0 where
   pub seats : q.seats ≡ p.seats
   pub pass : q.pass ≡ p.pass
   pub client : q.trace.client ≡ p.trace.client
+  pub asked : q.trace.asked ≡ p.trace.asked
   pub list : q.trace.list ≡ p.trace.list
   pub pools : IsSamePools p.core q.core
   pub outside : IsOutside q.core

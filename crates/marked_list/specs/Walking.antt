@@ -124,6 +124,7 @@ module _ {P : Type 0} where
     pub call : IsCall 1 p q
     pub epoch : q.core.epoch ≡ p.core.epoch
     pub pools : IsSamePools p.core q.core
+    pub asked : q.trace.asked ≡ p.trace.asked
     pub hand : q.core.hand ≡ Some node
     pub came : CursorCame p.core q.core
     pub walk : IsSameWalk p q

@@ -2,7 +2,7 @@
 //! place, and marked when its range is given back or given up. A node that is marked stays in the list until a walk
 //! unlinks it. A reader may rely on a link that answers Done having put the node where the walk stopped. Harris 2001
 //! for the mark; Kogan, Dice and Issa 2020 for the list of ranges.
-ghost use Rattle.std.specs.Prelude.{◌≡◌, ◌+◌, Some, None};
+ghost use Rattle.std.specs.Prelude.{◌≡◌, ◌+◌, ◌∷◌, Some, None};
 ghost use Rattle.lock_core.specs.declared.views.Own.TheVariants.{Filling};
 ghost use Rattle.epoch_pools.specs.Beside.{given_back, may_give_back};
 ghost use Rattle.marked_list.specs.Order.{HasEnds, MayFill, MayAim, MayLink, MayMark};
@@ -31,6 +31,7 @@ pub fn fill<G: Guard, L: Ledger>(
     ensures table { hand.new.table ≡ hand.old.table }
     ensures call { IsCall 2 hand.old.part hand.new.part }
     ensures filled { hand.new.part.core ≡ record hand.old.part.core { own = Filling node (Some range.lo) (Some range.hi) mode None } }
+    ensures asked { hand.new.part.trace.asked ≡ record { range = range; mode = mode } ∷ hand.old.part.trace.asked }
     ensures seats { hand.old.part.seats ≡ list.now.seats }
     ensures counted { steps.new ≡ steps.old + 2 }
 {
@@ -73,6 +74,7 @@ pub fn link<G: Guard, L: Ledger>(
     requires cursor { cursor.old.epoch ≡ hand.old.part.core.epoch }
     ensures table { hand.new.table ≡ hand.old.table }
     ensures call { IsCall 2 hand.old.part hand.new.part }
+    ensures asked { hand.new.part.trace.asked ≡ hand.old.part.trace.asked }
     ensures answer { Links hand.old.part hand.new.part result }
     ensures look { IsSameLook hand.old.part hand.new.part }
     ensures counted { steps.new ≡ steps.old + 2 }

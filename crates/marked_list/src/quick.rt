@@ -29,6 +29,7 @@ pub fn quick_link<G: Guard, L: Ledger>(
     requires order { MayQuickLink hand.old.part.core }
     ensures table { hand.new.table ≡ hand.old.table }
     ensures call { IsCall 2 hand.old.part hand.new.part }
+    ensures asked { hand.new.part.trace.asked ≡ hand.old.part.trace.asked }
     ensures answer { QuickLinks hand.old.part hand.new.part result }
     ensures counted { steps.new ≡ steps.old + 2 }
 {

@@ -84,18 +84,20 @@ module _ {P : Type 0} (p q : SeatPart P) (a : Walked) (may : MayWalk p.core) (on
     call_later : IsLaterInTry q r
     call_later = record { number = call.number; seats = call.seats; pass = call.pass; client = call.client; taken = let t = call.taken in omega arith }
 
-    core_still : (u : View) → r.core ≡ u → u.epoch ≡ q.core.epoch → u.hand ≡ q.core.hand → u.ready ≡ q.core.ready → IsLaterInEpoch p r
-    core_still u core epoch hand ready = still_on p q r (walk_still p q on) (record {
+    core_still : (u : View) → r.trace.asked ≡ q.trace.asked → r.core ≡ u → u.epoch ≡ q.core.epoch → u.hand ≡ q.core.hand
+        → u.ready ≡ q.core.ready → IsLaterInEpoch p r
+    core_still u asked core epoch hand ready = still_on p q r (walk_still p q on) (record {
       later = call_later;
       epoch = ap (λ (v : View). v.epoch) core ∙ epoch;
       hand = ap (λ (v : View). v.hand) core ∙ (hand ∙ on.hand);
       ready = ap (λ (v : View). v.ready) core ∙ ready;
+      asked = asked;
     })
 
     -- walk and link stay in one epoch
-    pub link_still : (b : LinkAnswer) → Links q r b → IsLaterInEpoch p r
-    link_still IsLinked x = core_still _ x refl refl refl
-    link_still (NotLinked l) x = core_still _ x.1 refl refl refl
+    pub link_still : (b : LinkAnswer) → r.trace.asked ≡ q.trace.asked → Links q r b → IsLaterInEpoch p r
+    link_still IsLinked asked x = core_still _ asked x refl refl refl
+    link_still (NotLinked l) asked x = core_still _ asked x.1 refl refl refl
 
     -- a link that is made leaves the node to be validated
     pub linked_ends : Links q r IsLinked → LinkEnds p r Place
@@ -208,6 +210,7 @@ module _ {P : Type 0} (p q : SeatPart P) (a : Walked) (own : HasToValidate p.cor
         epoch = ap (λ (v : View). v.epoch) core_marked;
         hand = ap (λ (v : View). v.hand) core_marked ∙ on.hand;
         ready = ap (λ (v : View). v.ready) core_marked;
+        asked = mark.asked;
       })
 
       -- Long comes exactly where the walk is spent, also behind the mark

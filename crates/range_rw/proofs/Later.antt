@@ -1,5 +1,5 @@
 -- Calls of a try one after another: what each leaves is carried through the next, and so is the cause of a refusal.
-use Rattle.std.proofs.Common.{◌≡◌, ◌↔◌, ℕ, ◌+◌, ◌*◌, ◌%◌, ◌≤◌, Bool, true, false, refl, sym, ap, ◌∙◌, arith}
+use Rattle.std.proofs.Common.{◌≡◌, ◌↔◌, ℕ, ◌+◌, ◌*◌, ◌%◌, ◌≤◌, Bool, true, false, sym, ap, ◌∙◌, arith}
 use Rattle.std.specs.Prelude.{Option, None}
 use Rattle.lock_core.specs.declared.range.Held.{Held}
 use Rattle.lock_core.specs.declared.views.Own.{Own}
@@ -32,7 +32,13 @@ later_on p q r a b = record {
 
 -- two calls in one epoch after each other are one
 pub still_on : {P : Type 0} (p q r : SeatPart P) → IsLaterInEpoch p q → IsLaterInEpoch q r → IsLaterInEpoch p r
-still_on p q r a b = record { later = later_on p q r a.later b.later; epoch = b.epoch ∙ a.epoch; hand = b.hand; ready = b.ready ∙ a.ready }
+still_on p q r a b = record {
+  later = later_on p q r a.later b.later;
+  epoch = b.epoch ∙ a.epoch;
+  hand = b.hand;
+  ready = b.ready ∙ a.ready;
+  asked = b.asked ∙ a.asked;
+}
 
 -- a call that walks stays in its epoch
 pub walk_still : {P : Type 0} (p q : SeatPart P) → IsLaterInWalk p q → IsLaterInEpoch p q
@@ -41,6 +47,7 @@ walk_still p q on = record {
   epoch = on.epoch;
   hand = on.hand;
   ready = on.pools.ready;
+  asked = on.asked;
 }
 
 -- such a call leaves a hand inside that was inside

@@ -1,23 +1,20 @@
 -- The further looks of a reader in conflict: each is a validation that goes on where the last one stopped, so the node
 -- may be looked at once more after each, and marked after the last.
-use Rattle.std.proofs.Common.{◌≡◌, ℕ, ◌+◌, ◌*◌, ◌≤◌, Bool, true, false, inl, inr, refl, sym, ap, ◌∙◌, subst, arith}
+use Rattle.std.proofs.Common.{◌≡◌, Bool, true, false, inr, refl, sym, ap, ◌∙◌, subst, arith}
 use Rattle.lock_core.specs.declared.views.View.{View}
 use Rattle.lock_core.specs.declared.views.Own.{Own}
-use Rattle.lock_core.specs.declared.views.Own.TheVariants.{Linked}
 use Rattle.lock_core.specs.declared.views.Todo.{Todo}
 use Rattle.lock_core.specs.declared.views.Todo.TheVariants.{Forward, FromHead, Done}
 use Rattle.lock_core.specs.Views.{marked}
-use Rattle.lock_core.specs.Machine.{held_at, may_leave}
+use Rattle.lock_core.specs.Machine.{held_at}
 use Rattle.epoch_pools.specs.declared.views.SeatPart.{SeatPart}
-use Rattle.marked_list.specs.declared.answers.Walked.{Walked}
-use Rattle.marked_list.specs.declared.answers.Walked.TheVariants.{Place, Conflict, Lost, Long}
-use Rattle.marked_list.specs.Order.{IsInside, HasToValidate, StandsInConflict, MayWalk, MayValidate, MayMark}
+use Rattle.marked_list.specs.Order.{IsInside, HasToValidate, StandsInConflict, MayValidate}
 use Rattle.marked_list.specs.Causes.{asked_of}
-use Rattle.marked_list.specs.Answers.{Answers, Arrives, IsMarkCall}
-use Rattle.range_rw.specs.Trying.{has_come, IsLaterInEpoch, LinkEnds, StaysFilled}
-use Rattle.range_rw.specs.Patience.{has_met, is_forward, reads_on, LookEnds, PatientEnds, InsideEnds}
+use Rattle.marked_list.specs.Answers.{IsMarkCall}
+use Rattle.range_rw.specs.Trying.{IsLaterInEpoch}
+use Rattle.range_rw.specs.Patience.{is_forward, reads_on, LookEnds, PatientEnds}
 use Rattle.range_rw.proofs.Later.{still_on, inside_still}
-use Rattle.range_rw.proofs.Insertion.{to_do, unheld, asks_linked, placed}
+use Rattle.range_rw.proofs.Insertion.{unheld}
 
 forward_is : (t : Todo) → is_forward t ≡ true → t ≡ Forward
 forward_is Forward e = refl
@@ -64,4 +61,5 @@ module _ {P : Type 0} (p q : SeatPart P) (own : HasToValidate p.core.own) (still
       epoch = ap (λ (v : View). v.epoch) core_marked;
       hand = ap (λ (v : View). v.hand) core_marked ∙ still.hand;
       ready = ap (λ (v : View). v.ready) core_marked;
+      asked = mark.asked;
     })

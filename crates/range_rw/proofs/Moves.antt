@@ -20,9 +20,10 @@ use Rattle.epoch_pools.specs.Standings.{is_here, is_whole, is_counted, standing_
 use Rattle.epoch_pools.specs.Beside.{shown_core}
 use Rattle.epoch_pools.specs.Hands.{IsResting, turned}
 use Rattle.epoch_pools.specs.Passing.{after_look, MayCount, MayPass, HoldsToo}
-use Rattle.range_rw.specs.Contract.{IsReadyLeft}
+use Rattle.range_rw.specs.Contract.{AsksOnly, IsReadyLeft}
 use Rattle.marked_list.specs.Causes.{nodes_in, IsSpent}
 use Rattle.range_rw.specs.Several.{IsLaterInLists, IsPiece, IsFreeSeat, HoldsAlone, HoldsIn, HasSpent, HasPassed, TakesNone}
+use Rattle.range_rw.proofs.Asking.{asks_kept}
 use Rattle.range_rw.proofs.Pieces.{own_at}
 
 -- ---- which lists are taken
@@ -148,6 +149,13 @@ module _ {P : Type 0} where
     client = ap (λ (x : SeatPart (Beside P)). x.trace.client) is;
     taken = let e = ap (λ (x : SeatPart (Beside P)). x.trace.taken) is in omega arith;
   }
+
+  -- neither asks for a range
+  pub turn_asks : (p t : SeatPart (Beside P)) (at : ℕ) → t ≡ turned p at → t.trace.asked ≡ p.trace.asked
+  turn_asks p t at is = ap (λ (x : SeatPart (Beside P)). x.trace.asked) is
+
+  pub look_asks : (p q : SeatPart (Beside P)) (s : Standing) → q ≡ after_look p s → q.trace.asked ≡ p.trace.asked
+  look_asks p q s is = ap (λ (x : SeatPart (Beside P)). x.trace.asked) is
 
   pub look_shows : (p q : SeatPart (Beside P)) (s : Standing) → q ≡ after_look p s → (j : ℕ) → shown_core q j ≡ shown_core p j
   look_shows p q s is j = ap (λ (x : SeatPart (Beside P)). shown_core x j) is
@@ -377,6 +385,11 @@ module _ {P : Type 0} where
       both_later = lists_on p g u
           (lists_on p h g (lists_on p t h (lists_on p l t over.link.later (turn_on l t home over.turn)) (look_on t h s after.look)) after.give.later)
           (turn_on g u home after.turn)
+
+      -- that the link in the other list asked for this range is all
+      pub both_asks : AsksOnly asked p.trace.asked l.trace.asked → g.trace.asked ≡ h.trace.asked → AsksOnly asked p.trace.asked u.trace.asked
+      both_asks asks give = asks_kept asks
+          (turn_asks g u home after.turn ∙ (give ∙ (look_asks t h s after.look ∙ turn_asks l t home over.turn)))
 
       -- each list but the other one is as it was
       pub both_only : (j : ℕ) → j ≢ other → shown_core u j ≡ shown_core p j

@@ -22,7 +22,7 @@ use Rattle.marked_list.proofs.Arriving.{nodes_seen}
 use Rattle.marked_list.proofs.Passing.{notes_are}
 use Rattle.range_rw.specs.declared.scan.Scanned.{Scanned}
 use Rattle.range_rw.specs.Contract.{OpenScan, fresh_in}
-use Rattle.range_rw.specs.Seats.{IsSettled, IsBetween, begun_in, walk_of, scan_of, seat_state_in}
+use Rattle.range_rw.specs.Seats.{IsSettled, begun_in, walk_of, scan_of, seat_state_in}
 use Rattle.range_rw.specs.Scan.{scanned_as, Gives, WalksOn, KeepsWalk, IsNextIn}
 
 -- no own node is settled

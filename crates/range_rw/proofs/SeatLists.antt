@@ -1,15 +1,14 @@
 -- Lists of seats for the crates above: before and after what threads did to each, and the two seats of a new table.
 -- Then the passes with which the seats of a new table begin, and the steps of a try in a table of one list.
-use Rattle.std.proofs.Common.{◌≡◌, ℕ, zero, suc, ◌+◌, ◌-◌, ◌*◌, ◌<◌, ◌≤◌, List, [], ◌∷◌, map, get_or, length, sym, refl, ap, ◌∙◌, subst, arith, mul-one}
+use Rattle.std.proofs.Common.{◌≡◌, ℕ, zero, suc, ◌+◌, ◌<◌, List, [], ◌∷◌, map, get_or, length, sym, refl, ap, ◌∙◌, subst, arith}
 use Rattle.std.specs.Prelude.{remove}
 use mathlib.Core.Option.{some, some-injective, some-ne-none}
 use lib.ListN.{get_elem?}
 use Rattle.atomic_table.specs.Seated.{TableId}
 use Rattle.atomic_table.proofs.Lists.{at_index}
-use Rattle.list_cuts.specs.Cut.{list_count}
 use Rattle.lock_core.proofs.ByPlace.{below as at_below, at_or, same_or}
-use Rattle.range_rw.specs.Contract.{TableShape, SeatState, AreNewSeats, AreNewSeatsIn, AreIdleSeats, IsGivenBack}
-use Rattle.range_rw.specs.Contract.{IsOneList, OpenScan, most_steps, scan_steps, first_passes}
+use Rattle.range_rw.specs.Contract.{SeatState, AreNewSeats, AreNewSeatsIn, AreIdleSeats, IsGivenBack}
+use Rattle.range_rw.specs.Contract.{first_passes}
 use Rattle.range_rw.specs.Contract.{new_seat, new_seat_in, pass_in}
 
 -- idle seats of which each is back are idle seats again

@@ -19,7 +19,7 @@ use Rattle.epoch_pools.specs.declared.views.Beside.{Beside}
 use Rattle.epoch_pools.specs.declared.views.Standing.{Standing}
 use Rattle.epoch_pools.specs.declared.views.Standing.TheVariants.{Free, Narrow, Wide}
 use Rattle.epoch_pools.specs.Standings.{is_here, is_whole, is_counted, standing_back, counted_of_many}
-use Rattle.epoch_pools.specs.Beside.{shown_core, shown_grant, inner_pass, given_back, may_give_back}
+use Rattle.epoch_pools.specs.Beside.{shown_core, shown_grant, inner_pass, given_back}
 use Rattle.epoch_pools.specs.Hands.{HandState, IsResting}
 use Rattle.epoch_pools.specs.Running.{client_part}
 use Rattle.epoch_pools.proofs.Counting.{counts_one, counts_many}
@@ -268,6 +268,7 @@ module _ {P : Type 0} where
       only = given_only was now;
       scan = λ i. placed_in (same_lists i) (same_list i) (g.scan i);
       client = g.client;
+      asked = g.asked;
       met = g.met;
       least = g.least;
       most = g.most;

@@ -1,7 +1,7 @@
 -- A scan through a seat at a table of any number of lists: it is in the list to which the hand is turned, and the seat
 -- holds nothing in any list. What it leaves of that list is what it leaves of the seat; at the end of one list the hand
 -- leaves its epoch, turns to the next list and enters an epoch there.
-use Rattle.std.proofs.Common.{◌≡◌, ◌≢◌, ℕ, zero, suc, ◌+◌, ◌-◌, ◌*◌, ◌%◌, ◌<◌, ◌≤◌, Bool, true, false, ◌⊎◌, inl, inr}
+use Rattle.std.proofs.Common.{◌≡◌, ℕ, suc, ◌+◌, ◌-◌, ◌*◌, ◌%◌, ◌<◌, ◌≤◌, Bool, true, false, ◌⊎◌, inl, inr}
 use Rattle.std.proofs.Common.{⊎_elim, refl, sym, ap, ◌∙◌, subst, arith, eqb-true, eq-eqb}
 use Rattle.std.specs.Prelude.{IsSome, Option, Some, None, ◌==◌, ◌&&◌, List, [], ◌∷◌, map, length}
 use Rattle.std.proofs.lemmas.List.{length-map}
@@ -37,7 +37,7 @@ use Rattle.range_rw.specs.Trying.{IsLaterInTry}
 use Rattle.range_rw.specs.Scan.{scanned_as, IsScanCall, Gives, WalksOn, KeepsWalk, IsNextIn, IsListEnd, IsPassed, IsNext}
 use Rattle.range_rw.specs.Scan.{IsScanSeat, IsScanLater, OpensEpoch, ClosesEpoch, ListGives, IsNoEnd}
 use Rattle.range_rw.proofs.Pieces.{own_at, only_stays}
-use Rattle.range_rw.proofs.Moves.{lists_on, turn_on}
+use Rattle.range_rw.proofs.Moves.{lists_on, turn_on, turn_asks}
 use Rattle.range_rw.proofs.Scans.{bare_settled, scan_none, scan_some, scan_inside, walk_most, walk_nodes, walk_passed}
 use Rattle.range_rw.proofs.Scans.{walk_begun, walk_ended, walk_at, walks_by, next_is}
 use Rattle.range_rw.proofs.Seated.{count_numbers, seated_grant, seated_none, seated_own, try_lists}
@@ -88,6 +88,7 @@ module _ {P : Type 0} where
   pub scan_same : (p : SeatPart (Beside P)) → IsScanSeat p → IsScanLater p p
   scan_same p s = record {
     later = record { number = refl; seats = refl; lists = refl; pass = refl; client = refl; taken = omega arith };
+    asked = refl;
     seat = s;
     ready = λ j. refl;
   }
@@ -95,17 +96,19 @@ module _ {P : Type 0} where
   pub scan_on : (p q r : SeatPart (Beside P)) → IsScanLater p q → IsScanLater q r → IsScanLater p r
   scan_on p q r a b = record {
     later = lists_on p q r a.later b.later;
+    asked = b.asked ∙ a.asked;
     seat = b.seat;
     ready = λ j. b.ready j ∙ a.ready j;
   }
 
   -- a call in the list to which the hand is turned leaves the others
-  pub here_later : (p q : SeatPart (Beside P)) → IsScanSeat p → IsLaterInTry p q → q.core.own ≡ Nothing → q.core.ready ≡ p.core.ready → IsBetween q.core
-      → IsScanLater p q
-  here_later p q s l own ready between =
+  pub here_later : (p q : SeatPart (Beside P)) → IsScanSeat p → IsLaterInTry p q → q.trace.asked ≡ p.trace.asked → q.core.own ≡ Nothing
+      → q.core.ready ≡ p.core.ready → IsBetween q.core → IsScanLater p q
+  here_later p q s l asked own ready between =
       let list : q.pass.list ≡ p.pass.list = ap (λ (b : Beside P). b.list) l.pass in
       record {
         later = try_lists p q l;
+        asked = asked;
         seat = record {
           within = subst (λ (b : Beside P). b.list < b.lists) (sym l.pass) s.within;
           between = between;
@@ -122,7 +125,7 @@ module _ {P : Type 0} where
   walk_later p q on = record { number = on.number; seats = on.seats; pass = on.pass; client = on.client; taken = on.taken }
 
   pub walked_later : (p q : SeatPart (Beside P)) → IsScanSeat p → IsLaterInWalk p q → q.core.own ≡ Nothing → IsResting q.core → IsScanLater p q
-  walked_later p q s on own rests = here_later p q s (walk_later p q on) own on.pools.ready (bare_between q.core own on.hand rests)
+  walked_later p q s on own rests = here_later p q s (walk_later p q on) on.asked own on.pools.ready (bare_between q.core own on.hand rests)
 
   -- a turn leaves every list
   pub turn_later : (p t : SeatPart (Beside P)) (at : ℕ) → IsScanSeat p → t ≡ turned p at → ((j : ℕ) → shown_core t j ≡ shown_core p j)
@@ -133,6 +136,7 @@ module _ {P : Type 0} where
       let free : (j : ℕ) → (shown_core t j).own ≡ Nothing = λ j. ap (λ (v : View). v.own) (stays j) ∙ s.free j in
       record {
         later = turn_on p t at is;
+        asked = turn_asks p t at is;
         seat = record {
           within = omega arith;
           between = bare_between t.core (ap (λ (v : View). v.own) (sym (own_at t t.pass.list refl)) ∙ free t.pass.list) rests.hand (inl rests.cursor);
@@ -157,7 +161,8 @@ module _ {P : Type 0} where
         taken = let n = ap (λ (x : SeatPart (Beside P)). x.trace.taken) made in omega arith;
       } in
       record {
-        later = scan_on p t q m (here_later t q m.seat l own (ap (λ (x : SeatPart (Beside P)). x.core.ready) made) (bare_between q.core own hand (inl cursor)));
+        later = scan_on p t q m (here_later t q m.seat l (ap (λ (x : SeatPart (Beside P)). x.trace.asked) made) own
+            (ap (λ (x : SeatPart (Beside P)). x.core.ready) made) (bare_between q.core own hand (inl cursor)));
         odd = let n = ap (λ (x : SeatPart (Beside P)). x.core.epoch) made in let z = even in omega arith;
         cursor = cursor;
         list = ap (λ (x : SeatPart (Beside P)). x.pass.list) made ∙ there;
@@ -178,19 +183,20 @@ module _ {P : Type 0} where
         taken = let n = ap (λ (x : SeatPart (Beside P)). x.trace.taken) made in omega arith;
       } in
       record {
-        later = here_later p q s l own (ap (λ (x : SeatPart (Beside P)). x.core.ready) made ∙ ap (λ (o : Own). ready_left o p.core.ready) none)
+        later = here_later p q s l (ap (λ (x : SeatPart (Beside P)). x.trace.asked) made) own
+            (ap (λ (x : SeatPart (Beside P)). x.core.ready) made ∙ ap (λ (o : Own). ready_left o p.core.ready) none)
             (bare_between q.core own hand (inl cursor));
         even = let n = ap (λ (x : SeatPart (Beside P)). x.core.epoch) made in let z = inside.odd in omega arith;
         cursor = cursor;
       }
 
   -- one that has left its epoch, or was outside, has no cursor
-  pub is_left : (p q : SeatPart (Beside P)) → IsScanSeat p → IsLaterInTry p q → MaySweep q.core → q.core.ready ≡ p.core.ready → IsHandView q
-      → ClosesEpoch p q
-  is_left p q s l may ready view =
+  pub is_left : (p q : SeatPart (Beside P)) → IsScanSeat p → IsLaterInTry p q → q.trace.asked ≡ p.trace.asked → MaySweep q.core
+      → q.core.ready ≡ p.core.ready → IsHandView q → ClosesEpoch p q
+  is_left p q s l asked may ready view =
       let cursor : q.core.cursor ≡ None = view.sound.outside may.outside.even in
       record {
-        later = here_later p q s l may.own ready (bare_between q.core may.own may.outside.hand (inl cursor));
+        later = here_later p q s l asked may.own ready (bare_between q.core may.own may.outside.hand (inl cursor));
         even = may.outside.even;
         cursor = cursor;
       }
@@ -220,6 +226,7 @@ module _ {P : Type 0} where
     further = (λ i. map ready_in (map (λ j. pools_of (shown_core q j)) (numbers_from 1 (l.later.lists i - 1))))
         ∙ ready_each p q l.ready (numbers_from 1 (p.pass.lists - 1));
     pass = l.later.pass;
+    asked = l.asked;
     client = l.later.client;
     taken = l.later.taken;
   }

@@ -11,10 +11,10 @@ use Rattle.lock_core.specs.declared.views.View.{View}
 use Rattle.lock_core.specs.Machine.{numbers_from, start_view}
 use Rattle.epoch_pools.specs.declared.views.SeatPart.{SeatPart}
 use Rattle.epoch_pools.specs.Beside.{core_at, shown, shown_core}
-use Rattle.epoch_pools.specs.Hands.{HandState, IsResting, AreNewHands, fresh, new_hand, pass_in as hand_pass}
+use Rattle.epoch_pools.specs.Hands.{HandState, IsResting, fresh, new_hand, pass_in as hand_pass}
 use Rattle.epoch_pools.proofs.Opening.{first_core}
 use Rattle.epoch_pools.proofs.Turning.{core_shown}
-use Rattle.range_rw.specs.Contract.{SeatState, first_pools, new_seat_in, pass_in, AreIdleSeats}
+use Rattle.range_rw.specs.Contract.{SeatState, first_pools, new_seat_in, pass_in}
 use Rattle.epoch_pools.specs.declared.views.Beside.{Beside}
 use Rattle.range_rw.specs.Seats.{IsBetween, IsSeated, pools_of, seat_state_of}
 use Rattle.range_rw.proofs.Seated.{seated_grant, rests_closed}

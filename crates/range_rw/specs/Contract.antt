@@ -2,7 +2,8 @@
 -- seat is its table, its number, the range that it holds, its pools of nodes, the pass of the layer above, and the
 -- record of its steps. The ranges are those of Kogan, Dice and Issa 2020; pools and record are this project's own
 -- profile. The layer above reads of a refusal its cause, and needs to know nothing of nodes.
-use Rattle.std.specs.Prelude.{◌≡◌, ◌≢◌, ◌⊎◌, ℕ, zero, suc, ◌+◌, ◌-◌, ◌*◌, ◌/◌, ◌%◌, ◌<◌, ◌≤◌, ◌==◌, Bool, true, false, find, List, [], ◌∷◌, Option, Some, None, length, map, replicate, get_or}
+use Rattle.std.specs.Prelude.{◌≡◌, ◌≢◌, ◌⊎◌, ℕ, zero, suc, ◌+◌, ◌-◌, ◌*◌, ◌/◌, ◌%◌, ◌<◌, ◌≤◌, ◌==◌, ◌++◌, Bool, true, false, find}
+use Rattle.std.specs.Prelude.{List, [], ◌∷◌, Option, Some, None, length, map, replicate, get_or}
 use mathlib.Core.Option.{some}
 use lib.ListN.{get_elem?}
 use Rattle.atomic_table.specs.Seated.{TableId}
@@ -160,6 +161,27 @@ IsLongRefusal (NoNode list stuck) = ⊥
 abbrev pub IsReadyLeft : List ℕ → List ℕ → Type 0
 IsReadyLeft before after = (before ≡ []) ⊎ ((after ≡ before) ⊎ ((n : ℕ) × (before ≡ n ∷ after)))
 
+-- each of these ranges is such a one
+abbrev pub AreAll : (Held → Type 0) → List Held → Type 0
+AreAll IsOne [] = Unit {0}
+AreAll IsOne (h ∷ rest) = IsOne h × AreAll IsOne rest
+
+-- each range that was asked for between two records of a seat is such a one: those that the second one has more, the
+-- latest first. A seat asks for a range when it fills a node with it, and a node that isn't filled is neither linked
+-- nor held; so no other range was held on the way, nor stood in a list
+pub record AsksAmong (IsOne : Held → Type 0) (before after : List Held) : Type 0 where
+  pub more : List Held
+  pub is : after ≡ more ++ before
+  pub all : AreAll IsOne more
+
+-- a call that asks for this range alone, once or more often, or for none
+abbrev pub AsksOnly : Held → List Held → List Held → Type 0
+AsksOnly held before after = AsksAmong (λ h. h ≡ held) before after
+
+-- the same of a call that asks for it at least once
+abbrev pub AsksFor : Held → List Held → List Held → Type 0
+AsksFor held before after = (earlier : List Held) × AsksOnly held before earlier × (after ≡ held ∷ earlier)
+
 module _ {P : Type 0} where
   -- the passes with which the seats from number n on begin, so many
   abbrev pub first_passes : (ℕ → P) → ℕ → ℕ → List P
@@ -247,6 +269,7 @@ module _ {P : Type 0} where
     pub only : (j : ℕ) → j ≤ length before.further → j ≢ before.list → pools_at after j ≡ pools_at before j
     pub scan : after.scan ≡ before.scan
     pub client : after.trace.client ≡ before.trace.client
+    pub asked : after.trace.asked ≡ before.trace.asked
     pub met : after.trace.met ≡ before.trace.met
     pub least : before.trace.taken + 1 ≤ after.trace.taken
     pub most : after.trace.taken ≤ before.trace.taken + 2

@@ -13,6 +13,7 @@ module _ {P : Type 0} where
     pub seats : q.seats ≡ p.seats
     pub pass : q.pass ≡ rested p.pass
     pub client : q.trace.client ≡ p.trace.client
+    pub asked : q.trace.asked ≡ p.trace.asked
     pub met : q.trace.met ≡ p.trace.met
     pub own : q.core.own ≡ Nothing
     pub hand : q.core.hand ≡ None
@@ -30,6 +31,7 @@ module _ {P : Type 0} where
     pub core : q.core ≡ p.core
     pub pass : q.pass ≡ p.pass
     pub client : q.trace.client ≡ p.trace.client
+    pub asked : q.trace.asked ≡ p.trace.asked
     pub met : q.trace.met ≡ p.trace.met
     pub taken : q.trace.taken ≡ p.trace.taken + 1
 

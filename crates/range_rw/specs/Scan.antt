@@ -40,6 +40,7 @@ module _ {P : Type 0} where
     pub further : map ready_in after.further ≡ map ready_in before.further
     pub pass : after.pass ≡ before.pass
     pub client : after.trace.client ≡ before.trace.client
+    pub asked : after.trace.asked ≡ before.trace.asked
     pub taken : before.trace.taken ≤ after.trace.taken
 
   -- at a step of this call that seat's node, with that range and mode, was found unmarked
@@ -157,6 +158,7 @@ module _ {P : Type 0} where
   -- what a call of a scan leaves of it, in whichever lists it goes
   pub record IsScanLater (p q : SeatPart (Beside P)) : Type 0 where
     pub later : IsLaterInLists p q
+    pub asked : q.trace.asked ≡ p.trace.asked
     pub seat : IsScanSeat q
     pub ready : (j : ℕ) → (shown_core q j).ready ≡ (shown_core p j).ready
 

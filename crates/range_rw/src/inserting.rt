@@ -140,6 +140,7 @@ pub(crate) fn insert_in_epoch<G: Guard, L: Ledger>(
     requires own { HasEnds hand.old.part.core.own }
     ensures table { hand.new.table ≡ hand.old.table }
     ensures later { IsLaterInTry hand.old.part hand.new.part }
+    ensures asked { hand.new.part.trace.asked ≡ hand.old.part.trace.asked }
     ensures outside { IsOutside hand.new.part.core }
     ensures cursor { hand.new.part.core.cursor ≡ None }
     ensures ends { MatchOption result (LeavesNode hand.old.part hand.new.part × (leaves ≡ true))

@@ -13,6 +13,7 @@ ghost use Rattle.epoch_pools.specs.declared.views.Standing.TheVariants.{Free, Na
 ghost use Rattle.epoch_pools.specs.Standings.{standing_back, is_counted};
 ghost use Rattle.epoch_pools.specs.Beside.{shown_core};
 ghost use Rattle.epoch_pools.specs.Hands.{IsResting};
+ghost use Rattle.range_rw.specs.Contract.{AsksFor, AsksOnly};
 ghost use Rattle.range_rw.specs.Several.{ShowsOthers, IsLaterInLists, IsPiece, IsFreeSeat, HoldsAlone, HoldsIn};
 ghost use Rattle.word_rows.specs.declared.backoff.TheConstants.{REFUSED_ROUNDS, KEPT_LOOKS};
 
@@ -24,10 +25,10 @@ use std::sync::ledger::Ledger;
 use word_rows::{Backoff, KEPT_LOOKS, REFUSED_ROUNDS, Steps};
 
 /// How many further looks a wide caller has in its next round, by how many of its rounds were refused since it had
-/// some: none before `REFUSED_ROUNDS`.
+/// some: none before `REFUSED_ROUNDS`, and all of them then.
 pub(crate) fn looks_after(refused: u32) -> u32
     ensures none { refused < REFUSED_ROUNDS → result ≡ 0 }
-    ensures most { result ≤ KEPT_LOOKS }
+    ensures some { REFUSED_ROUNDS ≤ refused → result ≡ KEPT_LOOKS }
 {
     if refused < REFUSED_ROUNDS {
         0
@@ -38,7 +39,7 @@ pub(crate) fn looks_after(refused: u32) -> u32
 
 /// How many rounds were refused since the last one with further looks, after one more.
 pub(crate) fn one_more(refused: u32) -> u32
-    ensures most { result ≤ REFUSED_ROUNDS }
+    ensures counts { refused < REFUSED_ROUNDS → result ≡ refused + 1 }
     ensures anew { REFUSED_ROUNDS ≤ refused → result ≡ 0 }
 {
     if refused < REFUSED_ROUNDS {
@@ -63,6 +64,8 @@ fn link_patiently<G: Guard, L: Ledger>(
     requires free { (shown_core hand.old.part at).own ≡ Nothing }
     ensures table { hand.new.table ≡ hand.old.table }
     ensures piece { IsPiece at hand.old.part hand.new.part }
+    ensures asks { AsksOnly (record { range = range; mode = mode }) hand.old.part.trace.asked hand.new.part.trace.asked }
+    ensures gets { OnOk result (AsksFor (record { range = range; mode = mode }) hand.old.part.trace.asked hand.new.part.trace.asked) }
     ensures standing { hand.new.part.pass.standing ≡ hand.old.part.pass.standing }
     ensures held { OnOk result (held_at hand.new.part.core.own ≡ Some (record { range = range; mode = mode })) }
     ensures free { OnErr result (hand.new.part.core.own ≡ Nothing) }
@@ -90,6 +93,7 @@ fn count_or_give<G: Guard, L: Ledger>(
     requires free { hand.old.part.pass.standing ≡ Free }
     ensures table { hand.new.table ≡ hand.old.table }
     ensures later { IsLaterInLists hand.old.part hand.new.part }
+    ensures asks { AsksOnly (record { range = range; mode = mode }) hand.old.part.trace.asked hand.new.part.trace.asked }
     ensures held { OnOk result (HoldsAlone at (record { range = range; mode = mode }) hand.new.part) }
     ensures counts { OnOk result (hand.new.part.pass.standing ≡ Narrow at) }
     ensures free { OnErr result (IsFreeSeat hand.new.part) }
@@ -124,6 +128,8 @@ pub(crate) fn hold_narrow_patiently<G: Guard, L: Ledger>(
     requires free { IsFreeSeat hand.old.part }
     ensures table { hand.new.table ≡ hand.old.table }
     ensures later { IsLaterInLists hand.old.part hand.new.part }
+    ensures asks { AsksOnly (record { range = range; mode = mode }) hand.old.part.trace.asked hand.new.part.trace.asked }
+    ensures gets { OnOk result (AsksFor (record { range = range; mode = mode }) hand.old.part.trace.asked hand.new.part.trace.asked) }
     ensures held { OnOk result (HoldsAlone at (record { range = range; mode = mode }) hand.new.part) }
     ensures counts { OnOk result (hand.new.part.pass.standing ≡ Narrow at) }
     ensures free { OnErr result (IsFreeSeat hand.new.part) }
@@ -159,6 +165,7 @@ fn pass_patiently<G: Guard, L: Ledger>(
     requires free { hand.old.part.pass.standing ≡ Free }
     ensures table { hand.new.table ≡ hand.old.table }
     ensures later { IsLaterInLists hand.old.part hand.new.part }
+    ensures asks { AsksOnly (record { range = range; mode = mode }) hand.old.part.trace.asked hand.new.part.trace.asked }
     ensures held { OnOk result (HoldsAlone 0 (record { range = range; mode = mode }) hand.new.part) }
     ensures counts { OnOk result (hand.new.part.pass.standing ≡ Wide hand.new.part.pass.lists) }
     ensures holds { OnErr result (HoldsIn 0 (record { range = range; mode = mode }) hand.new.part
@@ -208,6 +215,8 @@ pub(crate) fn hold_wide_patiently<G: Guard, L: Ledger>(
     requires free { IsFreeSeat hand.old.part }
     ensures table { hand.new.table ≡ hand.old.table }
     ensures later { IsLaterInLists hand.old.part hand.new.part }
+    ensures asks { AsksOnly (record { range = range; mode = mode }) hand.old.part.trace.asked hand.new.part.trace.asked }
+    ensures gets { OnOk result (AsksFor (record { range = range; mode = mode }) hand.old.part.trace.asked hand.new.part.trace.asked) }
     ensures held { OnOk result (HoldsAlone 0 (record { range = range; mode = mode }) hand.new.part) }
     ensures counts { OnOk result (hand.new.part.pass.standing ≡ Wide hand.new.part.pass.lists) }
     ensures free { OnErr result (IsFreeSeat hand.new.part) }

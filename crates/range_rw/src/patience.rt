@@ -8,6 +8,7 @@ ghost use Rattle.std.specs.Prelude.{◌≡◌, ◌+◌, ◌≤◌, ◌<◌, true
 ghost use Rattle.lock_core.specs.declared.views.Own.TheVariants.{Nothing};
 ghost use Rattle.lock_core.specs.Machine.{held_at};
 ghost use Rattle.marked_list.specs.Order.{IsOutside, IsInside, HasEnds, HasToValidate, MayWalk, MaySweep, StandsInConflict};
+ghost use Rattle.range_rw.specs.Contract.{AsksFor, AsksOnly};
 ghost use Rattle.range_rw.specs.Trying.{has_come, IsLaterInTry, IsLaterInEpoch};
 ghost use Rattle.range_rw.specs.Patience.{has_met, holds_at, reads_on, looks_of, most_steps, LookEnds, PatientEnds, InsideEnds, HoldsOrNone};
 ghost use Rattle.word_rows.specs.declared.backoff.TheConstants.{MOST_LOOKS};
@@ -183,6 +184,7 @@ fn insert_patiently<G: Guard, L: Ledger>(
     requires own { HasEnds hand.old.part.core.own }
     ensures table { hand.new.table ≡ hand.old.table }
     ensures later { IsLaterInTry hand.old.part hand.new.part }
+    ensures asked { hand.new.part.trace.asked ≡ hand.old.part.trace.asked }
     ensures outside { IsOutside hand.new.part.core }
     ensures cursor { hand.new.part.core.cursor ≡ None }
     ensures ends { HoldsOrNone hand.old.part hand.new.part (holds_at result) }
@@ -227,6 +229,8 @@ pub(crate) fn hold_patiently<G: Guard, L: Ledger>(
     requires free { MaySweep hand.old.part.core }
     ensures table { hand.new.table ≡ hand.old.table }
     ensures later { IsLaterInTry hand.old.part hand.new.part }
+    ensures asks { AsksOnly (record { range = range; mode = mode }) hand.old.part.trace.asked hand.new.part.trace.asked }
+    ensures gets { OnOk result (AsksFor (record { range = range; mode = mode }) hand.old.part.trace.asked hand.new.part.trace.asked) }
     ensures outside { IsOutside hand.new.part.core }
     ensures cursor { hand.new.part.core.cursor ≡ None }
     ensures held { OnOk result (held_at hand.new.part.core.own ≡ Some (record { range = range; mode = mode })) }

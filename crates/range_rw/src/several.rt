@@ -15,7 +15,7 @@ ghost use Rattle.epoch_pools.specs.Beside.{shown_core};
 ghost use Rattle.epoch_pools.specs.Hands.{IsResting};
 ghost use Rattle.epoch_pools.specs.Passing.{MayPass};
 ghost use Rattle.marked_list.specs.Causes.{nodes_in, IsSpent};
-ghost use Rattle.range_rw.specs.Contract.{IsLongRefusal, IsReadyLeft, StandsIn, TakesMany, try_steps};
+ghost use Rattle.range_rw.specs.Contract.{AsksOnly, IsLongRefusal, IsReadyLeft, StandsIn, TakesMany, try_steps};
 ghost use Rattle.range_rw.specs.Seats.{counted_in};
 ghost use Rattle.range_rw.specs.Trying.{IsLaterInTry};
 ghost use Rattle.range_rw.specs.Several.{IsCauseAt, ShowsOthers, IsLaterInLists, IsPiece, IsFreeSeat, HoldsAlone, HoldsIn, IsCauseIn, KeepsCauses, HasSpent, TakesNone, TakesAlone};
@@ -67,6 +67,7 @@ pub(crate) fn leave_and_count<G: Guard, L: Ledger>(
     requires given { hand.old.part.core.hand ≡ None }
     ensures table { hand.new.table ≡ hand.old.table }
     ensures later { IsLaterInTry hand.old.part hand.new.part }
+    ensures asked { hand.new.part.trace.asked ≡ hand.old.part.trace.asked }
     ensures free { hand.new.part.core.own ≡ Nothing }
     ensures rests { IsResting hand.new.part.core }
     ensures ready { hand.new.part.core.ready ≡ hand.old.part.core.ready }
@@ -99,6 +100,7 @@ pub(crate) fn link_piece<G: Guard, L: Ledger>(
     requires free { (shown_core hand.old.part at).own ≡ Nothing }
     ensures table { hand.new.table ≡ hand.old.table }
     ensures piece { IsPiece at hand.old.part hand.new.part }
+    ensures asks { AsksOnly (record { range = range; mode = mode }) hand.old.part.trace.asked hand.new.part.trace.asked }
     ensures standing { hand.new.part.pass.standing ≡ hand.old.part.pass.standing }
     ensures held { OnOk result (held_at hand.new.part.core.own ≡ Some (record { range = range; mode = mode })) }
     ensures free { OnErr result (hand.new.part.core.own ≡ Nothing) }
@@ -139,6 +141,7 @@ fn sweep_piece<G: Guard, L: Ledger>(
     requires free { (shown_core hand.old.part at).own ≡ Nothing }
     ensures table { hand.new.table ≡ hand.old.table }
     ensures piece { IsPiece at hand.old.part hand.new.part }
+    ensures asked { hand.new.part.trace.asked ≡ hand.old.part.trace.asked }
     ensures standing { hand.new.part.pass.standing ≡ hand.old.part.pass.standing }
     ensures free { hand.new.part.core.own ≡ Nothing }
     ensures ready { (shown_core hand.new.part at).ready ≡ (shown_core hand.old.part at).ready }
@@ -169,6 +172,7 @@ pub(crate) fn give_piece<G: Guard, L: Ledger>(
     requires beside { is_counted hand.old.part.pass.lists hand.old.part.pass.standing at ≡ false }
     ensures table { hand.new.table ≡ hand.old.table }
     ensures piece { IsPiece at hand.old.part hand.new.part }
+    ensures asked { hand.new.part.trace.asked ≡ hand.old.part.trace.asked }
     ensures standing { hand.new.part.pass.standing ≡ standing_back hand.old.part.pass.standing at }
     ensures free { hand.new.part.core.own ≡ Nothing }
     ensures ready { (shown_core hand.new.part at).ready ≡ (shown_core hand.old.part at).ready }
@@ -189,6 +193,7 @@ fn give_up<G: Guard, L: Ledger>(list: &List<G>, hand: &mut Hand<G>, at: u32, ste
     requires beside { is_counted hand.old.part.pass.lists hand.old.part.pass.standing at ≡ false }
     ensures table { hand.new.table ≡ hand.old.table }
     ensures piece { IsPiece at hand.old.part hand.new.part }
+    ensures asked { hand.new.part.trace.asked ≡ hand.old.part.trace.asked }
     ensures standing { hand.new.part.pass.standing ≡ standing_back hand.old.part.pass.standing at }
     ensures free { hand.new.part.core.own ≡ Nothing }
     ensures ready { (shown_core hand.new.part at).ready ≡ (shown_core hand.old.part at).ready }
@@ -219,6 +224,7 @@ fn count_in_both<G: Guard, L: Ledger>(
     requires free { hand.old.part.pass.standing ≡ Free }
     ensures table { hand.new.table ≡ hand.old.table }
     ensures later { IsLaterInLists hand.old.part hand.new.part }
+    ensures asks { AsksOnly (record { range = range; mode = mode }) hand.old.part.trace.asked hand.new.part.trace.asked }
     ensures held { OnOk result (HoldsAlone at (record { range = range; mode = mode }) hand.new.part) }
     ensures counts { OnOk result (hand.new.part.pass.standing ≡ Narrow at) }
     ensures holds { OnErr result (HoldsIn at (record { range = range; mode = mode }) hand.new.part × (hand.new.part.pass.standing ≡ Free)) }
@@ -259,6 +265,7 @@ pub(crate) fn count_swept<G: Guard, L: Ledger>(
     requires free { hand.old.part.pass.standing ≡ Free }
     ensures table { hand.new.table ≡ hand.old.table }
     ensures later { IsLaterInLists hand.old.part hand.new.part }
+    ensures asks { AsksOnly (record { range = range; mode = mode }) hand.old.part.trace.asked hand.new.part.trace.asked }
     ensures held { OnOk result (HoldsAlone at (record { range = range; mode = mode }) hand.new.part) }
     ensures counts { OnOk result (hand.new.part.pass.standing ≡ Narrow at) }
     ensures holds { OnErr result (HoldsIn at (record { range = range; mode = mode }) hand.new.part × (hand.new.part.pass.standing ≡ Free)) }
@@ -295,6 +302,7 @@ pub(crate) fn hold_narrow<G: Guard, L: Ledger>(
     requires free { IsFreeSeat hand.old.part }
     ensures table { hand.new.table ≡ hand.old.table }
     ensures later { IsLaterInLists hand.old.part hand.new.part }
+    ensures asks { AsksOnly (record { range = range; mode = mode }) hand.old.part.trace.asked hand.new.part.trace.asked }
     ensures held { OnOk result (HoldsAlone at (record { range = range; mode = mode }) hand.new.part) }
     ensures counts { OnOk result (hand.new.part.pass.standing ≡ Narrow at) }
     ensures free { OnErr result (IsFreeSeat hand.new.part) }
@@ -359,6 +367,7 @@ fn pass_in_both<G: Guard, L: Ledger>(
     requires may { MayPass list.now.cut hand.old.part at up }
     ensures table { hand.new.table ≡ hand.old.table }
     ensures later { IsLaterInLists hand.old.part hand.new.part }
+    ensures asks { AsksOnly (record { range = range; mode = mode }) hand.old.part.trace.asked hand.new.part.trace.asked }
     ensures held { OnOk result (HoldsAlone 0 (record { range = range; mode = mode }) hand.new.part) }
     ensures passed { OnOk result (hand.new.part.pass.standing ≡ Wide up) }
     ensures holds { OnErr result (HoldsIn 0 (record { range = range; mode = mode }) hand.new.part
@@ -400,6 +409,7 @@ pub(crate) fn pass_one<G: Guard, L: Ledger>(
     requires may { MayPass list.now.cut hand.old.part at up }
     ensures table { hand.new.table ≡ hand.old.table }
     ensures later { IsLaterInLists hand.old.part hand.new.part }
+    ensures asks { AsksOnly (record { range = range; mode = mode }) hand.old.part.trace.asked hand.new.part.trace.asked }
     ensures held { OnOk result (HoldsAlone 0 (record { range = range; mode = mode }) hand.new.part) }
     ensures passed { OnOk result (hand.new.part.pass.standing ≡ Wide up) }
     ensures holds { OnErr result (HoldsIn 0 (record { range = range; mode = mode }) hand.new.part
@@ -442,6 +452,7 @@ fn pass_all<G: Guard, L: Ledger>(
     requires free { hand.old.part.pass.standing ≡ Free }
     ensures table { hand.new.table ≡ hand.old.table }
     ensures later { IsLaterInLists hand.old.part hand.new.part }
+    ensures asks { AsksOnly (record { range = range; mode = mode }) hand.old.part.trace.asked hand.new.part.trace.asked }
     ensures held { OnOk result (HoldsAlone 0 (record { range = range; mode = mode }) hand.new.part) }
     ensures counts { OnOk result (hand.new.part.pass.standing ≡ Wide hand.new.part.pass.lists) }
     ensures holds { OnErr result (HoldsIn 0 (record { range = range; mode = mode }) hand.new.part
@@ -486,6 +497,7 @@ pub(crate) fn hold_wide<G: Guard, L: Ledger>(
     requires free { IsFreeSeat hand.old.part }
     ensures table { hand.new.table ≡ hand.old.table }
     ensures later { IsLaterInLists hand.old.part hand.new.part }
+    ensures asks { AsksOnly (record { range = range; mode = mode }) hand.old.part.trace.asked hand.new.part.trace.asked }
     ensures held { OnOk result (HoldsAlone 0 (record { range = range; mode = mode }) hand.new.part) }
     ensures counts { OnOk result (hand.new.part.pass.standing ≡ Wide hand.new.part.pass.lists) }
     ensures free { OnErr result (IsFreeSeat hand.new.part) }
@@ -529,6 +541,7 @@ pub(crate) fn try_hold<G: Guard, L: Ledger>(
     requires free { IsFreeSeat hand.old.part }
     ensures table { hand.new.table ≡ hand.old.table }
     ensures later { IsLaterInLists hand.old.part hand.new.part }
+    ensures asks { AsksOnly (record { range = range; mode = mode }) hand.old.part.trace.asked hand.new.part.trace.asked }
     ensures held { OnOk result (HoldsAlone hand.new.part.pass.list (record { range = range; mode = mode }) hand.new.part) }
     ensures counts { OnOk result (is_counted hand.new.part.pass.lists hand.new.part.pass.standing hand.new.part.pass.list ≡ true) }
     ensures one { OnOk result (hand.new.part.pass.lists ≡ 1 → hand.new.part.pass.standing ≡ Free) }

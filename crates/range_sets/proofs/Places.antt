@@ -1,7 +1,7 @@
 -- The seats of a set from a place on: what is left of them by tries of one seat after the other, and what this says of
 -- the whole set. Each law is an induction on the wants, with the seats at their places.
 use Rattle.std.proofs.Common.{◌≡◌, ℕ, zero, suc, ◌+◌, ◌*◌, ◌<◌, ◌≤◌, List, [], ◌∷◌, length, take, Some, None, Result, Ok, Err, refl, sym, ap, subst, ◌∙◌, arith}
-use Rattle.std.specs.Prelude.{All, IfErr, OnErr, map, slice_get}
+use Rattle.std.specs.Prelude.{All, IfErr, OnOk, OnErr, map, slice_get}
 use Rattle.std.specs.Option.{option_map}
 use Rattle.std.proofs.Math.Nat.{suc-mul, zero-mul}
 use Rattle.std.proofs.Math.Seq.{take-length}
@@ -11,13 +11,14 @@ use Rattle.std.proofs.lemmas.Option.{none-some, slice_get_past}
 use Rattle.atomic_table.specs.Seated.{TableId}
 use Rattle.lock_core.specs.declared.range.Held.{Held}
 use Rattle.range_rw.specs.declared.refusals.NotHeld.{NotHeld}
-use Rattle.range_rw.specs.Contract.{SeatState, TableShape, IsLockCall, IsRelease, pass_in, try_steps}
+use Rattle.range_rw.specs.Contract.{AsksOnly, SeatState, TableShape, IsLockCall, IsRelease, pass_in, try_steps}
 use Rattle.range_rw.specs.Several.{TakesAlone}
+use Rattle.range_rw.proofs.Asking.{asks_stay, asks_kept}
 use Rattle.range_rw.proofs.TakenLists.{alone_steps}
 use Rattle.range_sets.specs.declared.taking.SetRefused.{SetRefused}
 use Rattle.range_sets.specs.declared.wants.Want.{Want}
 use Rattle.range_sets.specs.Wants.{want_held}
-use Rattle.range_sets.specs.Sets.{SetView, AllFree, AreHeld, EachIs, IsCauseAt, IsLetGo, TriesTake, held_in, passes_after, taken_by, taken_of}
+use Rattle.range_sets.specs.Sets.{SetView, AllFree, AreHeld, AsksEach, EachIs, IsCauseAt, IsLetGo, TriesTake, held_in, passes_after, taken_by, taken_of}
 use Rattle.range_sets.specs.Taking.{AreGranted, IsGranted, IsOneTry, IsRefused, IsRefusedAt, IsTakenBack}
 
 -- the steps of one granted try beside those of the others
@@ -99,6 +100,13 @@ module _ {P : Type 0} where
     same_free xs (free_behind x xs free),
   )
 
+  -- seats that are as before have asked for nothing
+  same_asks : (wants : List Want) (xs : List (SeatState P)) → AsksEach wants xs xs
+  same_asks [] [] = tt
+  same_asks (w ∷ ws) [] = tt
+  same_asks [] (x ∷ xs) = (refl, same_asks [] xs)
+  same_asks (w ∷ ws) (x ∷ xs) = (asks_stay refl, same_asks ws xs)
+
   module _ (t : TableShape) where
     -- without a want nothing was tried
     pub granted_none : (wants : List Want) (xs : List (SeatState P)) → length wants ≡ 0 → AreGranted t wants xs xs
@@ -134,6 +142,13 @@ module _ {P : Type 0} where
     granted_calls (w ∷ ws) (x ∷ xs) [] g = absurd g
     granted_calls (w ∷ ws) (x ∷ xs) (y ∷ ys) g = (g.0.call, granted_calls ws xs ys g.1)
 
+    -- each seat asked for its own want
+    pub granted_asks : (wants : List Want) (xs ys : List (SeatState P)) → AreGranted t wants xs ys → AsksEach wants xs ys
+    granted_asks [] xs ys e = subst (AsksEach [] xs) (sym e) (same_asks [] xs)
+    granted_asks (w ∷ ws) [] ys g = absurd g
+    granted_asks (w ∷ ws) (x ∷ xs) [] g = absurd g
+    granted_asks (w ∷ ws) (x ∷ xs) (y ∷ ys) g = (g.0.asks, granted_asks ws xs ys g.1)
+
     -- where a want was granted something is held
     pub granted_some : (wants : List Want) (xs ys : List (SeatState P)) → 0 < length wants → AreGranted t wants xs ys → ¬ (AllFree ys)
     granted_some [] xs ys some g = absurd (omega arith)
@@ -158,13 +173,15 @@ module _ {P : Type 0} where
 
     module _ (rested : P → P) where
       -- a range that was got in one try and given back
-      pub taken_back : (w : Want) (x z y : SeatState P) → IsLockCall x z → IsOneTry t w x z → IsRelease rested z y → IsTakenBack t rested w x y
-      taken_back w x z y call bound back = record {
+      pub taken_back : (w : Want) (x z y : SeatState P) → IsLockCall x z → IsOneTry t w x z → AsksOnly (want_held w) x.trace.asked z.trace.asked
+          → IsRelease rested z y → IsTakenBack t rested w x y
+      taken_back w x z y call bound asks back = record {
         table = back.table ∙ call.table;
         number = back.number ∙ call.number;
         free = back.held;
         pass = back.pass ∙ ap rested call.pass;
         client = back.client ∙ call.client;
+        asks = asks_kept asks back.asked;
         bound = λ k takes. let one = bound k takes in let two = back.most in omega arith;
       }
 
@@ -184,6 +201,21 @@ module _ {P : Type 0} where
           subst (λ l. IsRefusedAt t rested l (x ∷ xs) (y ∷ ys) n told) (sym e)
           (subst (λ k. IsRefusedAt t rested (w ∷ rest) (x ∷ xs) (y ∷ ys) k told) (sym is)
           (subst (λ v. IsRefusedAt t rested (w ∷ rest) (x ∷ xs) (y ∷ ys) (suc i) v) (sym same) (one, behind)))
+
+      -- each seat asked for its own want, also where one was refused
+      pub refused_asks : (wants : List Want) (xs ys : List (SeatState P)) (i : ℕ) (why : NotHeld) → IsRefusedAt t rested wants xs ys i why
+          → AsksEach wants xs ys
+      refused_asks (w ∷ ws) (x ∷ xs) (y ∷ ys) zero why r = (r.0.asks, subst (AsksEach ws xs) (sym r.1) (same_asks ws xs))
+      refused_asks (w ∷ ws) (x ∷ xs) (y ∷ ys) (suc i) why r = (r.0.asks, refused_asks ws xs ys i why r.1)
+      refused_asks [] xs ys i why r = absurd r
+      refused_asks (w ∷ ws) [] ys i why r = absurd r
+      refused_asks (w ∷ ws) (x ∷ xs) [] i why r = absurd r
+
+      -- whatever the answer is
+      pub asks_told : (wants : List Want) (xs ys : List (SeatState P)) (r : Result (Unit {0}) SetRefused) → OnOk r (AreGranted t wants xs ys)
+          → IfErr r (λ e. IsRefusedAt t rested wants xs ys e.index e.why) → AsksEach wants xs ys
+      asks_told wants xs ys (Ok x) granted refused = granted_asks wants xs ys granted
+      asks_told wants xs ys (Err e) granted refused = refused_asks wants xs ys e.index e.why refused
 
       -- what a refusal leaves of the seats from a place on
       pub record Refusal (wants : List Want) (xs ys : List (SeatState P)) (i : ℕ) (why : NotHeld) : Type 0 where

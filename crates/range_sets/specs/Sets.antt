@@ -6,7 +6,7 @@ use Rattle.std.specs.Option.{option_and_then, option_map}
 use Rattle.atomic_table.specs.Seated.{TableId}
 use Rattle.lock_core.specs.declared.range.Held.{Held}
 use Rattle.range_rw.specs.declared.refusals.NotHeld.{NotHeld}
-use Rattle.range_rw.specs.Contract.{SeatState, TableShape, IsCause, IsGivenBack, IsRelease, TakesMany, pass_in, try_steps}
+use Rattle.range_rw.specs.Contract.{AsksOnly, SeatState, TableShape, IsCause, IsGivenBack, IsRelease, TakesMany, pass_in, try_steps}
 use Rattle.range_sets.specs.declared.wants.Want.{Want}
 use Rattle.range_sets.specs.Wants.{want_held}
 
@@ -47,6 +47,14 @@ module _ {P : Type 0} where
   EachIs R [] [] = Unit {0}
   EachIs R (x ∷ xs) (y ∷ ys) = R x y × EachIs R xs ys
   EachIs R _ _ = ⊥
+
+  -- the seat of each place asks for the want of that place alone, and one without a want for none
+  abbrev pub AsksEach : List Want → List (SeatState P) → List (SeatState P) → Type 0
+  AsksEach [] [] [] = Unit {0}
+  AsksEach (w ∷ ws) [] [] = Unit {0}
+  AsksEach [] (x ∷ xs) (y ∷ ys) = (y.trace.asked ≡ x.trace.asked) × AsksEach [] xs ys
+  AsksEach (w ∷ ws) (x ∷ xs) (y ∷ ys) = AsksOnly (want_held w) x.trace.asked y.trace.asked × AsksEach ws xs ys
+  AsksEach _ _ _ = ⊥
 
   -- the seat of each place holds what is wanted at that place, and nothing where nothing is wanted
   abbrev pub AreHeld : List Want → List (SeatState P) → Type 0

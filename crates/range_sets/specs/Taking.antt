@@ -3,7 +3,7 @@
 -- nobody waits for one range while it holds another is this project's own profile.
 use Rattle.std.specs.Prelude.{◌≡◌, ℕ, zero, suc, ◌+◌, ◌≤◌, List, [], ◌∷◌, Some, None}
 use Rattle.range_rw.specs.declared.refusals.NotHeld.{NotHeld}
-use Rattle.range_rw.specs.Contract.{SeatState, TableShape, IsCause, IsLockCall, TakesMany, try_steps}
+use Rattle.range_rw.specs.Contract.{AsksOnly, SeatState, TableShape, IsCause, IsLockCall, TakesMany, try_steps}
 use Rattle.range_sets.specs.declared.wants.Want.{Want}
 use Rattle.range_sets.specs.Wants.{want_held}
 
@@ -16,6 +16,7 @@ module _ {P : Type 0} where
   pub record IsGranted (t : TableShape) (want : Want) (before after : SeatState P) : Type 0 where
     pub call : IsLockCall before after
     pub held : after.held ≡ Some (want_held want)
+    pub asks : AsksOnly (want_held want) before.trace.asked after.trace.asked
     pub bound : IsOneTry t want before after
 
   -- each want was granted to the seat at its place, and the seats without a want are as before
@@ -29,6 +30,7 @@ module _ {P : Type 0} where
     pub call : IsLockCall before after
     pub free : after.held ≡ None
     pub cause : IsCause before after (want_held want) why
+    pub asks : AsksOnly (want_held want) before.trace.asked after.trace.asked
     pub bound : IsOneTry t want before after
 
   -- a want was granted, by one try, and given back in two steps at most
@@ -38,6 +40,7 @@ module _ {P : Type 0} where
     pub free : after.held ≡ None
     pub pass : after.pass ≡ rested before.pass
     pub client : after.trace.client ≡ before.trace.client
+    pub asks : AsksOnly (want_held want) before.trace.asked after.trace.asked
     pub bound : (k : ℕ) → TakesMany t.cut want.range k → after.trace.taken ≤ before.trace.taken + try_steps t.seats k + 2
 
   -- the want at that place was refused to its seat; what the seats before it had got was given back, and the seats

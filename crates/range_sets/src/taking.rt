@@ -2,10 +2,10 @@
 //! place; the first refusal ends the call, and the ranges before it are given back. A reader may rely on the cause of a
 //! refusal being that of one try of `range_rw`, and on a set at rest staying so.
 ghost use Rattle.std.specs.Prelude.{◌≡◌, ℕ, ◌+◌, ◌*◌, ◌<◌, ◌≤◌, ◌-◌, ◌∷◌, [], Some, None, All, IfErr, IfOk, OnOk, OnErr, IsSome, length, map, take};
-ghost use Rattle.range_rw.specs.Contract.{IsCause, IsLockCall, IsRelease, pass_in};
+ghost use Rattle.range_rw.specs.Contract.{AsksOnly, IsCause, IsLockCall, IsRelease, pass_in};
 ghost use Rattle.range_rw.specs.Several.{TakesAlone};
 ghost use Rattle.range_sets.specs.Wants.{NoClash, want_held};
-ghost use Rattle.range_sets.specs.Sets.{AllFree, AllRest, AreHeld, EachIs, IsLetGo, IsReleasedIfHeld, IsCauseAt, TriesTake, passes_after, taken_by};
+ghost use Rattle.range_sets.specs.Sets.{AllFree, AllRest, AreHeld, AsksEach, EachIs, IsLetGo, IsReleasedIfHeld, IsCauseAt, TriesTake, passes_after, taken_by};
 ghost use Rattle.range_sets.specs.Taking.{AreGranted, IsOneTry, IsRefusedAt};
 
 use crate::set::{Place, SetSeat};
@@ -40,6 +40,7 @@ impl<G: Guard> Place<G> {
         requires free { self.old.held ≡ None }
         requires rest { G.is_at_rest self.old.pass }
         ensures call { IsLockCall self.old self.new }
+        ensures asks { AsksOnly (want_held want) self.old.trace.asked self.new.trace.asked }
         ensures at_rest { G.is_at_rest self.new.pass }
         ensures held { OnOk result (self.new.held ≡ Some (want_held want)) }
         ensures free { OnErr result (self.new.held ≡ None) }
@@ -254,6 +255,7 @@ pub fn try_set<G: Guard, L: Ledger>(
     ensures some { OnOk result (¬ (AllFree set.new.seats)) }
     ensures free { OnErr result (AllFree set.new.seats) }
     ensures at_rest { AllRest G.is_at_rest set.new.seats }
+    ensures asks { AsksEach wants.now set.old.seats set.new.seats }
     ensures let_go { OnErr result (EachIs IsLetGo set.old.seats set.new.seats) }
     ensures passes { IfErr result (λ r. map pass_in set.new.seats ≡ passes_after G.rested r.index set.old.seats) }
     ensures cause { IfErr result (λ r. IsCauseAt set.old.seats set.new.seats wants.now r.index r.why) }

@@ -1,7 +1,7 @@
 use Rattle.std.proofs.Common.{rules, inr, sym, ap, ◌∙◌}
 use Rattle.lock_core.specs.declared.views.View.{View}
 use Rattle.epoch_pools.specs.Beside.{given_back}
-use Rattle.marked_list.proofs.Owning.{may_link, link_call, link_look, link_done, link_lost}
+use Rattle.marked_list.proofs.Owning.{may_link, link_asks, link_call, link_look, link_done, link_lost}
 use Rattle.marked_list.proofs.own.link.Goals as goal
 
 -- the node has both ends, and the cursor is at its place
@@ -16,6 +16,16 @@ step-found-requires-clause-enabled g c = may_link c.args.hand.now.part c.aim.new
 pub returns-clause-call : goal.returns-clause-call
 returns-clause-call g c = link_call c.args.hand.now.part c.aim.new.hand.part c.aim.ensures.aimed c.requires.order (given_back g.G.Guard.rested)
     c.step-found.new.hand.part c.step-found.result c.step-found.ensures.made
+
+-- neither step asks for a range
+pub returns-clause-asked : goal.returns-clause-asked
+returns-clause-asked g c = link_asks c.args.hand.now.part c.aim.new.hand.part c.aim.ensures.aimed c.requires.order (given_back g.G.Guard.rested)
+    c.step-found.new.hand.part c.step-found.result c.step-found.ensures.made
+
+-- nor do they where the link is lost
+pub returns-then-found-place-clause-asked : goal.returns-then-found-place-clause-asked
+returns-then-found-place-clause-asked g c = link_asks c.args.hand.now.part c.aim.new.hand.part c.aim.ensures.aimed c.requires.order
+    (given_back g.G.Guard.rested) c.step-found.new.hand.part c.step-found.result c.step-found.ensures.made
 
 -- the exchange found the cursor's word, so the node is linked
 pub returns-clause-answer : goal.returns-clause-answer

@@ -1,7 +1,7 @@
 use Rattle.std.proofs.Common.{refl, inl}
 use Rattle.epoch_pools.specs.Beside.{given_back}
 use Rattle.marked_list.specs.declared.answers.Lost.{Lost}
-use Rattle.marked_list.proofs.Owning.{may_quick_link, quick_call, quick_done, quick_lost}
+use Rattle.marked_list.proofs.Owning.{may_quick_link, quick_asks, quick_call, quick_done, quick_lost}
 use Rattle.marked_list.proofs.quick.quick_link.Goals as goal
 
 -- the node has both ends, and outside the epoch there is no cursor
@@ -16,6 +16,18 @@ step-found-requires-clause-enabled g c = may_quick_link c.args.hand.now.part c.a
 -- aim and link are a call of two steps
 pub returns-clause-call : goal.returns-clause-call
 returns-clause-call g c = quick_call c.args.hand.now.part c.aim.new.hand.part c.aim.ensures.aimed c.requires.order.own
+    (c.view.ensures.sound.sound.outside c.requires.order.even) c.requires.order.even (given_back g.G.Guard.rested) c.step-found.new.hand.part
+    c.step-found.result c.step-found.ensures.made
+
+-- neither step asks for a range
+pub returns-clause-asked : goal.returns-clause-asked
+returns-clause-asked g c = quick_asks c.args.hand.now.part c.aim.new.hand.part c.aim.ensures.aimed c.requires.order.own
+    (c.view.ensures.sound.sound.outside c.requires.order.even) c.requires.order.even (given_back g.G.Guard.rested) c.step-found.new.hand.part
+    c.step-found.result c.step-found.ensures.made
+
+-- nor do they where the head was another
+pub returns-then-found-ne0-clause-asked : goal.returns-then-found-ne0-clause-asked
+returns-then-found-ne0-clause-asked g c = quick_asks c.args.hand.now.part c.aim.new.hand.part c.aim.ensures.aimed c.requires.order.own
     (c.view.ensures.sound.sound.outside c.requires.order.even) c.requires.order.even (given_back g.G.Guard.rested) c.step-found.new.hand.part
     c.step-found.result c.step-found.ensures.made
 

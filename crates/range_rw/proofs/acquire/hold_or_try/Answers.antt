@@ -1,4 +1,4 @@
-use Rattle.std.proofs.Common.{◌≡◌, inl, inr, refl, sym, ap, ◌∙◌, subst, arith}
+use Rattle.std.proofs.Common.{inl, inr, refl, sym, ap, ◌∙◌, subst, arith}
 use Rattle.list_cuts.proofs.Cutting.{takes_there, takes_behind}
 use Rattle.list_cuts.specs.Cut.{Regions, TakesOne, TakesTwo}
 use Rattle.epoch_pools.specs.declared.views.Beside.{Beside}

@@ -1,3 +1,5 @@
+use Rattle.std.proofs.Common.{ap, ◌∙◌}
+use Rattle.epoch_pools.specs.declared.views.SeatPart.{SeatPart}
 use Rattle.range_rw.proofs.Insertion.{may_end_in, insert_ends, insert_long}
 use Rattle.range_rw.proofs.inserting.insert_in_epoch.Goals as goal
 
@@ -21,3 +23,8 @@ returns-clause-long g c =
     let e = c.begin-cursor in let w = c.insert_and_validate-walked in
     insert_long c.args.hand.now.part e.new.hand.part c.requires.own e.ensures.made w.new.hand.part w.ensures.later
     c.end.new.hand.part c.end.ensures.made w.result c.args.leaves w.ensures.ends w.ensures.long
+
+-- no step of it asks for a range
+pub returns-clause-asked : goal.returns-clause-asked
+returns-clause-asked g c = ap (λ (x : SeatPart _). x.trace.asked) c.end.ensures.made
+    ∙ (c.insert_and_validate-walked.ensures.later.asked ∙ ap (λ (x : SeatPart _). x.trace.asked) c.begin-cursor.ensures.made)

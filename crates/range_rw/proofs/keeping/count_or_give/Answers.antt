@@ -1,8 +1,9 @@
-use Rattle.std.proofs.Common.{Bool, sym, ap, ◌∙◌, arith}
+use Rattle.std.proofs.Common.{Bool, ap, ◌∙◌, arith}
 use Rattle.epoch_pools.specs.declared.views.SeatPart.{SeatPart}
 use Rattle.epoch_pools.specs.declared.views.Standing.TheVariants.{Narrow}
 use Rattle.epoch_pools.specs.Standings.{is_counted, standing_back}
 use Rattle.epoch_pools.specs.Passing.{standing_by}
+use Rattle.range_rw.proofs.Asking.{asks_stay, asks_from, asks_kept}
 use Rattle.range_rw.proofs.Moves.{lists_on, look_on, look_shows, holds_in, holds_looked, some_held, may_count, piece_free, free_beside}
 use Rattle.range_rw.proofs.keeping.count_or_give.Goals as goal
 
@@ -116,3 +117,16 @@ returns-in-Err-clause-bound g c =
     let t = ap (λ (x : SeatPart _). x.trace.taken) c.count_narrow.ensures.part in
     let s = ap (λ (x : SeatPart _). x.seats) c.count_narrow.ensures.part in
     let b = c.count_swept.ensures.bound in let d = c.give_piece.ensures.bound in omega arith
+
+-- a look asks for nothing
+pub returns-then-count_narrow-clause-asks : goal.returns-then-count_narrow-clause-asks
+returns-then-count_narrow-clause-asks g c = asks_stay (ap (λ (x : SeatPart _). x.trace.asked) c.count_narrow.ensures.part)
+
+-- what is linked in list 0 is the range
+pub returns-in-Ok-clause-asks : goal.returns-in-Ok-clause-asks
+returns-in-Ok-clause-asks g c = asks_from (ap (λ (x : SeatPart _). x.trace.asked) c.count_narrow.ensures.part) c.count_swept.ensures.asks
+
+-- giving back asks for nothing
+pub returns-in-Err-clause-asks : goal.returns-in-Err-clause-asks
+returns-in-Err-clause-asks g c =
+    asks_kept (asks_from (ap (λ (x : SeatPart _). x.trace.asked) c.count_narrow.ensures.part) c.count_swept.ensures.asks) c.give_piece.ensures.asked

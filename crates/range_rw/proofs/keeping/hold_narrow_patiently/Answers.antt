@@ -1,5 +1,6 @@
-use Rattle.std.proofs.Common.{◌≡◌, ◌≢◌, inl, inr, sym, ◌∙◌, subst, arith}
+use Rattle.std.proofs.Common.{◌≢◌, inl, inr, sym, ◌∙◌, subst, arith}
 use Rattle.list_cuts.specs.Cut.{Takes}
+use Rattle.range_rw.proofs.Asking.{asks_on, for_on}
 use Rattle.range_rw.proofs.Moves.{lists_on, piece_alone, piece_free}
 use Rattle.range_rw.proofs.keeping.hold_narrow_patiently.Goals as goal
 
@@ -58,3 +59,15 @@ pub returns-in-Err-count_or_give-clause-only : goal.returns-in-Err-count_or_give
 returns-in-Err-count_or_give-clause-only g c = λ j none.
     let away : j ≢ c.args.at = λ e. none (inr (subst (Takes c.args.list.now.cut c.args.range) (sym e) c.requires.takes.takes)) in
     c.count_or_give.ensures.only j away (λ e. none (inl e)) ∙ c.link_patiently.ensures.piece.only j away
+
+-- both parts ask for the range alone
+pub returns-in-Ok-count_or_give-clause-asks : goal.returns-in-Ok-count_or_give-clause-asks
+returns-in-Ok-count_or_give-clause-asks g c = asks_on c.link_patiently.ensures.asks c.count_or_give.ensures.asks
+
+-- so they do where it isn't held
+pub returns-in-Err-count_or_give-clause-asks : goal.returns-in-Err-count_or_give-clause-asks
+returns-in-Err-count_or_give-clause-asks g c = asks_on c.link_patiently.ensures.asks c.count_or_give.ensures.asks
+
+-- it asked for the range
+pub returns-in-Ok-count_or_give-clause-gets : goal.returns-in-Ok-count_or_give-clause-gets
+returns-in-Ok-count_or_give-clause-gets g c = for_on c.in-Ok.ensures.gets c.count_or_give.ensures.asks

@@ -1,4 +1,5 @@
-use Rattle.std.proofs.Common.{◌≡◌, ◌≢◌, inl, inr, refl, sym, ap, ◌∙◌, subst, arith}
+use Rattle.std.proofs.Common.{inl, sym, ◌∙◌, arith}
+use Rattle.range_rw.proofs.Asking.{asks_on, asks_kept, for_on}
 use Rattle.range_rw.proofs.Moves.{lists_on, some_held, piece_alone, piece_free}
 use Rattle.range_rw.proofs.keeping.hold_wide_patiently.Goals as goal
 
@@ -81,3 +82,16 @@ returns-in-Err-pass_patiently-clause-later g c = lists_on c.args.hand.now.part c
 pub returns-in-Err-pass_patiently-clause-free : goal.returns-in-Err-pass_patiently-clause-free
 returns-in-Err-pass_patiently-clause-free g c = piece_free 0 c.pass_patiently.new.hand.part c.give_piece.new.hand.part c.give_piece.ensures.piece
     c.give_piece.ensures.free (c.give_piece.ensures.standing ∙ c.in-Err-pass_patiently.ensures.back) c.in-Err-pass_patiently.ensures.holds.0.others
+
+-- both parts ask for the range alone
+pub returns-in-Ok-pass_patiently-clause-asks : goal.returns-in-Ok-pass_patiently-clause-asks
+returns-in-Ok-pass_patiently-clause-asks g c = asks_on c.link_patiently.ensures.asks c.pass_patiently.ensures.asks
+
+-- giving back asks for nothing
+pub returns-in-Err-pass_patiently-clause-asks : goal.returns-in-Err-pass_patiently-clause-asks
+returns-in-Err-pass_patiently-clause-asks g c =
+    asks_kept (asks_on c.link_patiently.ensures.asks c.pass_patiently.ensures.asks) c.give_piece.ensures.asked
+
+-- it asked for the range
+pub returns-in-Ok-pass_patiently-clause-gets : goal.returns-in-Ok-pass_patiently-clause-gets
+returns-in-Ok-pass_patiently-clause-gets g c = for_on c.in-Ok.ensures.gets c.pass_patiently.ensures.asks

@@ -1,6 +1,7 @@
 use Rattle.std.proofs.Common.{ap, ◌∙◌}
 use Rattle.epoch_pools.specs.declared.views.SeatPart.{SeatPart}
-use Rattle.range_rw.proofs.Pieces.{rests_free, try_piece, try_standing}
+use Rattle.range_rw.proofs.Asking.{asks_from, for_from}
+use Rattle.range_rw.proofs.Pieces.{rests_free, try_piece, try_standing, ok_on}
 use Rattle.range_rw.proofs.keeping.link_patiently.Goals as goal
 
 -- the hand rests in the list, without a node of its own
@@ -17,3 +18,12 @@ returns-clause-piece g c = try_piece c.args.at c.args.hand.now.part c.turn.new.s
 pub returns-clause-standing : goal.returns-clause-standing
 returns-clause-standing g c = try_standing c.args.at c.args.hand.now.part c.turn.new.self.part c.hold_patiently.new.hand.part c.turn.ensures.part
     c.turn.ensures.stays c.hold_patiently.ensures.later
+
+-- it asks for the range alone
+pub returns-clause-asks : goal.returns-clause-asks
+returns-clause-asks g c = asks_from (ap (λ (x : SeatPart _). x.trace.asked) c.turn.ensures.part) c.hold_patiently.ensures.asks
+
+-- it asked for the range where it holds it
+pub returns-clause-gets : goal.returns-clause-gets
+returns-clause-gets g c =
+    ok_on c.hold_patiently.result (λ gets. for_from (ap (λ (x : SeatPart _). x.trace.asked) c.turn.ensures.part) gets) c.hold_patiently.ensures.gets

@@ -6,9 +6,9 @@ use native.Mathlib.Decide.{ℕ_discrete}
 use Rattle.list_cuts.specs.Cut.{list_count, Takes}
 use Rattle.epoch_pools.specs.declared.views.SeatPart.{SeatPart}
 use Rattle.epoch_pools.specs.declared.views.Standing.TheVariants.{Wide}
-use Rattle.epoch_pools.specs.Standings.{is_counted, standing_back}
 use Rattle.range_rw.specs.Several.{TakesNone}
-use Rattle.range_rw.proofs.Moves.{lists_on, turn_on, holds_turned, none_first, pass_next, all_passed, passed_beside, passed_back, passed_on}
+use Rattle.range_rw.proofs.Asking.{asks_stay, asks_on, asks_kept}
+use Rattle.range_rw.proofs.Moves.{lists_on, turn_on, holds_turned, none_first, pass_next, all_passed, passed_on}
 use Rattle.range_rw.proofs.keeping.pass_patiently.Goals as goal
 
 -- there is a list behind list 0
@@ -28,6 +28,7 @@ all-init g c =
       low = c.next_taken-at.ensures.from;
       most = let e = ap list_count cut in let m = c.next_taken-at.ensures.most in let l = c.requires.lists.1 in omega arith;
       later = record { number = refl; seats = refl; lists = refl; pass = refl; client = refl; taken = omega arith };
+      asks = asks_stay refl;
       alone = c.requires.holds;
       passed = inl (
         c.requires.free,
@@ -67,6 +68,7 @@ all-preserved-in-Ok g c =
       low = let a = i.low in let b = c.next_taken-up.ensures.from in omega arith;
       most = let f = i.lists.1 in let m = ap list_count i.cut in let n = c.next_taken-up.ensures.most in omega arith;
       later = lists_on c.args.hand.now.part c.all.hand.part c.pass_one.new.hand.part i.later c.pass_one.ensures.later;
+      asks = asks_on i.asks c.pass_one.ensures.asks;
       alone = c.in-Ok.ensures.held;
       passed = inr c.in-Ok.ensures.passed;
       first = c.pass_one.ensures.only 0 differ ∙ i.first;
@@ -97,6 +99,7 @@ all-preserved g c =
       low = i.low;
       most = i.most;
       later = lists_on c.args.hand.now.part p t i.later (lists_on p q t c.pass_one.ensures.later (turn_on q t 0 c.turn.ensures.part));
+      asks = asks_kept (asks_on i.asks c.pass_one.ensures.asks) (ap (λ (x : SeatPart _). x.trace.asked) c.turn.ensures.part);
       alone = holds_turned 0 (record { range = c.args.range; mode = c.args.mode }) q t c.turn.ensures.part c.turn.ensures.stays c.turn.ensures.rests
           c.in-Err.ensures.holds.0;
       passed = passed_on c.args.list.now.cut c.all.at c.args.range p t
@@ -147,3 +150,7 @@ returns-then-left-eq0-clause-bound g c =
     let more : k * suc (c.all.at + c.args.looks) ≡ k * (c.all.at + c.args.looks) + k = mul-suc k (c.all.at + c.args.looks) in
     let le : k * suc (c.all.at + c.args.looks) ≤ k * (c.args.hand.now.part.pass.lists + c.args.looks) = mul-le _ _ _ _ (omega arith) (omega arith) in
     omega arith
+
+-- each list is passed with the same range
+pub returns-then-left-eq0-clause-asks : goal.returns-then-left-eq0-clause-asks
+returns-then-left-eq0-clause-asks g c = asks_on c.all.invariant.asks c.pass_one.ensures.asks

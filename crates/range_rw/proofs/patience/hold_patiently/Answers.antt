@@ -1,4 +1,5 @@
 use Rattle.std.specs.Prelude.{Some}
+use Rattle.range_rw.proofs.Asking.{asks_kept, for_kept}
 use Rattle.range_rw.proofs.Taking.{has_ends, tried_own}
 use Rattle.range_rw.proofs.patience.hold_patiently.Goals as goal
 
@@ -7,3 +8,19 @@ pub insert_patiently-requires-clause-own : goal.insert_patiently-requires-clause
 insert_patiently-requires-clause-own g c =
     let p = c.args.hand.now.part in let f = c.link_if_empty.new.hand.part in let t = c.in-Ok.ensures.tried in
     has_ends f.core.own t.node c.args.range.lo c.args.range.hi c.args.mode (Some 0) (tried_own p f c.args.range c.args.mode c.in-Ok.held t c.if-held.false)
+
+-- what the fast path tried is asked for
+pub returns-then-held-clause-gets : goal.returns-then-held-clause-gets
+returns-then-held-clause-gets g c = c.in-Ok.ensures.tried.asks
+
+-- and the insertion asks for nothing
+pub returns-in-Ok-anew_after-clause-asks : goal.returns-in-Ok-anew_after-clause-asks
+returns-in-Ok-anew_after-clause-asks g c = asks_kept c.link_if_empty.ensures.asks c.insert_patiently.ensures.asked
+
+-- where it holds
+pub returns-in-Ok-anew_after-clause-gets : goal.returns-in-Ok-anew_after-clause-gets
+returns-in-Ok-anew_after-clause-gets g c = for_kept c.in-Ok.ensures.tried.asks c.insert_patiently.ensures.asked
+
+-- and where it doesn't
+pub returns-in-Err-anew_after-clause-asks : goal.returns-in-Err-anew_after-clause-asks
+returns-in-Err-anew_after-clause-asks g c = asks_kept c.link_if_empty.ensures.asks c.insert_patiently.ensures.asked

@@ -1,4 +1,6 @@
 use Rattle.range_rw.specs.Patience.{holds_at}
+use Rattle.std.proofs.Common.{ap, ◌∙◌}
+use Rattle.epoch_pools.specs.declared.views.SeatPart.{SeatPart}
 use Rattle.range_rw.proofs.Insertion.{may_end_patient, patient_ends}
 use Rattle.range_rw.proofs.patience.insert_patiently.Goals as goal
 
@@ -15,3 +17,8 @@ returns-clause-ends g c =
     let e = c.begin-cursor in let w = c.insert_inside-walked in
     patient_ends c.args.hand.now.part e.new.hand.part c.requires.own e.ensures.made w.new.hand.part w.ensures.later
     c.end.new.hand.part c.end.ensures.made (holds_at w.result) w.ensures.ends
+
+-- no step of it asks for a range
+pub returns-clause-asked : goal.returns-clause-asked
+returns-clause-asked g c = ap (λ (x : SeatPart _). x.trace.asked) c.end.ensures.made
+    ∙ (c.insert_inside-walked.ensures.later.asked ∙ ap (λ (x : SeatPart _). x.trace.asked) c.begin-cursor.ensures.made)

@@ -13,4 +13,4 @@ leave_epoch-requires-clause-given g c = c.requires.seat.between.hand
 pub returns-clause-outside : goal.returns-clause-outside
 returns-clause-outside g c =
     let l = c.leave_epoch.ensures in
-    is_left c.args.hand.now.part c.leave_epoch.new.hand.part c.requires.seat l.later l.free l.ready c.view.ensures.sound
+    is_left c.args.hand.now.part c.leave_epoch.new.hand.part c.requires.seat l.later l.asked l.free l.ready c.view.ensures.sound

@@ -1,4 +1,4 @@
-use Rattle.std.proofs.Common.{◌≡◌, ◌<◌, ◌+◌, sym, ap, ◌∙◌, subst, arith}
+use Rattle.std.proofs.Common.{◌≡◌, ◌<◌, ◌+◌, ap, ◌∙◌, arith}
 use Rattle.epoch_pools.specs.declared.views.SeatPart.{SeatPart}
 use Rattle.epoch_pools.specs.declared.views.Beside.{Beside}
 use Rattle.range_rw.proofs.SeatedScans.{own_free, is_left, left_rests, turn_later, scan_on, enters}
@@ -21,13 +21,13 @@ turn-requires-clause-there g c =
 pub turn-requires-clause-resting : goal.turn-requires-clause-resting
 turn-requires-clause-resting g c =
     let p = c.args.hand.now.part in let m = c.leave_epoch.new.hand.part in let l = c.leave_epoch.ensures in
-    left_rests p m (is_left p m c.requires.seat l.later l.free l.ready c.view.ensures.sound)
+    left_rests p m (is_left p m c.requires.seat l.later l.asked l.free l.ready c.view.ensures.sound)
 
 -- it enters an epoch in list 0
 pub returns-clause-inside : goal.returns-clause-inside
 returns-clause-inside g c =
     let p = c.args.hand.now.part in let m = c.leave_epoch.new.hand.part in let l = c.leave_epoch.ensures in let t = c.turn.new.self.part in
-    let out = is_left p m c.requires.seat l.later l.free l.ready c.view.ensures.sound in
+    let out = is_left p m c.requires.seat l.later l.asked l.free l.ready c.view.ensures.sound in
     let there : t.pass.list ≡ 0 = ap (λ (x : SeatPart (Beside _)). x.pass.list) c.turn.ensures.part in
     let more : 0 < m.pass.lists = (let e = out.later.seat.within in omega arith) in
     enters p t c.enter.new.hand.part 0

@@ -6,6 +6,7 @@ use Rattle.epoch_pools.specs.declared.views.Standing.TheVariants.{Narrow}
 use Rattle.epoch_pools.specs.Passing.{standing_by}
 use Rattle.range_rw.specs.Contract.{IsListCause}
 use Rattle.range_rw.specs.Several.{list_state}
+use Rattle.range_rw.proofs.Asking.{asks_stay, asks_from}
 use Rattle.range_rw.proofs.Pieces.{err_on, cause_before}
 use Rattle.range_rw.proofs.Moves.{lists_on, turn_on, look_on, look_shows, holds_in, holds_on, holds_turned, holds_looked, may_count, ready_from}
 use Rattle.range_rw.proofs.several.count_swept.Goals as goal
@@ -201,3 +202,17 @@ returns-in-Err-clause-long g c = (λ l. (c.in-Err.ensures.long.0 l).0, λ spent.
 -- what refused the sweep refuses the call
 pub returns-in-Err-clause-cause : goal.returns-in-Err-clause-cause
 returns-in-Err-clause-cause g c = c.in-Err.ensures.cause (record { range = c.args.range; mode = c.args.mode })
+
+-- sweep and look ask for nothing
+pub returns-then-count_narrow-clause-asks : goal.returns-then-count_narrow-clause-asks
+returns-then-count_narrow-clause-asks g c = asks_stay (ap (λ (x : SeatPart _). x.trace.asked) c.count_narrow.ensures.part
+    ∙ (ap (λ (x : SeatPart _). x.trace.asked) c.turn.ensures.part ∙ c.sweep_piece.ensures.asked))
+
+-- the link behind them asks for the range
+pub returns-clause-asks : goal.returns-clause-asks
+returns-clause-asks g c = asks_from (ap (λ (x : SeatPart _). x.trace.asked) c.count_narrow.ensures.part
+    ∙ (ap (λ (x : SeatPart _). x.trace.asked) c.turn.ensures.part ∙ c.sweep_piece.ensures.asked)) c.count_in_both.ensures.asks
+
+-- a sweep asks for nothing
+pub returns-in-Err-clause-asks : goal.returns-in-Err-clause-asks
+returns-in-Err-clause-asks g c = asks_stay c.sweep_piece.ensures.asked

@@ -60,3 +60,7 @@ pub returns-clause-counted : goal.returns-clause-counted
 returns-clause-counted g c =
     let e = ap (λ (x : SeatPart _). x.trace.taken) c.turn.ensures.part in
     let n = c.unlink_or_mark.ensures.counted in omega arith
+
+-- turn and release ask for nothing
+pub returns-clause-asked : goal.returns-clause-asked
+returns-clause-asked g c = c.unlink_or_mark.ensures.back.asked ∙ ap (λ (x : SeatPart _). x.trace.asked) c.turn.ensures.part

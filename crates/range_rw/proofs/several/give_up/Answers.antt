@@ -92,3 +92,7 @@ pub returns-clause-taken : goal.returns-clause-taken
 returns-clause-taken g c =
     let e = ap (λ (x : SeatPart _). x.trace.taken) c.turn.ensures.part in
     let n = c.mark.ensures.marked.taken in omega arith
+
+-- turn and mark ask for nothing
+pub returns-clause-asked : goal.returns-clause-asked
+returns-clause-asked g c = c.mark.ensures.marked.asked ∙ ap (λ (x : SeatPart _). x.trace.asked) c.turn.ensures.part

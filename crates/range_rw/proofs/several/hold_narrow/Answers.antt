@@ -8,6 +8,7 @@ use Rattle.epoch_pools.specs.Beside.{shown_core}
 use Rattle.epoch_pools.specs.Passing.{standing_by}
 use Rattle.range_rw.specs.Contract.{IsListCause, IsReadyLeft}
 use Rattle.range_rw.specs.Several.{list_state}
+use Rattle.range_rw.proofs.Asking.{asks_on, asks_kept}
 use Rattle.range_rw.proofs.Pieces.{cause_before}
 use Rattle.range_rw.proofs.Moves.{lists_on, look_on, look_shows, holds_in, holds_looked, some_held, may_count}
 use Rattle.range_rw.proofs.Moves.{piece_alone, piece_free, ready_each, ready_both, ready_kept, spent_kept, free_beside}
@@ -259,3 +260,18 @@ returns-in-Err-count_swept-clause-cause g c =
                 c.args.mode;
           }) c.in-Err-count_swept.why) (sym there) first)),
     )
+
+-- the link asks for the range, and the look for nothing
+pub returns-then-count_narrow-clause-asks : goal.returns-then-count_narrow-clause-asks
+returns-then-count_narrow-clause-asks g c = asks_kept c.link_piece.ensures.asks (ap (λ (x : SeatPart _). x.trace.asked) c.count_narrow.ensures.part)
+
+-- what is linked in list 0 too is the same range
+pub returns-in-Ok-count_swept-clause-asks : goal.returns-in-Ok-count_swept-clause-asks
+returns-in-Ok-count_swept-clause-asks g c =
+    asks_on (asks_kept c.link_piece.ensures.asks (ap (λ (x : SeatPart _). x.trace.asked) c.count_narrow.ensures.part)) c.count_swept.ensures.asks
+
+-- giving up asks for nothing
+pub returns-in-Err-count_swept-clause-asks : goal.returns-in-Err-count_swept-clause-asks
+returns-in-Err-count_swept-clause-asks g c =
+    asks_kept (asks_on (asks_kept c.link_piece.ensures.asks (ap (λ (x : SeatPart _). x.trace.asked) c.count_narrow.ensures.part)) c.count_swept.ensures.asks)
+    c.give_up.ensures.asked

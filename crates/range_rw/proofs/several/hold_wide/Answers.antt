@@ -2,6 +2,7 @@ use Rattle.std.proofs.Common.{◌≡◌, ◌≢◌, ◌+◌, ◌*◌, inl, inr, 
 use Rattle.lock_core.specs.declared.views.View.{View}
 use Rattle.range_rw.specs.Contract.{IsListCause}
 use Rattle.range_rw.specs.Several.{list_state}
+use Rattle.range_rw.proofs.Asking.{asks_on, asks_kept}
 use Rattle.range_rw.proofs.Pieces.{cause_before}
 use Rattle.range_rw.proofs.Moves.{lists_on, some_held}
 use Rattle.range_rw.proofs.Moves.{piece_alone, piece_free, ready_each, ready_all, ready_kept, spent_kept}
@@ -179,3 +180,11 @@ returns-in-Err-pass_all-clause-cause g c =
                 c.args.mode;
           }) c.in-Err-pass_all.why) (sym there) first)),
     )
+
+-- link and looks ask for the range alone
+pub returns-in-Ok-pass_all-clause-asks : goal.returns-in-Ok-pass_all-clause-asks
+returns-in-Ok-pass_all-clause-asks g c = asks_on c.link_piece.ensures.asks c.pass_all.ensures.asks
+
+-- giving up asks for nothing
+pub returns-in-Err-pass_all-clause-asks : goal.returns-in-Err-pass_all-clause-asks
+returns-in-Err-pass_all-clause-asks g c = asks_kept (asks_on c.link_piece.ensures.asks c.pass_all.ensures.asks) c.give_up.ensures.asked

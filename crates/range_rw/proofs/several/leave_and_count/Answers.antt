@@ -48,3 +48,7 @@ pub returns-clause-counted : goal.returns-clause-counted
 returns-clause-counted g c =
     let e = ap (λ (h : HandState _). h.part.trace.taken) c.lists_of.ensures.hand in let b = c.leave_epoch.ensures.counted in
     let n = c.lists_of.ensures.counted in omega arith
+
+-- leaving asks for nothing
+pub returns-clause-asked : goal.returns-clause-asked
+returns-clause-asked g c = ap (λ (h : HandState _). h.part.trace.asked) c.lists_of.ensures.hand ∙ c.leave_epoch.ensures.asked

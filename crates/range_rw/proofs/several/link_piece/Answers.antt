@@ -1,5 +1,6 @@
 use Rattle.std.proofs.Common.{sym, ap, ◌∙◌, arith}
 use Rattle.epoch_pools.specs.declared.views.SeatPart.{SeatPart}
+use Rattle.range_rw.proofs.Asking.{asks_from}
 use Rattle.range_rw.proofs.Pieces.{err_on, rests_free, try_piece, try_standing, ready_piece, cause_piece}
 use Rattle.range_rw.proofs.several.link_piece.Goals as goal
 
@@ -53,3 +54,7 @@ pub returns-clause-counted : goal.returns-clause-counted
 returns-clause-counted g c =
     let e = ap (λ (x : SeatPart _). x.trace.taken) c.turn.ensures.part in
     let n = c.try_once.ensures.counted in omega arith
+
+-- it asks for the range alone
+pub returns-clause-asks : goal.returns-clause-asks
+returns-clause-asks g c = asks_from (ap (λ (x : SeatPart _). x.trace.asked) c.turn.ensures.part) c.try_once.ensures.asks

@@ -10,6 +10,7 @@ use Rattle.list_cuts.specs.Cut.{list_count, Takes}
 use Rattle.epoch_pools.specs.declared.views.Standing.TheVariants.{Wide}
 use Rattle.epoch_pools.specs.Standings.{is_counted, standing_back}
 use Rattle.range_rw.specs.Several.{list_state, TakesNone}
+use Rattle.range_rw.proofs.Asking.{asks_stay, asks_on}
 use Rattle.range_rw.proofs.Pieces.{cause_before}
 use Rattle.range_rw.proofs.Moves.{lists_on, ready_from, none_first, pass_next, all_passed, passed_beside, passed_back}
 use Rattle.range_rw.proofs.TakenLists.{below_none, below_one, fewer_below}
@@ -31,6 +32,7 @@ all-init g c =
       low = c.next_taken-at.ensures.from;
       most = let e = ap list_count cut in let m = c.next_taken-at.ensures.most in let l = c.requires.lists.1 in omega arith;
       later = record { number = refl; seats = refl; lists = refl; pass = refl; client = refl; taken = omega arith };
+      asks = asks_stay refl;
       alone = c.requires.holds;
       passed = inl (
         c.requires.free,
@@ -79,6 +81,7 @@ all-preserved g c =
       low = let a = i.low in let b = c.next_taken-up.ensures.from in omega arith;
       most = let f = i.lists.1 in let m = ap list_count i.cut in let n = c.next_taken-up.ensures.most in omega arith;
       later = lists_on c.args.hand.now.part c.all.hand.part c.pass_one.new.hand.part i.later c.pass_one.ensures.later;
+      asks = asks_on i.asks c.pass_one.ensures.asks;
       alone = ok.held;
       passed = inr ok.passed;
       first = c.pass_one.ensures.only 0 differ ∙ i.first;
@@ -193,3 +196,7 @@ returns-in-Err-clause-each g c = λ k many.
     ≡ (55 + 193 * c.args.hand.now.part.seats) * i.each.0 + (55 + 193 * c.args.hand.now.part.seats) =
     mul-suc (55 + 193 * c.args.hand.now.part.seats) i.each.0 in
     let s = i.later.seats in let a = i.each.2 in let b = c.pass_one.ensures.bound in omega arith
+
+-- each list is passed with the same range
+pub returns-in-Err-clause-asks : goal.returns-in-Err-clause-asks
+returns-in-Err-clause-asks g c = asks_on c.all.invariant.asks c.pass_one.ensures.asks

@@ -1,7 +1,7 @@
 use Rattle.std.proofs.Common.{◌≡◌, ℕ, ◌+◌, ◌-◌, ◌*◌, ◌<◌, ◌≤◌}
 use Rattle.list_cuts.specs.Cut.{list_count, Takes}
 use Rattle.epoch_pools.specs.Beside.{shown_core}
-use Rattle.range_rw.specs.Contract.{IsReadyLeft, TakesBelow}
+use Rattle.range_rw.specs.Contract.{AsksOnly, IsReadyLeft, TakesBelow}
 use Rattle.range_rw.specs.Several.{IsLaterInLists, HoldsAlone, HasPassed, ShowsOthers}
 use Rattle.range_rw.proofs.several.pass_all.Given as goal
 
@@ -15,6 +15,7 @@ invariant-all g l = record {
   low : 1 ≤ l.at;
   most : l.at ≤ l.lists;
   later : IsLaterInLists l.initial.hand.part l.hand.part;
+  asks : AsksOnly (record { range = l.range; mode = l.mode }) l.initial.hand.part.trace.asked l.hand.part.trace.asked;
   alone : HoldsAlone 0 (record { range = l.range; mode = l.mode }) l.hand.part;
   passed : HasPassed l.list.cut l.range l.at l.hand.part;
   first : shown_core l.hand.part 0 ≡ shown_core l.initial.hand.part 0;

@@ -6,7 +6,7 @@ use Rattle.epoch_pools.specs.declared.views.Standing.TheVariants.{Wide}
 use Rattle.epoch_pools.specs.Hands.{IsResting}
 use Rattle.epoch_pools.specs.Standings.{is_counted}
 use Rattle.range_rw.proofs.Pieces.{own_at}
-use Rattle.range_rw.proofs.Moves.{Crossing, Return, both_own, both_list, both_lists, both_standing, both_other}
+use Rattle.range_rw.proofs.Moves.{Crossing, Return, both_own, both_list, both_lists, both_standing, both_other, both_asks}
 use Rattle.range_rw.proofs.Moves.{both_too, both_later, both_only, both_alone, both_counts, both_ready}
 use Rattle.range_rw.proofs.Moves.{holds_in, holds_on, wide_beside, wide_back, some_held, look_shows, pass_still}
 use Rattle.range_rw.proofs.several.pass_in_both.Given.{Over}
@@ -169,3 +169,8 @@ returns-in-Err-clause-only g c = c.link_piece.ensures.piece.only
 pub returns-in-Err-clause-long : goal.returns-in-Err-clause-long
 returns-in-Err-clause-long g c =
     (λ l. (c.in-Err.ensures.long.0 l).0, λ spent. c.in-Err.ensures.long.1 (spent, ap held_at c.in-Err.ensures.free))
+
+-- the link asks for the range, and nothing behind it does
+pub returns-in-Ok-clause-asks : goal.returns-in-Ok-clause-asks
+returns-in-Ok-clause-asks g c =
+    both_asks (over g (goal.at.returns-in-Ok-clause-asks g c).After-turn) (after g c) c.link_piece.ensures.asks c.give_piece.ensures.asked

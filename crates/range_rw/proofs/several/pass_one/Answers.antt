@@ -6,6 +6,7 @@ use Rattle.epoch_pools.specs.declared.views.Standing.TheVariants.{Wide}
 use Rattle.epoch_pools.specs.Passing.{standing_by}
 use Rattle.range_rw.specs.Contract.{IsListCause}
 use Rattle.range_rw.specs.Several.{list_state}
+use Rattle.range_rw.proofs.Asking.{asks_stay, asks_from}
 use Rattle.range_rw.proofs.Pieces.{err_on, own_at, cause_before}
 use Rattle.range_rw.proofs.Moves.{lists_on, turn_on, look_on, look_shows, holds_in, holds_on, holds_turned, holds_looked, pass_still, ready_from}
 use Rattle.range_rw.proofs.several.pass_one.Goals as goal
@@ -286,3 +287,23 @@ returns-in-Err-clause-cause g c =
     (λ none. sym (ap (λ (v : View). v.ready) (look_shows c.args.hand.now.part c.pass_list.new.hand.part _ c.pass_list.ensures.part c.args.at)) ∙ none)
     c.args.at (record { range = c.args.range; mode = c.args.mode }) c.in-Err.why
     (c.in-Err.ensures.cause (record { range = c.args.range; mode = c.args.mode })))
+
+-- a look asks for nothing
+pub returns-then-pass_list-clause-asks : goal.returns-then-pass_list-clause-asks
+returns-then-pass_list-clause-asks g c = asks_stay (ap (λ (x : SeatPart _). x.trace.asked) c.pass_list.ensures.part)
+
+-- nor does the sweep
+pub returns-in-Err-clause-asks : goal.returns-in-Err-clause-asks
+returns-in-Err-clause-asks g c = asks_stay (c.sweep_piece.ensures.asked ∙ ap (λ (x : SeatPart _). x.trace.asked) c.pass_list.ensures.part)
+
+-- nor does the second look
+pub returns-then-pass_list-2-clause-asks : goal.returns-then-pass_list-2-clause-asks
+returns-then-pass_list-2-clause-asks g c = asks_stay (ap (λ (x : SeatPart _). x.trace.asked) c.pass_list-2.ensures.part
+    ∙ (ap (λ (x : SeatPart _). x.trace.asked) c.turn.ensures.part
+    ∙ (c.sweep_piece.ensures.asked ∙ ap (λ (x : SeatPart _). x.trace.asked) c.pass_list.ensures.part)))
+
+-- the link behind them asks for the range
+pub returns-clause-asks : goal.returns-clause-asks
+returns-clause-asks g c = asks_from (ap (λ (x : SeatPart _). x.trace.asked) c.pass_list-2.ensures.part
+    ∙ (ap (λ (x : SeatPart _). x.trace.asked) c.turn.ensures.part
+    ∙ (c.sweep_piece.ensures.asked ∙ ap (λ (x : SeatPart _). x.trace.asked) c.pass_list.ensures.part))) c.pass_in_both.ensures.asks

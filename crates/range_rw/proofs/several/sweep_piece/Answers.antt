@@ -78,3 +78,7 @@ pub returns-clause-counted : goal.returns-clause-counted
 returns-clause-counted g c =
     let e = ap (λ (x : SeatPart _). x.trace.taken) c.turn.ensures.part in
     let n = c.sweep-walked.ensures.counted in omega arith
+
+-- turn and sweep ask for nothing
+pub returns-clause-asked : goal.returns-clause-asked
+returns-clause-asked g c = c.sweep-walked.ensures.swept.asked ∙ ap (λ (x : SeatPart _). x.trace.asked) c.turn.ensures.part

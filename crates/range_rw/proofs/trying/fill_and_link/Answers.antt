@@ -1,6 +1,7 @@
 use Rattle.std.proofs.Common.{ap, ◌∙◌}
 use Rattle.std.specs.Prelude.{◌%◌, None}
 use Rattle.lock_core.specs.declared.views.View.{View}
+use Rattle.range_rw.proofs.Asking.{for_here, for_kept}
 use Rattle.range_rw.proofs.Taking.{has_ends}
 use Rattle.range_rw.proofs.trying.fill_and_link.Goals as goal
 
@@ -10,3 +11,11 @@ quick_link-requires-clause-order g c = record {
   even = ap (λ (v : View). v.epoch % 2) c.fill.ensures.filled ∙ c.requires.outside.even;
   own = has_ends c.fill.new.hand.part.core.own c.args.node c.args.range.lo c.args.range.hi c.args.mode None (ap (λ (v : View). v.own) c.fill.ensures.filled);
 }
+
+-- the fill asks for the range
+pub returns-in-Done-clause-asks : goal.returns-in-Done-clause-asks
+returns-in-Done-clause-asks g c = for_kept (for_here c.fill.ensures.asked) c.quick_link.ensures.asked
+
+-- also where another node is in the list
+pub returns-in-Lost-clause-asks : goal.returns-in-Lost-clause-asks
+returns-in-Lost-clause-asks g c = for_kept (for_here c.fill.ensures.asked) c.quick_link.ensures.asked

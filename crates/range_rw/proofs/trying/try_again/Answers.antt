@@ -1,5 +1,6 @@
 use Rattle.std.proofs.Common.{sym, ◌∙◌}
 use Rattle.std.specs.Prelude.{Some}
+use Rattle.range_rw.proofs.Asking.{asks_kept, for_only}
 use Rattle.range_rw.proofs.Taking.{has_ends, tried_own, back_ready, insert_ready, insert_cause}
 use Rattle.range_rw.proofs.trying.try_again.Goals as goal
 
@@ -28,3 +29,15 @@ returns-in-Some-refusal_of-clause-cause g c =
     (tried_own p f c.args.range c.args.mode c.link_ready_node-held.result t c.if-held.false) c.list.result c.args.hand.now.table p
     c.list.ensures.noted c.list.ensures.list c.link_ready_node-held.ensures.later c.insert_in_epoch.ensures.later c.in-Some.walked c.in-Some-refusal_of.refusal
     (sym c.refusal_of.ensures ∙ c.in-Some-refusal_of.is) c.in-Some.ensures.ends c.in-Some.ensures.long).0
+
+-- what the fast path tried is all that is asked for
+pub returns-then-held-clause-asks : goal.returns-then-held-clause-asks
+returns-then-held-clause-asks g c = for_only c.link_ready_node-held.ensures.tried.asks
+
+-- also where it is refused
+pub returns-in-Some-refusal_of-clause-asks : goal.returns-in-Some-refusal_of-clause-asks
+returns-in-Some-refusal_of-clause-asks g c = asks_kept (for_only c.link_ready_node-held.ensures.tried.asks) c.insert_in_epoch.ensures.asked
+
+-- and where it is held
+pub returns-in-None-clause-asks : goal.returns-in-None-clause-asks
+returns-in-None-clause-asks g c = asks_kept (for_only c.link_ready_node-held.ensures.tried.asks) c.insert_in_epoch.ensures.asked

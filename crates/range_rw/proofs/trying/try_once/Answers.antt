@@ -1,5 +1,6 @@
 use Rattle.std.proofs.Common.{sym, ◌∙◌}
 use Rattle.std.specs.Prelude.{Some}
+use Rattle.range_rw.proofs.Asking.{asks_kept}
 use Rattle.range_rw.proofs.Taking.{has_ends, tried_own, tried_held, tried_ready, back_ready, insert_held, insert_ready, insert_cause}
 use Rattle.range_rw.proofs.trying.try_once.Goals as goal
 
@@ -46,3 +47,11 @@ returns-in-None-clause-held g c =
     insert_held f c.insert_in_epoch.new.hand.part t.node c.args.range c.args.mode
     (tried_own p f c.args.range c.args.mode c.in-Ok.held t c.if-held.false) c.list.result c.in-Some.walked
     (sym c.refusal_of.ensures ∙ c.in-None.is) c.in-Some.ensures.ends
+
+-- what the fast path tried is all that is asked for
+pub returns-in-Some-refusal_of-clause-asks : goal.returns-in-Some-refusal_of-clause-asks
+returns-in-Some-refusal_of-clause-asks g c = asks_kept c.link_if_empty.ensures.asks c.insert_in_epoch.ensures.asked
+
+-- also where it is held
+pub returns-in-None-clause-asks : goal.returns-in-None-clause-asks
+returns-in-None-clause-asks g c = asks_kept c.link_if_empty.ensures.asks c.insert_in_epoch.ensures.asked

@@ -1,5 +1,6 @@
 use Rattle.std.proofs.Common.{sym, ◌∙◌}
 use Rattle.std.specs.Prelude.{Some}
+use Rattle.range_rw.proofs.Asking.{asks_kept, asks_on}
 use Rattle.range_rw.proofs.Taking.{has_ends, tried_own, tried_held, tried_ready, back_ready, insert_held, insert_ready}
 use Rattle.range_rw.proofs.Taking.{insert_cause, some_again, ready_again, cause_again}
 use Rattle.range_rw.proofs.Later.{later_on}
@@ -71,3 +72,16 @@ returns-in_default-clause-cause g c =
     (later_on p f r c.link_if_empty.ensures.later c.insert_in_epoch.ensures.later)
     (λ none. absurd (some_again p f c.args.range c.args.mode c.in-Ok.held t c.if-held.false r c.in_default.ensures.ends.0 none))
     (record { range = c.args.range; mode = c.args.mode }) c.try_again.result c.try_again.ensures.cause
+
+-- what the fast path tried is all that is asked for
+pub returns-in-Some-refusal_of-clause-asks : goal.returns-in-Some-refusal_of-clause-asks
+returns-in-Some-refusal_of-clause-asks g c = asks_kept c.link_if_empty.ensures.asks c.insert_in_epoch.ensures.asked
+
+-- also where it is held
+pub returns-in-None-clause-asks : goal.returns-in-None-clause-asks
+returns-in-None-clause-asks g c = asks_kept c.link_if_empty.ensures.asks c.insert_in_epoch.ensures.asked
+
+-- and the second attempt asks for the same
+pub returns-in_default-clause-asks : goal.returns-in_default-clause-asks
+returns-in_default-clause-asks g c =
+    asks_on (asks_kept c.link_if_empty.ensures.asks c.insert_in_epoch.ensures.asked) c.try_again.ensures.asks

@@ -1,6 +1,7 @@
 use Rattle.std.proofs.Common.{◌+◌, ◌*◌, length}
 use Rattle.std.proofs.lemmas.Result.{on_ok_weaker}
 use Rattle.range_sets.proofs.Places.{all_held, granted_calls, granted_some, granted_each, alone_take, free_told, let_go_told, passes_told, cause_told, each_told, bound_told}
+use Rattle.range_sets.proofs.Places.{asks_told}
 use Rattle.range_sets.proofs.taking.try_set.Goals as goal
 
 -- what was granted is held, each want by the seat at its place
@@ -50,3 +51,7 @@ returns-clause-refused_each g c = each_told _ _ _ _ _ c.requires.free c.try_four
 pub returns-clause-refused_bound : goal.returns-clause-refused_bound
 returns-clause-refused_bound g c = λ alone.
     bound_told _ _ _ _ _ c.requires.free alone c.try_four.result c.try_four.ensures.refused
+
+-- each seat asked for its own want
+pub returns-clause-asks : goal.returns-clause-asks
+returns-clause-asks g c = asks_told _ _ _ _ _ c.try_four.result c.try_four.ensures.granted c.try_four.ensures.refused

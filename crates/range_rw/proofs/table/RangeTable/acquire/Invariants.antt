@@ -1,6 +1,6 @@
 use Rattle.std.proofs.Common.{◌≡◌}
 use Rattle.std.specs.Prelude.{None}
-use Rattle.range_rw.specs.Contract.{IsLockCall, KeepsOthers}
+use Rattle.range_rw.specs.Contract.{AsksOnly, IsLockCall, KeepsOthers}
 use Rattle.range_rw.proofs.table.RangeTable.acquire.Given as goal
 
 -- the tries so far hold what was held at the beginning, and are one call
@@ -8,6 +8,7 @@ abbrev pub invariant-loop : goal.invariant-loop
 invariant-loop g l = record {
   held : l.seat.held ≡ l.initial.seat.held;
   call : IsLockCall l.initial.seat l.seat;
+  asks : AsksOnly (record { range = l.range; mode = l.mode }) l.initial.seat.trace.asked l.seat.trace.asked;
   closed : l.initial.seat.scan ≡ None → l.seat.scan ≡ None;
   only : l.initial.seat.scan ≡ None → KeepsOthers l.self.cut l.range l.initial.seat l.seat;
 }

@@ -1,6 +1,7 @@
-use Rattle.std.proofs.Common.{ap, ◌∙◌, subst, sym, arith}
-use Rattle.range_rw.specs.Contract.{TableShape, SeatState, IsLockCall, KeepsOthers, StandsIn}
+use Rattle.std.proofs.Common.{ap, ◌∙◌, subst, sym}
+use Rattle.range_rw.specs.Contract.{TableShape, SeatState, IsLockCall, KeepsOthers, StandsIn, AsksOnly, AsksFor}
 use Rattle.range_rw.specs.Seats.{counted_in, seat_state_of}
+use Rattle.range_rw.proofs.Asking.{asks_from, for_from}
 use Rattle.range_rw.proofs.Moves.{lists_on}
 use Rattle.range_rw.proofs.Pieces.{is_there}
 use Rattle.range_rw.proofs.Choosing.{others_kept, closed_even}
@@ -103,3 +104,24 @@ returns-clause-only g c = λ closed.
 pub returns-in-Ok-clause-stands : goal.returns-in-Ok-clause-stands
 returns-in-Ok-clause-stands g c =
     subst (λ (t : TableShape). StandsIn t.cut c.args.range (counted_in c.hold_or_try-held.new.hand.part.pass.standing)) c.self.view_is c.in-Ok.ensures.stands
+
+-- it asks for the range alone
+pub returns-in-Ok-clause-asks : goal.returns-in-Ok-clause-asks
+returns-in-Ok-clause-asks g c =
+    let now = c.hold_or_try-held.new.hand.part.trace.asked in
+    subst (λ (s : SeatState _). AsksOnly (record { range = c.args.range; mode = c.args.mode }) s.trace.asked now) c.seat.view_is
+    (asks_from c.leave_and_count-lists.ensures.asked c.hold_or_try-held.ensures.asks)
+
+-- so it does where it is refused
+pub returns-clause-asks : goal.returns-clause-asks
+returns-clause-asks g c =
+    let now = c.hold_or_try-held.new.hand.part.trace.asked in
+    subst (λ (s : SeatState _). AsksOnly (record { range = c.args.range; mode = c.args.mode }) s.trace.asked now) c.seat.view_is
+    (asks_from c.leave_and_count-lists.ensures.asked c.hold_or_try-held.ensures.asks)
+
+-- it asked for the range
+pub returns-in-Ok-clause-gets : goal.returns-in-Ok-clause-gets
+returns-in-Ok-clause-gets g c =
+    let now = c.hold_or_try-held.new.hand.part.trace.asked in
+    subst (λ (s : SeatState _). AsksFor (record { range = c.args.range; mode = c.args.mode }) s.trace.asked now) c.seat.view_is
+    (for_from c.leave_and_count-lists.ensures.asked c.in-Ok.ensures.gets)

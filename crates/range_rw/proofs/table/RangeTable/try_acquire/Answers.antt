@@ -14,9 +14,11 @@ use Rattle.range_rw.specs.Contract.{
   TellsList,
   try_steps,
   pools_at,
+  AsksOnly,
 }
 use Rattle.range_rw.specs.Several.{TakesAlone}
 use Rattle.range_rw.specs.Seats.{counted_in, seat_state_of}
+use Rattle.range_rw.proofs.Asking.{asks_from}
 use Rattle.range_rw.proofs.Moves.{lists_on, ready_from}
 use Rattle.range_rw.proofs.Choosing.{seat_cause_in, seat_told_in, seat_long_in, left_ready, ready_at, others_kept, closed_even}
 use Rattle.range_rw.proofs.Pieces.{is_there}
@@ -257,3 +259,17 @@ returns-in-Err-clause-wide g c =
     let all = ap (λ n. try_steps n k) c.try_hold-tried.ensures.seats in
     let l = c.leave_and_count-lists.ensures.bound in
     let w = ap (λ (s : SeatState _). s.trace.taken) c.seat.view_is in omega arith))
+
+-- it asks for the range alone
+pub returns-in-Ok-clause-asks : goal.returns-in-Ok-clause-asks
+returns-in-Ok-clause-asks g c =
+    let now = c.try_hold-tried.new.hand.part.trace.asked in
+    subst (λ (s : SeatState _). AsksOnly (record { range = c.args.range; mode = c.args.mode }) s.trace.asked now) c.seat.view_is
+    (asks_from c.leave_and_count-lists.ensures.asked c.try_hold-tried.ensures.asks)
+
+-- so it does where it is refused
+pub returns-in-Err-clause-asks : goal.returns-in-Err-clause-asks
+returns-in-Err-clause-asks g c =
+    let now = c.try_hold-tried.new.hand.part.trace.asked in
+    subst (λ (s : SeatState _). AsksOnly (record { range = c.args.range; mode = c.args.mode }) s.trace.asked now) c.seat.view_is
+    (asks_from c.leave_and_count-lists.ensures.asked c.try_hold-tried.ensures.asks)
