@@ -1,7 +1,7 @@
 -- The row words among the client words, and what they show: the kind of each page. `RowsShow` takes the kinds as a
 -- function from pages, so that rows which lag behind the history at some pages are said by another function and not by
 -- another definition.
-use Rattle.std.specs.Prelude.{ℕ, zero, suc, ◌≡◌, ◌<◌, ◌≤◌, ◌+◌, ◌-◌, ◌*◌, ◌/◌, All, Option, List, [], ◌∷◌, length, min, take, drop, slice_index}
+use Rattle.std.specs.Prelude.{ℕ, zero, suc, ◌≡◌, ◌<◌, ◌≤◌, ◌+◌, ◌-◌, ◌*◌, ◌/◌, All, Option, Some, None, List, [], ◌∷◌, length, min, take, drop, slice_index}
 use mathlib.Core.Option.{some}
 use lib.ListN.{get_elem?}
 use Rattle.atomic_table.specs.Seated.{TableId}
@@ -66,6 +66,20 @@ IsFirstOf slots slot = get_elem? slots 0 ≡ some slot
 -- the last of them
 abbrev pub IsLastOf : List ℕ → ℕ → Type 0
 IsLastOf slots slot = (k : ℕ) × (get_elem? slots k ≡ some slot) × (k + 1 ≡ length slots)
+
+-- the slot behind one of them, or None behind the last one
+abbrev pub IsNextOf : List ℕ → ℕ → Option ℕ → Type 0
+IsNextOf slots slot None = IsLastOf slots slot
+IsNextOf slots slot (Some next) = AreNeighbours slots slot next
+
+-- the slot before one of them, or None before the first one
+abbrev pub IsPreviousOf : List ℕ → ℕ → Option ℕ → Type 0
+IsPreviousOf slots slot None = IsFirstOf slots slot
+IsPreviousOf slots slot (Some previous) = AreNeighbours slots previous slot
+
+-- a slot is in reach of a table with room for so many rows: there is a client word for a row in it
+abbrev pub IsInReach : ℕ → ℕ → Type 0
+IsInReach room slot = (slot < ROWS) × (slot < room)
 
 -- a row stands in that slot
 abbrev pub IsSlot : List ℕ → ℕ → Type 0

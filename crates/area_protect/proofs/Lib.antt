@@ -3,3 +3,4 @@ pub mod Stages
 pub mod Lone
 pub mod Newcomers
 pub mod Answering
+pub mod Asking

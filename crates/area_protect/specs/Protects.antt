@@ -1,16 +1,23 @@
 -- What a change of protection answers, and what each answer says: mprotect(2), with the way that the call went. A way
 -- is no claim about what the code did: it is a fact of the history after so many entries, which stands between what the
 -- caller had seen before the call and the call's own entry.
-use Rattle.std.specs.Prelude.{ℕ, ◌≡◌, ◌≢◌, ◌<◌, ◌≤◌, ◌↔◌, IsSome, None, length}
+use Rattle.std.specs.Prelude.{ℕ, ◌≡◌, ◌≢◌, ◌<◌, ◌≤◌, ◌⊎◌, ◌↔◌, List, ◌∷◌, IsSome, None, length}
 use Rattle.page_types.specs.declared.calls.Call.{Call}
 use Rattle.page_types.specs.declared.calls.Call.TheVariants.{Protect}
+use Rattle.page_types.specs.declared.pages.Span.{Span}
 use Rattle.page_types.specs.declared.sets.Prot.{Prot}
 use Rattle.page_types.specs.Pages.{page_of, end_page}
 use Rattle.page_types.specs.PlainReply.{plain_reply}
+use Rattle.space_model.specs.declared.areas.Area.{Area}
 use Rattle.space_model.specs.declared.entries.Entry.{Entry}
 use Rattle.space_model.specs.declared.entries.Under.TheVariants.{Whole as Everything}
-use Rattle.space_model.specs.Held.{HoldsSomeArea, IsSimple}
-use Rattle.range_rw.specs.Contract.{SeatState}
+use Rattle.space_model.specs.Areas.{IsInRange}
+use Rattle.space_model.specs.Held.{HoldsSomeArea, IsSimple, IsWidened}
+use Rattle.lock_core.specs.declared.range.Held.{Held}
+use Rattle.lock_core.specs.declared.range.Mode.TheVariants.{Reader}
+use Rattle.range_rw.specs.Contract.{SeatState, AsksAmong, AsksFor}
+use Rattle.area_rows.specs.Reads.{everything}
+use Rattle.area_rows.specs.Changes.{alone}
 use Rattle.area_guard.specs.declared.guard.Pass.{Pass}
 use Rattle.area_rows.specs.AreaPlans.{IsOneKind}
 use Rattle.area_rows.specs.Callers.{CallerView}
@@ -52,6 +59,37 @@ abbrev pub HasPath : SeatState Pass → Call → ℕ → ℕ → Entry → SeatS
 HasPath before call lo hi e after Free = IsSome (plain_reply call)
 HasPath before call lo hi e after (OverArea seq) = (plain_reply call ≡ None) × HoldsSomeArea e.under × HasWhole after e.number seq
 HasPath before call lo hi e after (Whole cause) = (plain_reply call ≡ None) × (e.under ≡ Everything) × HasCause before call lo hi e after cause
+
+-- these pages as a reader holds them
+abbrev pub read_pages : ℕ → ℕ → Held
+read_pages lo hi = record { range = record { lo = lo; hi = hi }; mode = Reader }
+
+-- a range that an attempt may ask for: the pages of the call as a reader, or an area round them, with a page on each
+-- side, as a writer
+abbrev pub IsOfAttempt : ℕ → ℕ → Held → Type 0
+IsOfAttempt lo hi h = (h ≡ read_pages lo hi)
+    ⊎ ((area : Area) × (span : Span) × IsInRange area × (area.lo ≤ lo) × (hi ≤ area.hi) × IsWidened area span × (h ≡ alone span))
+
+-- attempts ask for the pages of the call as a reader before anything else, and then for such ranges alone
+abbrev pub AsksPagesFirst : ℕ → ℕ → List Held → List Held → Type 0
+AsksPagesFirst lo hi before after = AsksAmong (IsOfAttempt lo hi) (read_pages lo hi ∷ before) after
+
+-- which ranges a call asks for, by its way: none where its arguments decide it, those of its attempts, and everything
+-- behind these where it holds everything. What is held was asked for, so nothing else is held on the way
+abbrev pub HasAsked : ℕ → ℕ → Path → List Held → List Held → Type 0
+HasAsked lo hi Free before after = after ≡ before
+HasAsked lo hi (OverArea seq) before after = AsksPagesFirst lo hi before after
+HasAsked lo hi (Whole cause) before after = (mid : List Held) × AsksPagesFirst lo hi before mid × AsksFor everything mid after
+
+-- the same by its answer
+abbrev pub AnswerAsked : ℕ → ℕ → Protected → List Held → List Held → Type 0
+AnswerAsked lo hi (Given e path) before after = HasAsked lo hi path before after
+AnswerAsked lo hi Spent before after = after ≡ before
+
+-- the same of a call that is a change of protection
+abbrev pub AnswerAskedTo : Call → Protected → List Held → List Held → Type 0
+AnswerAskedTo (Protect addr len prot) answer before after = AnswerAsked (page_of addr) (end_page addr len) answer before after
+AnswerAskedTo call answer before after = ⊥
 
 -- the call got one entry, as each call that gives one, and went that way, by its own looks
 pub record IsProtected (before : CallerView) (line addr len : ℕ) (prot : Prot) (e : Entry) (path : Path) (after : CallerView) : Type 0 where

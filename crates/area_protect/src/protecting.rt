@@ -4,8 +4,9 @@ ghost use Rattle.std.specs.Prelude.{◌≡◌, ◌<◌, None};
 ghost use Rattle.page_types.specs.declared.calls.Call.TheVariants.{Protect};
 ghost use Rattle.page_types.specs.Named.{IsNamedCall};
 ghost use Rattle.page_types.specs.Classes.{IsProtect};
+ghost use Rattle.page_types.specs.Pages.{page_of, end_page};
 ghost use Rattle.area_protect.specs.Looks.{LooksFirst};
-ghost use Rattle.area_protect.specs.Protects.{IsProtected, IsAnswer, IsAnswerTo};
+ghost use Rattle.area_protect.specs.Protects.{AsksPagesFirst, HasAsked, AnswerAsked, AnswerAskedTo, IsProtected, IsAnswer, IsAnswerTo};
 ghost use Rattle.area_protect.specs.Attempts.{MayCall, IsUndecided, ArePagesOf, IsAgain, IsAttempt};
 
 use crate::path::{Path, Protected};
@@ -32,6 +33,7 @@ fn attempts<R: Wait, L: Ledger>(
     requires pages { ArePagesOf request pages }
     ensures free { caller.new.seat.held ≡ None }
     ensures first { LooksFirst caller.old.seat pages.lo pages.hi caller.new.seat }
+    ensures asks { AsksPagesFirst pages.lo pages.hi caller.old.seat.trace.asked caller.new.seat.trace.asked }
     ensures attempt { IsAttempt caller.old request caller.new result }
     ensures last { ¬ IsAgain result }
 {
@@ -59,6 +61,7 @@ fn protect_counting<L: Ledger, R: Wait>(
     requires caller { MayCall space.now.table caller.old }
     requires asked { IsUndecided request }
     ensures protected { IsProtected caller.old request.line request.addr request.len request.prot result.0 result.1 caller.new }
+    ensures asks { HasAsked (page_of request.addr) (end_page request.addr request.len) result.1 caller.old.seat.trace.asked caller.new.seat.trace.asked }
 {
     let mut steps = Steps::<L>::new(blank);
     let pages = Span::of_valid(request.addr, request.len);
@@ -86,6 +89,7 @@ pub fn make_protect<R: Wait>(
     requires call { IsProtect call }
     requires named { IsNamedCall call }
     ensures answer { IsAnswerTo caller.old line call result caller.new }
+    ensures asks { AnswerAskedTo call result caller.old.seat.trace.asked caller.new.seat.trace.asked }
 {
     if caller.left() == 0 {
         return Protected::Spent;
@@ -131,6 +135,7 @@ pub fn protect<R: Wait>(
     requires free { caller.old.seat.held ≡ None }
     requires named { IsNamedCall (Protect addr len prot) }
     ensures answer { IsAnswer caller.old line addr len prot result caller.new }
+    ensures asks { AnswerAsked (page_of addr) (end_page addr len) result caller.old.seat.trace.asked caller.new.seat.trace.asked }
 {
     make_protect(space, wait, caller, line, Call::Protect { addr, len, prot })
 }

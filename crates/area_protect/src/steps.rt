@@ -9,6 +9,9 @@ ghost use Rattle.page_types.specs.Pages.{page_of, end_page};
 ghost use Rattle.space_model.specs.Areas.{IsInRange};
 ghost use Rattle.space_model.specs.Held.{IsWidened};
 ghost use Rattle.area_rows.specs.History.{IsAtRest};
+ghost use Rattle.range_rw.specs.Contract.{AsksFor, AsksOnly};
+ghost use Rattle.area_rows.specs.Changes.{alone};
+ghost use Rattle.area_protect.specs.Protects.{AsksPagesFirst, read_pages};
 ghost use Rattle.area_protect.specs.Looks.{HasLooked, LooksFirst};
 ghost use Rattle.area_protect.specs.Attempts.{MayCall, IsUndecided, ArePagesOf, HoldsRow, IsFound, IsOtherKind, IsHeld, IsChanged, NeedsMoreRows, IsAttempt};
 
@@ -87,6 +90,7 @@ pub(crate) fn look_around<R: Wait, L: Ledger>(
     ensures looked { HasLooked caller.old caller.new }
     ensures free { caller.new.seat.held ≡ None }
     ensures first { LooksFirst caller.old.seat pages.lo pages.hi caller.new.seat }
+    ensures asks { AsksFor (read_pages pages.lo pages.hi) caller.old.seat.trace.asked caller.new.seat.trace.asked }
     ensures found { IfOk result (IsFound caller.old.seat caller.new.seat pages) }
     ensures other { IfErr result (IsOtherKind caller.old.seat caller.new.seat pages) }
 {
@@ -125,6 +129,7 @@ pub(crate) fn hold_area<R: Wait, L: Ledger>(
     requires inside { (found.area.lo ≤ page) × (page < found.area.hi) }
     requires wide { IsWidened found.area wide }
     ensures looked { HasLooked caller.old caller.new }
+    ensures asks { AsksOnly (alone wide) caller.old.seat.trace.asked caller.new.seat.trace.asked }
     ensures held { IsHeld caller.old caller.new page found wide result }
 {
     space.acquire(wait, caller, wide, Mode::Writer);
@@ -165,6 +170,7 @@ pub(crate) fn change_area<L: Ledger>(
     requires until { end_page request.addr request.len ≤ row.hi }
     requires limit { row.hi ≤ LIMIT }
     ensures free { caller.new.seat.held ≡ None }
+    ensures asked { caller.new.seat.trace.asked ≡ caller.old.seat.trace.asked }
     ensures changed { IfOk result (IsChanged caller.old request caller.new) }
     ensures rows { IfErr result (NeedsMoreRows caller.old request caller.new) }
 {
@@ -223,6 +229,7 @@ pub(crate) fn one_attempt<R: Wait, L: Ledger>(
     requires pages { ArePagesOf request pages }
     ensures free { caller.new.seat.held ≡ None }
     ensures first { LooksFirst caller.old.seat pages.lo pages.hi caller.new.seat }
+    ensures asks { AsksPagesFirst pages.lo pages.hi caller.old.seat.trace.asked caller.new.seat.trace.asked }
     ensures attempt { IsAttempt caller.old request caller.new result }
 {
     let found = match look_around(space, wait, caller, pages, steps) {

@@ -1,14 +1,14 @@
 -- What a plan over an area says: at every moment at which its caller holds the area and has read the rows round it, the
 -- area is one of the state, and the change is simple exactly where the area is sealed or one of the four ways was
 -- chosen.
-use Rattle.std.proofs.Common.{◌≡◌, ◌≢◌, ℕ, zero, suc, ◌+◌, ◌-◌, ◌<◌, ◌≤◌, ◌⊎◌, inl, inr, List, drop, get_or, sym, refl, ap, ◌∙◌, subst, arith, ⊎_elim}
+use Rattle.std.proofs.Common.{◌≡◌, ◌≢◌, ℕ, zero, suc, ◌-◌, ◌<◌, ◌≤◌, ◌⊎◌, inl, inr, List, drop, get_or, sym, refl, ap, ◌∙◌, subst, arith, ⊎_elim}
 use Rattle.std.proofs.lemmas.Bool.{cases_lt, true≢false}
 use Rattle.std.proofs.lemmas.List.{drop_all}
-use Rattle.std.specs.Prelude.{All, Option, Some, None, is_none, Bool, true, false, IsTrue, [], ◌∷◌, length, slice_index}
+use Rattle.std.specs.Prelude.{Option, Some, None, is_none, Bool, true, false, IsTrue, [], ◌∷◌}
 use Rattle.std.specs.Option.{option_map}
 use mathlib.Core.Option.{some}
 use lib.ListN.{get_elem?}
-use Rattle.page_types.specs.declared.TheConstants.{LIMIT, ROWS}
+use Rattle.page_types.specs.declared.TheConstants.{LIMIT}
 use Rattle.page_types.specs.declared.calls.Kind.{Kind}
 use Rattle.page_types.specs.declared.calls.Call.TheVariants.{Protect}
 use Rattle.page_types.specs.declared.calls.Reply.{Reply}
@@ -44,14 +44,13 @@ use Rattle.area_guard.specs.declared.guard.Pass.{Pass}
 use Rattle.area_rows.specs.declared.row.Row.{Row}
 use Rattle.row_plans.specs.RowWords.{row_start}
 use Rattle.row_plans.specs.RowLists.{rows_start, ShowFrom}
-use Rattle.area_guard.specs.Rows.{slots_of, slot_at, rows_in, room_of}
-use Rattle.area_guard.proofs.Slots.{slot_few}
-use Rattle.area_guard.specs.Reads.{slots_by, IsHeldPage, StillStands}
+use Rattle.area_guard.specs.Rows.{slots_of, slot_at, rows_in}
+use Rattle.area_guard.specs.Reads.{slots_by, IsHeldPage}
 use Rattle.area_guard.specs.Changes.{alone, IsChange}
 use Rattle.area_rows.specs.OneStore.{IsOneStore, IsRound}
 use Rattle.area_rows.specs.OneStore.IsOneStore.{whole, first_part, last_part}
 use Rattle.area_guard.specs.History.{RowsStandFor, IsAtRest, IsRight, Leaves, change_pending}
-use Rattle.area_rows.specs.Callers.{CallerView, MayNumber, IsReading, Shows, IsMoment, IsAsRead, IsReadBefore, IsReadBehind, RowIs}
+use Rattle.area_rows.specs.Callers.{CallerView, MayNumber, IsReading, Shows, IsMoment, AreInReach, IsAsRead, IsReadBefore, IsReadBehind, RowIs}
 use Rattle.area_rows.specs.declared.area.AreaPlan.{AreaPlan}
 use Rattle.area_rows.specs.declared.area.AreaPlan.TheVariants.{NotSimple, Sealed, Same, SetKind, MoveStart}
 use Rattle.area_rows.specs.AreaPlans.{IsOneKind, IsAmong, IsLike, IsChosen, planned_change, MayChange, IsAreaPlan}
@@ -59,10 +58,9 @@ use Rattle.area_guard.specs.Writes.{span_pages}
 use Rattle.row_plans.proofs.RowLists.{row_says, some_none}
 use Rattle.area_rows.proofs.Moments.{first_start, nobody_plans, shows_held}
 use Rattle.area_rows.specs.Loading.{reading_on}
-use Rattle.area_rows.proofs.Numbers.{end_by, before_by, behind_by}
-use Rattle.area_rows.proofs.Reading.{shows_on, before_on, as_read_on}
+use Rattle.area_rows.proofs.Reading.{shows_on, before_on, behind_on, as_read_on}
 use Rattle.area_rows.proofs.OneRow.{IsRowIn, shown_at, next_is}
-use Rattle.area_rows.proofs.ReplacingRows.{row_in}
+use Rattle.area_rows.proofs.ReplacingRows.{IsAround, around_now, row_in}
 use Rattle.area_rows.proofs.Wholes.{match_none}
 
 -- the kinds of the pages beside a row are those of the rows beside it
@@ -72,46 +70,40 @@ record IsBeside (kinds : ℕ → Option Kind) (row : Row) (before behind : Optio
   right : row.hi < LIMIT → kinds row.hi ≡ behind
   last : row.hi ≡ LIMIT → behind ≡ None
 
-beside : (rows : List ℕ) (kinds : ℕ → Option Kind) (row : Row) (before behind : Option Kind) → ShowFrom 0 rows kinds
-    → IsRowIn rows row before behind → IsBeside kinds row before behind
-beside rows kinds row before behind show f = record {
+beside : (rows : List ℕ) (kinds : ℕ → Option Kind) (k : ℕ) (row : Row) (before behind : Option Kind) → ShowFrom 0 rows kinds
+    → IsRowIn rows k row before behind → IsBeside kinds row before behind
+beside rows kinds k row before behind show f = record {
   first = λ none. ⊎_elim
       (λ t. t.1)
       (λ t.
-      let i = row.index - 1 in
-      let b = shown_at 0 rows kinds i show (let h = f.there in omega arith) in
+      let b = shown_at 0 rows kinds t.0 show (let h = f.there in let n = t.1 in omega arith) in
       let grows = b.grows in
-      let e : rows_start (drop (suc i) rows) ≡ row.lo =
-      ap (λ n. rows_start (drop n rows)) (let z : suc i ≡ row.index = (let n = t.0 in omega arith) in z)
-      ∙ (next_is rows row.index f.there ∙ f.lo) in
+      let e : rows_start (drop (suc t.0) rows) ≡ row.lo = ap (λ n. rows_start (drop n rows)) t.1 ∙ (next_is rows k f.there ∙ f.lo) in
       absurd (omega arith))
       f.left;
   left = λ more. ⊎_elim
       (λ t. let z : row.lo ≡ 0 = sym f.lo ∙ (ap (λ n. row_start (get_or rows n 0)) t.0
       ∙ first_start rows kinds show (let h = f.there in omega arith)) in absurd (omega arith))
       (λ t.
-      let i = row.index - 1 in
-      let b = shown_at 0 rows kinds i show (let h = f.there in omega arith) in
+      let b = shown_at 0 rows kinds t.0 show (let h = f.there in let n = t.1 in omega arith) in
       let grows = b.grows in
-      let e : rows_start (drop (suc i) rows) ≡ row.lo =
-      ap (λ n. rows_start (drop n rows)) (let z : suc i ≡ row.index = (let n = t.0 in omega arith) in z)
-      ∙ (next_is rows row.index f.there ∙ f.lo) in
-      b.within (row.lo - 1) (omega arith) (omega arith) ∙ t.1)
+      let e : rows_start (drop (suc t.0) rows) ≡ row.lo = ap (λ n. rows_start (drop n rows)) t.1 ∙ (next_is rows k f.there ∙ f.lo) in
+      b.within (row.lo - 1) (omega arith) (omega arith) ∙ t.2)
       f.left;
   right = λ low. ⊎_elim
-      (λ t. let e : rows_start (drop (suc row.index) rows) ≡ LIMIT =
-      ap rows_start (drop_all (suc row.index) rows (let n = t.0 in omega arith)) in let h = f.hi in absurd (omega arith))
+      (λ t. let e : rows_start (drop (suc k) rows) ≡ LIMIT =
+      ap rows_start (drop_all (suc k) rows (let n = t.0 in omega arith)) in let h = f.hi in absurd (omega arith))
       (λ t.
-      let b = shown_at 0 rows kinds (suc row.index) show t.0 in
+      let b = shown_at 0 rows kinds (suc k) show t.0 in
       let grows = b.grows in
-      let e : row_start (get_or rows (suc row.index) 0) ≡ row.hi = sym (next_is rows (suc row.index) t.0) ∙ f.hi in
+      let e : row_start (get_or rows (suc k) 0) ≡ row.hi = sym (next_is rows (suc k) t.0) ∙ f.hi in
       b.within row.hi (omega arith) (omega arith) ∙ t.1)
       f.right;
   last = λ all. ⊎_elim
       (λ t. t.1)
       (λ t.
-      let low = (row_says 0 rows kinds (suc row.index) show t.0).below in
-      let e : row_start (get_or rows (suc row.index) 0) ≡ row.hi = sym (next_is rows (suc row.index) t.0) ∙ f.hi in
+      let low = (row_says 0 rows kinds (suc k) show t.0).below in
+      let e : row_start (get_or rows (suc k) 0) ≡ row.hi = sym (next_is rows (suc k) t.0) ∙ f.hi in
       absurd (omega arith))
       f.right;
 }
@@ -184,23 +176,17 @@ module _ (seat : SeatState Pass) (span : Span) (row : Row) (kind : Kind) (next :
   at_held : (page : ℕ) → row.lo - 1 ≤ page → page ≤ row.hi → page < LIMIT → IsHeldPage seat.held page
   at_held page low high below = subst (λ h. IsHeldPage h page) (sym held) (page_held page low high below)
 
-  found : IsRowIn (rows_in words) row before behind
-  found =
-      let part = m.running.parts seat.number m.pass m.own in
-      let stood : All (StillStands (Some (alone span)) words) m.pass.rows = (m.backed seat.number m.pass m.own).rows (Some (alone span)) granted in
-      row_in span words rows.0 rows.2 m.pass.rows stood row before behind (slice_index read.layout 0) read.word round (omega arith) limit
-      (ap (λ (l : List ℕ). slice_index l 0) (part.laid read.layout (m.read.laid read.layout read.laid)))
-      (slot_few read.layout row.index read.there) (m.read.rows row.index read.word read.read)
-      read.lo read.kind
-      (⊎_elim (λ t. inl (t.0, t.1, m.read.rows (row.index + 1) t.1 t.2, t.3)) (λ t. inr t)
-      (end_by seat.pass.rows read.layout row.index row.hi read.hi))
-      (⊎_elim (λ t. inl t) (λ t. inr (t.0, t.1, m.read.rows (row.index - 1) t.1 t.2, t.3))
-      (before_by seat.pass.rows read.layout row.index before read_before))
-      (⊎_elim (λ t. inl t) (λ t. inr (t.0, t.1, m.read.rows (row.index + 1) t.1 t.2, t.3))
-      (behind_by seat.pass.rows read.layout row.index next behind read_behind))
+  around : IsAround span words m.pass.rows row next before behind
+  around =
+      let now = as_read_on seat.pass m.pass row m.read read in
+      around_now span words m.pass row next before behind ((m.backed seat.number m.pass m.own).rows (Some (alone span)) granted) round (omega arith) limit
+      now ((m.running.parts seat.number m.pass m.own).laid now.layout now.laid)
+      (before_on seat.pass m.pass (slots_of read.layout) (slot_at read.layout row.index) before m.read read_before)
+      (behind_on seat.pass m.pass (slots_of read.layout) (slot_at read.layout row.index) next behind m.read read_behind)
 
   sides : IsBeside rows.0 row before behind
-  sides = beside (rows_in words) rows.0 row before behind rows.2.show found
+  sides = beside (rows_in words) rows.0 around.in_slot.there.0 row before behind rows.2.show
+      (row_in span words rows.0 rows.2 m.pass.rows row next before behind around)
 
   -- the pages of the row have its kind in the state
   of_kind : (page : ℕ) → row.lo ≤ page → page < row.hi → kind_at state page ≡ Some kind
@@ -370,7 +356,7 @@ cases_to A a c span lo hi old new o way = subst (λ (z : ℕ × ℕ × Kind). Fo
 module _ (c : CallerView) (span : Span) (row : Row) (kind : Kind) (next : ℕ) (before behind : Option Kind) (addr len : ℕ) (prot : Prot)
     (held : c.seat.held ≡ Some (alone span)) (rest : IsAtRest c.seat.pass) (round : IsRound row span) (limit : row.hi ≤ LIMIT)
     (is_kind : row.kind ≡ Some kind)
-    (read : IsAsRead c.seat.pass row) (few : length (slots_of read.layout) ≤ ROWS) (fits : length (slots_of read.layout) ≤ room_of c.seat.table)
+    (read : IsAsRead c.seat.pass row) (reach : AreInReach c.seat.table (slots_of read.layout))
     (read_before : IsReadBefore c.seat.pass.rows (slots_of read.layout) (slot_at read.layout row.index) before)
     (read_behind : IsReadBehind c.seat.pass.rows (slots_of read.layout) (slot_at read.layout row.index) next behind)
     (undecided : plain_reply (Protect addr len prot) ≡ None) (some_page : page_of addr < end_page addr len)
@@ -442,8 +428,7 @@ module _ (c : CallerView) (span : Span) (row : Row) (kind : Kind) (next : ℕ) (
       pages = omega arith;
       limit = limit;
       read = read;
-      few = few;
-      fits = fits;
+      reach = reach;
       kind = is_kind ∙ ap Some (sym o.old_is);
       named = named;
       read_before = read_before;
@@ -512,26 +497,25 @@ module _ (c : CallerView) (span : Span) (row : Row) (kind : Kind) (next : ℕ) (
 pub plan_made : (old a b : SeatState Pass) (v : CallerView) (span : Span) (row : Row) (kind : Kind) (next : ℕ) (before behind : Option Kind)
     (addr len : ℕ) (prot : Prot) → old.held ≡ Some (alone span) → IsAtRest old.pass → IsRound row span → row.hi ≤ LIMIT
     → row.kind ≡ Some kind → (read : IsAsRead old.pass row)
-    → length (slots_of read.layout) ≤ ROWS → length (slots_of read.layout) ≤ room_of old.table
-    → plain_reply (Protect addr len prot) ≡ None → page_of addr < end_page addr len → row.lo ≤ page_of addr
+    → AreInReach old.table (slots_of read.layout) → plain_reply (Protect addr len prot) ≡ None → page_of addr < end_page addr len → row.lo ≤ page_of addr
     → end_page addr len ≤ row.hi → Shows old (RowIs old.held (page_of addr) row) → IsReading old a
     → IsReading a b → IsReading b v.seat
-    → IsReadBefore b.pass.rows (slots_by a.pass.laid) row.index before → IsReadBehind v.seat.pass.rows (slots_by b.pass.laid) row.index next behind
+    → IsReadBefore b.pass.rows (slots_by a.pass.laid) row.index before → IsReadBehind v.seat.pass.rows (slots_by a.pass.laid) row.index next behind
     → (chosen : Change) (plan : AreaPlan) → IsOf chosen span (page_of addr) (end_page addr len) kind
     (protected_kind prot kind) → IsNamedKind kind → IsNamedKind (protected_kind prot kind)
     → IsChosen row next chosen before behind plan
     → v.change ≡ planned_change plan → chosen.index ≡ row.index → IsAreaPlan v (Protect addr len prot) span (page_of addr) (end_page addr len) plan
-plan_made old a b v span row kind next before behind addr len prot held rest round limit is_kind read few fits undecided some_page
+plan_made old a b v span row kind next before behind addr len prot held rest round limit is_kind read reach undecided some_page
     from until shows one two three read_before read_behind chosen plan of_call named named_new is kept slot =
     let on : IsReading old v.seat = reading_on old b v.seat (reading_on old a b one two) three in
     let now : IsAsRead v.seat.pass row = as_read_on old.pass v.seat.pass row on.read read in
     let same : old.held ≡ v.seat.held = sym on.held in
-    plan_says v span row kind next before behind addr len prot (on.held ∙ held) (on.read.pending ∙ rest) round limit is_kind now few
-    (subst (λ (t : TableId). length (slots_of read.layout) ≤ room_of t) (sym on.table) fits)
+    plan_says v span row kind next before behind addr len prot (on.held ∙ held) (on.read.pending ∙ rest) round limit is_kind now
+    (subst (λ (t : TableId). AreInReach t (slots_of read.layout)) (sym on.table) reach)
     (before_on b.pass v.seat.pass (slots_of read.layout) row.index before three.read
     (subst (λ (l : Option (List ℕ)). IsReadBefore b.pass.rows (slots_by l) row.index before) (one.read.laid read.layout read.laid) read_before))
     (subst (λ (l : Option (List ℕ)). IsReadBehind v.seat.pass.rows (slots_by l) row.index next behind)
-    (two.read.laid read.layout (one.read.laid read.layout read.laid)) read_behind)
+    (one.read.laid read.layout read.laid) read_behind)
     undecided some_page from until
     (subst (λ (h : Option Held). Shows v.seat (RowIs h (page_of addr) row)) same (shows_on old v.seat (RowIs old.held (page_of addr) row) on shows))
     chosen plan slot of_call named named_new is kept

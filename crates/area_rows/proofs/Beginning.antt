@@ -297,7 +297,7 @@ opens grants start calls room words is areas named few fits callers enough small
 
 -- a caller with this seat and these rows, no rows that go, and no change of one row
 abbrev pub caller_with : SeatState Pass → ℕ → List ℕ → CallerView
-caller_with s left more = record { seat = s; left = left; count = 0; cut = record { first = 0; end = 0 }; more = more; change = None }
+caller_with s left more = record { seat = s; left = left; count = 0; cut = record { at = 0; gone = 0 }; more = more; change = None }
 
 -- before the first caller all seats wait
 pub first_seats : (lists : ℕ) (table : TableId) (p : ℕ → Pass) (seats : List (SeatState Pass))
@@ -332,7 +332,7 @@ pub one_caller : (lists : ℕ) (table : TableId) (start : List Area) (calls : Li
       seat = new_seat_in lists table (λ k. new_pass start (room_of table) (slice_index calls k)) n;
       left = slice_index calls n;
       count = 0;
-      cut = record { first = 0; end = 0 };
+      cut = record { at = 0; gone = 0 };
       more = [];
       change = None;
     } → AreNewCallersIn lists table start calls (made ++ c ∷ [])
@@ -341,7 +341,7 @@ one_caller lists table start calls made c n e all is =
       seat = new_seat_in lists table (λ j. new_pass start (room_of table) (slice_index calls j)) k;
       left = slice_index calls k;
       count = 0;
-      cut = record { first = 0; end = 0 };
+      cut = record { at = 0; gone = 0 };
       more = [];
       change = None;
     }) made c n e all is

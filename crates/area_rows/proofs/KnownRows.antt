@@ -1,21 +1,24 @@
 -- What a caller that holds everything knows of the rows: all of them from the load of the layout on, and the same ones
 -- after each load.
-use Rattle.std.proofs.Common.{◌≡◌, ℕ, zero, suc, ◌+◌, ◌<◌, cond, List, [], ◌∷◌, ◌++◌, length, get_or}
+use Rattle.std.proofs.Common.{◌≡◌, ℕ, zero, suc, ◌+◌, cond, List, [], ◌∷◌, ◌++◌, length, get_or}
 use Rattle.std.proofs.Common.{sym, refl, ap, ◌∙◌, subst, arith, inl, inr, eq-eqb, ne_eqb}
-use Rattle.std.specs.Prelude.{Some, slice_index}
+use Rattle.std.specs.Prelude.{Option, Some, None, slice_index}
 use mathlib.Core.Option.{some, some-injective, some-ne-none}
 use mathlib.Core.Logic.{dite}
 use lib.ListN.{get_elem?}
 use native.Mathlib.Decide.{ℕ_discrete}
+use Rattle.lock_core.proofs.ByPlace.{there}
+use Rattle.page_types.specs.declared.calls.Kind.{Kind}
 use Rattle.range_rw.specs.Contract.{SeatState}
 use Rattle.area_guard.specs.declared.guard.ReadRow.{ReadRow}
 use Rattle.area_guard.specs.declared.guard.Pass.{Pass}
-use Rattle.area_guard.specs.Rows.{slots_in, rows_in, IsOneOf}
+use Rattle.area_guard.specs.Rows.{slots_of, slots_in, rows_in, RowsShow}
 use Rattle.area_guard.specs.Reads.{HasRead, noted_at, slots_by, counts_of, word_of, words_of, known_rows, KnowsRows}
-use Rattle.area_guard.specs.History.{after_row, after_seen}
-use Rattle.area_guard.proofs.Slots.{slots_many, at_zero}
+use Rattle.area_guard.specs.History.{StillLaid, after_row, after_seen}
+use Rattle.area_guard.specs.Parts.{none_is}
+use Rattle.area_guard.proofs.Slots.{slots_many, rows_are}
 use Rattle.area_rows.specs.Callers.{IsReading, HasLoaded}
-use Rattle.area_rows.proofs.Moments.{at_row, same_by}
+use Rattle.area_rows.proofs.Moments.{same_by}
 
 -- as many words as slots
 pub words_many : (rows : List ReadRow) (slots : List ℕ) → length (words_of rows slots) ≡ length slots
@@ -93,12 +96,29 @@ seen_knows words p =
           (noted_read words (slots_in words) p.rows k slot at),
     )
 
--- and knows them, where each slot has a word
-pub seen_known : (words : List ℕ) (p : Pass) → length (slots_in words) ≡ length (rows_in words) → known_rows (after_seen words p) ≡ rows_in words
-seen_known words p wide =
+-- and knows them
+pub seen_known : (words : List ℕ) (kinds : ℕ → Option Kind) (p : Pass) → RowsShow words kinds → known_rows (after_seen words p) ≡ rows_in words
+seen_known words kinds p s =
     let rows = noted_at words (slots_in words) ++ p.rows in
-    let many = slots_many 0 (slice_index words 2) in
-    same_by (words_of rows (slots_in words)) (rows_in words) (words_many rows (slots_in words) ∙ wide)
+    let many = slots_many words kinds s in
+    same_by (words_of rows (slots_in words)) (rows_in words) (words_many rows (slots_in words) ∙ many)
     (λ i lt.
-    let at = at_zero (slice_index words 2) i (omega arith) in
-    word_at rows (slots_in words) i i at ∙ (noted_word words (slots_in words) p.rows i i at ∙ sym (at_row words i (omega arith))))
+    let n = there (slots_in words) i (omega arith) in
+    word_at rows (slots_in words) i n.0 n.1 ∙ (noted_word words (slots_in words) p.rows i n.0 n.1 ∙ sym (rows_are words kinds s i n.0 n.1)))
+
+slots_now : (words : List ℕ) (laid : Option (List ℕ)) (n : ℕ) → StillLaid words laid → counts_of laid ≡ Some n → slots_by laid ≡ slots_in words
+slots_now words None n still counts = absurd (none_is n counts)
+slots_now words (Some layout) n still counts = ap slots_of (sym (still layout refl))
+
+-- the rows of a moment are those that a caller knows, where the layout and each word that it has read are so still
+pub known_now : (words : List ℕ) (kinds : ℕ → Option Kind) (p : Pass) → RowsShow words kinds → StillLaid words p.laid → KnowsRows p
+    → ((slot word : ℕ) → HasRead p.rows slot word → slice_index words (3 + slot) ≡ word) → rows_in words ≡ known_rows p
+known_now words kinds p s still knows stand =
+    let slots = slots_now words p.laid (length (known_rows p)) still knows.0 in
+    let many = slots_many words kinds s in
+    let known = words_many p.rows (slots_by p.laid) in
+    let same : length (slots_by p.laid) ≡ length (slots_in words) = ap length slots in
+    same_by (rows_in words) (known_rows p) (omega arith)
+    (λ i lt.
+    let n = there (slots_by p.laid) i (omega arith) in
+    rows_are words kinds s i n.0 (ap (λ (l : List ℕ). get_elem? l i) (sym slots) ∙ n.1) ∙ stand n.0 (slice_index (known_rows p) i) (knows.1 i n.0 n.1))

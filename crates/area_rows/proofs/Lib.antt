@@ -1,6 +1,7 @@
 pub mod Halving
 pub mod Moments
 pub mod Gathering
+pub mod Neighbours
 pub mod Reading
 pub mod KnownRows
 pub mod Stepping

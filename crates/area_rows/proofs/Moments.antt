@@ -27,6 +27,7 @@ use Rattle.area_guard.specs.declared.guard.Pending.TheVariants.{AtRest, Planned,
 use Rattle.row_plans.specs.RowWords.{row_start}
 use Rattle.row_plans.specs.RowLists.{rows_start, ShowFrom, IsBareGap, areas_from}
 use Rattle.area_guard.specs.Rows.{rows_in, RowsShow}
+use Rattle.area_guard.proofs.Slots.{rows_many, shows_others}
 use Rattle.row_plans.specs.Plans.{PlanShows, IsRowList}
 use Rattle.area_guard.specs.Reads.{everything, IsHeldPage, HasRead, StillStands}
 use Rattle.area_guard.specs.History.{planned_calls, own_planned, planned_count, LagsAt, IsShown, RowsStandFor}
@@ -36,7 +37,7 @@ use Rattle.area_guard.specs.Parts.{planned_set}
 use Rattle.area_guard.specs.Writes.{everything_pages, clash}
 use Rattle.area_guard.specs.Beside.{apart_pages}
 use Rattle.area_guard.specs.RowStores.{in_span}
-use Rattle.row_plans.proofs.RowLists.{row_says, starts_low, areas_back}
+use Rattle.row_plans.proofs.RowLists.{starts_low, areas_back}
 
 -- what is held is a range
 pub held_some : (held : Option Held) → IsSome held → (h : Held) × (held ≡ Some h)
@@ -47,12 +48,6 @@ held_some (Some h) s = (h, refl)
 pub held_pages : (grants : Grants) (seat : ℕ) (held : Option Held) → get_elem? grants seat ≡ some held → IsSome held → IsHeldPages held → HoldsPages grants seat
 held_pages grants seat held at some_held pages = let h = held_some held some_held in (h.0, at ∙ ap some h.1, pages h.0 h.1)
 
--- the row words among the client words
-pub length-rows_in : (words : List ℕ) (kinds : ℕ → Option Kind) → RowsShow words kinds → length (rows_in words) ≡ slice_index words 2
-length-rows_in words kinds s =
-    let r = s.room in let d = length-drop 3 words in
-    length-take-le (slice_index words 2) (drop 3 words) (omega arith)
-
 -- the row word at place i of the list is the client word at place 3 + i
 pub at_row : (words : List ℕ) (i : ℕ) → i < slice_index words 2 → get_or (rows_in words) i 0 ≡ slice_index words (3 + i)
 at_row words i l = get_or-take (slice_index words 2) (drop 3 words) i 0 l ∙ get_or-drop 3 words i 0
@@ -61,17 +56,6 @@ at_row words i l = get_or-take (slice_index words 2) (drop 3 words) i 0 l ∙ ge
 pub first_start : (rows : List ℕ) (kinds : ℕ → Option Kind) → ShowFrom 0 rows kinds → 0 < length rows → row_start (get_or rows 0 0) ≡ 0
 first_start [] kinds s l = absurd (omega arith)
 first_start (w ∷ rest) kinds s l = s.0
-
--- so does the first row among the client words
-pub first_row : (words : List ℕ) (kinds : ℕ → Option Kind) → RowsShow words kinds → row_start (slice_index words 3) ≡ 0
-first_row words kinds s = let some = s.some in let l = length-rows_in words kinds s in
-    ap row_start (sym (at_row words 0 some)) ∙ first_start (rows_in words) kinds s.show (omega arith)
-
--- a row starts below the limit
-pub row_below : (words : List ℕ) (kinds : ℕ → Option Kind) (i : ℕ) → RowsShow words kinds → i < slice_index words 2
-    → row_start (slice_index words (3 + i)) < LIMIT
-row_below words kinds i s lt = let l = length-rows_in words kinds s in
-    subst (λ w. row_start w < LIMIT) (at_row words i lt) (row_says 0 (rows_in words) kinds i s.show (omega arith)).below
 
 -- lists that agree at each place
 pub same_by : (a b : List ℕ) → length a ≡ length b → ((i : ℕ) → i < length b → get_or a i 0 ≡ get_or b i 0) → a ≡ b
@@ -100,13 +84,7 @@ shows_agree page (w ∷ rest) kinds other same s =
 
 -- rows that show kinds show any others that are the same at each page below the limit
 pub rows_agree : (words : List ℕ) (kinds other : ℕ → Option Kind) → ((p : ℕ) → p < LIMIT → other p ≡ kinds p) → RowsShow words kinds → RowsShow words other
-rows_agree words kinds other same s = record {
-  room = s.room;
-  some = s.some;
-  few = s.few;
-  show = shows_agree 0 (rows_in words) kinds other same s.show;
-  gaps = s.gaps;
-}
+rows_agree words kinds other same s = shows_others words kinds s other (shows_agree 0 (rows_in words) kinds other same s.show)
 
 -- rows that show the kinds of an area list are that list's
 pub row_list : (rows : List ℕ) (A : List Area) → PlanShows rows (kind_at A) → areas_from rows ≡ A → IsRowList rows
@@ -181,16 +159,13 @@ in_everything page low = (everything, refl, omega arith, low)
 pub rows_are : (grants : Grants) (start : List Area) (history : List Entry) (state : List Area) (words : List ℕ)
     (passes : List Pass) (worker : ℕ) (p : Pass) (rows : List ℕ) → IsRunningSpace start history state words passes
     → AreBacked grants words state passes → IsExclusive grants → get_elem? passes worker ≡ some p
-    → Holds grants worker everything → IsAtRest p → slice_index words 2 ≡ length rows
-    → ((i : ℕ) → i < length rows → slice_index words (3 + i) ≡ slice_index rows i)
-    → PlanShows rows (kind_at state) × (areas_from rows ≡ state)
-rows_are grants start history state words passes worker p rows r backed exclusive at held rest count all =
+    → Holds grants worker everything → IsAtRest p → rows_in words ≡ rows → PlanShows rows (kind_at state) × (areas_from rows ≡ state)
+rows_are grants start history state words passes worker p rows r backed exclusive at held rest is =
     let pages : HoldsPages grants worker = (everything, held, everything_pages) in
     let s : RowsStandFor state passes words = r.rows (nobody_plans grants words state passes worker p exclusive backed at rest pages) in
     let few = s.2.few in
     let some_row = s.2.some in
-    let fits = s.2.room in
-    let is : rows_in words ≡ rows = rows_known words rows (omega arith) count all in
+    let count : length rows ≡ slice_index words 2 = ap length (sym is) ∙ rows_many words s.0 s.2 in
     let agree : (page : ℕ) → page < LIMIT → kind_at state page ≡ s.0 page =
     λ page low. sym (shows_held grants words state passes worker p exclusive backed at rest (Some everything) held s.0 s.1
     page (in_everything page low)) in

@@ -1,9 +1,11 @@
 -- One row word of a list is replaced: its start moves between those of its neighbours, or its kind changes to one that
 -- neither has. The rows then show the changed kinds.
-use Rattle.std.proofs.Common.{◌≡◌, ◌≢◌, ℕ, zero, suc, ◌+◌, ◌-◌, ◌<◌, ◌≤◌, ◌⊎◌, List, [], ◌∷◌, drop, length, get_or, set}
+use Rattle.std.proofs.Common.{◌≡◌, ◌≢◌, ℕ, zero, suc, ◌<◌, ◌≤◌, ◌⊎◌, List, [], ◌∷◌, drop, length, get_or, set}
 use Rattle.std.proofs.Common.{sym, refl, ap, ◌∙◌, subst, arith, inl, inr, ⊎_elim}
 use Rattle.std.proofs.lemmas.Bool.{cases_lt}
 use Rattle.std.specs.Prelude.{Option, Some, None}
+use mathlib.Core.Option.{some}
+use lib.ListN.{get_elem?}
 use Rattle.page_types.specs.declared.calls.Kind.{Kind}
 use Rattle.area_guard.specs.declared.guard.Change.{Change}
 use Rattle.area_rows.specs.declared.row.Row.{Row}
@@ -121,28 +123,28 @@ differs_like : (rows : List ℕ) (a b : ℕ) → row_kind b ≡ row_kind a → D
 differs_like [] a b same d = tt
 differs_like (w ∷ rest) a b same d = λ e. d (sym same ∙ e)
 
--- the row has these ends and this kind in the list, and its neighbours have these kinds
-pub record IsRowIn (rows : List ℕ) (row : Row) (before behind : Option Kind) : Type 0 where
-  -- the list has a row of that number
-  pub there : row.index < length rows
+-- the row has these ends and this kind at a place of the list, and its neighbours have these kinds
+pub record IsRowIn (rows : List ℕ) (k : ℕ) (row : Row) (before behind : Option Kind) : Type 0 where
+  -- the list has a row at that place
+  pub there : k < length rows
   -- this row starts where the row does
-  pub lo : row_start (get_or rows row.index 0) ≡ row.lo
+  pub lo : row_start (get_or rows k 0) ≡ row.lo
   -- what is behind it starts where the row ends
-  pub hi : rows_start (drop (suc row.index) rows) ≡ row.hi
+  pub hi : rows_start (drop (suc k) rows) ≡ row.hi
   -- it has the row's kind
-  pub kind : row_kind (get_or rows row.index 0) ≡ row.kind
+  pub kind : row_kind (get_or rows k 0) ≡ row.kind
   -- the row before it has the kind before, or there is none
-  pub left : ((row.index ≡ 0) × (before ≡ None)) ⊎ ((0 < row.index) × (row_kind (get_or rows (row.index - 1) 0) ≡ before))
+  pub left : ((k ≡ 0) × (before ≡ None)) ⊎ ((i : ℕ) × (suc i ≡ k) × (row_kind (get_or rows i 0) ≡ before))
   -- the row behind it has the kind behind, or there is none
-  pub right : ((suc row.index ≡ length rows) × (behind ≡ None)) ⊎ ((suc row.index < length rows) × (row_kind (get_or rows (suc row.index) 0) ≡ behind))
+  pub right : ((suc k ≡ length rows) × (behind ≡ None)) ⊎ ((suc k < length rows) × (row_kind (get_or rows (suc k) 0) ≡ behind))
 
 -- the row is first, or there is one before it
 pub first_or : (n : ℕ) → (n ≡ 0) ⊎ ((i : ℕ) × (suc i ≡ n))
 first_or zero = inl refl
 first_or (suc i) = inr (i, refl)
 
-module _ (rows : List ℕ) (kinds : ℕ → Option Kind) (row : Row) (before behind : Option Kind) (c : Change) (word : ℕ)
-    (show : ShowFrom 0 rows kinds) (f : IsRowIn rows row before behind)
+module _ (rows : List ℕ) (kinds : ℕ → Option Kind) (k : ℕ) (row : Row) (before behind : Option Kind) (c : Change) (word : ℕ)
+    (show : ShowFrom 0 rows kinds) (f : IsRowIn rows k row before behind)
     (old : row.kind ≡ Some c.old) (start : row_start word ≡ c.start) (kind : row_kind word ≡ Some c.kind)
     (from : row.lo ≤ c.place.lo) (pages : c.place.lo < c.place.hi) (until : c.place.hi ≤ row.hi) where
   -- pages beside the row keep their kind
@@ -152,80 +154,80 @@ module _ (rows : List ℕ) (kinds : ℕ → Option Kind) (row : Row) (before beh
   above_row : (p : ℕ) → row.hi ≤ p → with_change c kinds p ≡ kinds p
   above_row p ge = out_of_change c kinds p (λ i. let h = i.1 in absurd (omega arith))
 
-  own_row : ShownAt rows kinds row.index
-  own_row = shown_at 0 rows kinds row.index show f.there
+  own_row : ShownAt rows kinds k
+  own_row = shown_at 0 rows kinds k show f.there
 
   -- the row before, where there is one
-  row_before : (i : ℕ) → suc i ≡ row.index → ShownAt rows kinds i
+  row_before : (i : ℕ) → suc i ≡ k → ShownAt rows kinds i
   row_before i is = shown_at 0 rows kinds i show (let t = f.there in omega arith)
 
-  ends_here : (i : ℕ) → suc i ≡ row.index → rows_start (drop (suc i) rows) ≡ row.lo
-  ends_here i is = ap (λ n. rows_start (drop n rows)) is ∙ (next_is rows row.index f.there ∙ f.lo)
+  ends_here : (i : ℕ) → suc i ≡ k → rows_start (drop (suc i) rows) ≡ row.lo
+  ends_here i is = ap (λ n. rows_start (drop n rows)) is ∙ (next_is rows k f.there ∙ f.lo)
 
-  kind_before_is : (i : ℕ) → suc i ≡ row.index → row_kind (get_or rows i 0) ≡ before
+  kind_before_is : (i : ℕ) → suc i ≡ k → row_kind (get_or rows i 0) ≡ before
   kind_before_is i is = ⊎_elim
       (λ t. absurd (let z = t.0 in omega arith))
-      (λ t. ap (λ n. row_kind (get_or rows n 0)) (let e : i ≡ row.index - 1 = omega arith in e) ∙ t.1)
+      (λ t. ap (λ n. row_kind (get_or rows n 0)) (let s = t.1 in let e : i ≡ t.0 = omega arith in e) ∙ t.2)
       f.left
 
-  differs_behind : behind ≢ Some c.kind → DiffersFrom word (drop (suc row.index) rows)
-  differs_behind no_match = differs_drop rows (suc row.index) word (λ lt same. ⊎_elim
+  differs_behind : behind ≢ Some c.kind → DiffersFrom word (drop (suc k) rows)
+  differs_behind no_match = differs_drop rows (suc k) word (λ lt same. ⊎_elim
       (λ t. absurd (let e = t.0 in omega arith))
       (λ t. no_match (sym t.1 ∙ (sym same ∙ kind)))
       f.right)
 
   -- the whole row gets another kind
   whole_shows : c.start ≡ row.lo → c.kind ≡ c.new → c.place.lo ≡ row.lo → c.place.hi ≡ row.hi → before ≢ Some c.new
-      → behind ≢ Some c.new → ShowFrom 0 (set rows row.index word) (with_change c kinds)
+      → behind ≢ Some c.new → ShowFrom 0 (set rows k word) (with_change c kinds)
   whole_shows at new lo hi not_before not_behind =
       let is_new : row_kind word ≡ Some c.new = kind ∙ ap Some new in
-      let next : DiffersFrom word (drop (suc row.index) rows) = differs_behind (λ e. not_behind (e ∙ ap Some new)) in
+      let next : DiffersFrom word (drop (suc k) rows) = differs_behind (λ e. not_behind (e ∙ ap Some new)) in
       let mine : (p : ℕ) → row.lo ≤ p → p < row.hi → with_change c kinds p ≡ row_kind word =
       λ p low high. in_change c kinds p (omega arith, omega arith) ∙ sym is_new in
       let end = f.hi in
       ⊎_elim
-      (λ (z : row.index ≡ 0).
+      (λ (z : k ≡ 0).
       let none : row.lo ≡ 0 = sym f.lo ∙ (ap (λ n. row_start (get_or rows n 0)) z ∙ first_start rows kinds show (let t = f.there in omega arith)) in
       let end_z : rows_start (drop 1 rows) ≡ row.hi = ap (λ n. rows_start (drop (suc n) rows)) (sym z) ∙ f.hi in
       subst (λ n. ShowFrom 0 (set rows n word) (with_change c kinds)) (sym z)
       (set_first_shows rows word kinds (with_change c kinds) show (let t = f.there in omega arith) (start ∙ (at ∙ none))
       (subst (λ n. DiffersFrom word (drop (suc n) rows)) z next)
       (λ p less. mine p (omega arith) (omega arith)) (λ p ge. above_row p (omega arith))))
-      (λ (t : (i : ℕ) × (suc i ≡ row.index)).
+      (λ (t : (i : ℕ) × (suc i ≡ k)).
       let i = t.0 in
       let b = row_before i t.1 in
       let e = ends_here i t.1 in
       let grows = b.grows in
-      let k = kind_before_is i t.1 in
+      let of_before = kind_before_is i t.1 in
       let after : rows_start (drop (suc (suc i)) rows) ≡ row.hi = ap (λ n. rows_start (drop (suc n) rows)) t.1 ∙ f.hi in
       subst (λ n. ShowFrom 0 (set rows n word) (with_change c kinds)) t.1
       (set_row_shows 0 rows i word kinds (with_change c kinds) show (let there = f.there in let s = t.1 in omega arith) (record {
         above = omega arith;
         under = omega arith;
-        differs = λ same. not_before (sym k ∙ (same ∙ is_new));
+        differs = λ same. not_before (sym of_before ∙ (same ∙ is_new));
         next = subst (λ n. DiffersFrom word (drop (suc n) rows)) (sym t.1) next;
         left = λ p low high. below_row p (omega arith) ∙ b.within p low (omega arith);
         own = λ p low high. mine p (omega arith) (omega arith);
         low = λ p less. below_row p (omega arith);
         high = λ p ge. above_row p (omega arith);
       })))
-      (first_or row.index)
+      (first_or k)
 
   -- the row's first pages go to the row before it
   first_shows : c.start ≡ c.place.hi → c.kind ≡ c.old → c.place.lo ≡ row.lo → c.place.hi < row.hi → before ≡ Some c.new
-      → ShowFrom 0 (set rows row.index word) (with_change c kinds)
+      → ShowFrom 0 (set rows k word) (with_change c kinds)
   first_shows at same_kind lo hi is_before =
-      let as_was : row_kind word ≡ row_kind (get_or rows row.index 0) = kind ∙ (ap Some same_kind ∙ (sym old ∙ sym f.kind)) in
+      let as_was : row_kind word ≡ row_kind (get_or rows k 0) = kind ∙ (ap Some same_kind ∙ (sym old ∙ sym f.kind)) in
       ⊎_elim
-      (λ (z : row.index ≡ 0). absurd (⊎_elim (λ t. some_none c.new before t.1 is_before) (λ t. let n = t.0 in absurd (omega arith)) f.left))
-      (λ (t : (i : ℕ) × (suc i ≡ row.index)).
+      (λ (z : k ≡ 0). absurd (⊎_elim (λ t. some_none c.new before t.1 is_before) (λ t. let n = t.1 in absurd (omega arith)) f.left))
+      (λ (t : (i : ℕ) × (suc i ≡ k)).
       let i = t.0 in
       let b = row_before i t.1 in
       let e = ends_here i t.1 in
       let grows = b.grows in
-      let k : row_kind (get_or rows i 0) ≡ Some c.new = kind_before_is i t.1 ∙ is_before in
+      let of_before : row_kind (get_or rows i 0) ≡ Some c.new = kind_before_is i t.1 ∙ is_before in
       let after : rows_start (drop (suc (suc i)) rows) ≡ row.hi = ap (λ n. rows_start (drop (suc n) rows)) t.1 ∙ f.hi in
-      let was : row_kind (get_or rows i 0) ≢ row_kind (get_or rows row.index 0) =
+      let was : row_kind (get_or rows i 0) ≢ row_kind (get_or rows k 0) =
       subst (λ n. row_kind (get_or rows i 0) ≢ row_kind (get_or rows n 0)) t.1
       (differs_at rows (suc i) (get_or rows i 0) (let there = f.there in let s = t.1 in omega arith) b.differs) in
       let own_start = f.lo in
@@ -235,25 +237,25 @@ module _ (rows : List ℕ) (kinds : ℕ → Option Kind) (row : Row) (before beh
         under = omega arith;
         differs = λ same. was (same ∙ as_was);
         next = subst (λ n. DiffersFrom word (drop (suc n) rows)) (sym t.1)
-            (differs_like (drop (suc row.index) rows) (get_or rows row.index 0) word as_was own_row.differs);
+            (differs_like (drop (suc k) rows) (get_or rows k 0) word as_was own_row.differs);
         left = λ p low high. elim (cases_lt p row.lo) [
           | inl less ↦ below_row p less ∙ b.within p low (omega arith)
-          | inr ge ↦ in_change c kinds p (omega arith, omega arith) ∙ sym k
+          | inr ge ↦ in_change c kinds p (omega arith, omega arith) ∙ sym of_before
         ];
         own = λ p low high. out_of_change c kinds p (λ j. let h = j.1 in absurd (omega arith))
             ∙ (own_row.within p (omega arith) (let h = f.hi in omega arith) ∙ sym as_was);
         low = λ p less. below_row p (omega arith);
         high = λ p ge. above_row p (omega arith);
       })))
-      (first_or row.index)
+      (first_or k)
 
   -- the row's last pages go to the row behind it
   last_shows : c.start ≡ c.place.lo → c.kind ≡ c.new → row.lo < c.place.lo → c.place.hi ≡ row.hi → behind ≡ Some c.new
-      → ShowFrom 0 (set rows (suc row.index) word) (with_change c kinds)
+      → ShowFrom 0 (set rows (suc k) word) (with_change c kinds)
   last_shows at new lo hi is_behind = ⊎_elim
-      (λ (t : (suc row.index ≡ length rows) × (behind ≡ None)). absurd (some_none c.new behind t.1 is_behind))
-      (λ (t : (suc row.index < length rows) × (row_kind (get_or rows (suc row.index) 0) ≡ behind)).
-      let i = row.index in
+      (λ (t : (suc k ≡ length rows) × (behind ≡ None)). absurd (some_none c.new behind t.1 is_behind))
+      (λ (t : (suc k < length rows) × (row_kind (get_or rows (suc k) 0) ≡ behind)).
+      let i = k in
       let next_row = shown_at 0 rows kinds (suc i) show t.0 in
       let begins : row_start (get_or rows (suc i) 0) ≡ row.hi = sym (next_is rows (suc i) t.0) ∙ f.hi in
       let grows = next_row.grows in
@@ -275,12 +277,12 @@ module _ (rows : List ℕ) (kinds : ℕ → Option Kind) (row : Row) (before beh
       }))
       f.right
 
-  -- so the rows show the changed kinds
-  pub replaced_shows : IsOneStore row.index (row.index + 1) row before behind c → ShowFrom 0 (set rows c.index word) (with_change c kinds)
-  replaced_shows (whole index at new lo hi not_before not_behind) =
-      subst (λ n. ShowFrom 0 (set rows n word) (with_change c kinds)) (sym index) (whole_shows at new lo hi not_before not_behind)
-  replaced_shows (first_part index at same_kind lo hi is_before) =
-      subst (λ n. ShowFrom 0 (set rows n word) (with_change c kinds)) (sym index) (first_shows at same_kind lo hi is_before)
-  replaced_shows (last_part index at new lo hi is_behind) =
-      subst (λ n. ShowFrom 0 (set rows n word) (with_change c kinds))
-      (sym (let s : row.index + 1 ≡ suc row.index = omega arith in index ∙ s)) (last_shows at new lo hi is_behind)
+  -- so the rows show the changed kinds, with the word at the place of the slot that the change names
+  pub replaced_shows : (slots : List ℕ) (slot next : ℕ) → get_elem? slots k ≡ some slot → (behind ≡ Some c.new → get_elem? slots (suc k) ≡ some next)
+      → IsOneStore slot next row before behind c → (n : ℕ) × (get_elem? slots n ≡ some c.index) × ShowFrom 0 (set rows n word) (with_change c kinds)
+  replaced_shows slots slot next here there (whole index at new lo hi not_before not_behind) =
+      (k, here ∙ ap some (sym index), whole_shows at new lo hi not_before not_behind)
+  replaced_shows slots slot next here there (first_part index at same_kind lo hi is_before) =
+      (k, here ∙ ap some (sym index), first_shows at same_kind lo hi is_before)
+  replaced_shows slots slot next here there (last_part index at new lo hi is_behind) =
+      (suc k, there is_behind ∙ ap some (sym index), last_shows at new lo hi is_behind)

@@ -22,8 +22,8 @@ use Rattle.area_guard.specs.declared.guard.Pass.{Pass}
 use Rattle.area_guard.specs.declared.guard.Pending.{Pending}
 use Rattle.area_guard.specs.declared.guard.Splice.{Splice}
 use Rattle.row_plans.specs.declared.planning.Cut.{Cut}
-use Rattle.area_guard.specs.Rows.{layout_in, slots_of, slot_at, slots_in, IsOneOf, room_of, rows_in}
-use Rattle.area_guard.proofs.Slots.{slots_many}
+use Rattle.area_guard.specs.Rows.{layout_in, slots_of, slot_at, slots_in, IsOneOf, IsInReach, room_of, rows_in}
+use Rattle.area_guard.proofs.Slots.{rows_many, slots_many, first_slot, slot_reach}
 use Rattle.area_guard.specs.Writes.{everything_pages}
 use Rattle.area_guard.specs.declared.guard.Pending.TheVariants.{AtRest, Planned, OneRow}
 use Rattle.row_plans.specs.RowWords.{row_start}
@@ -31,19 +31,20 @@ use Rattle.row_plans.specs.Plans.{IsRowList}
 use Rattle.area_rows.specs.Halving.{IsOnSameSide}
 use Rattle.area_guard.specs.Reads.{everything, slots_by, counts_of, IsHeldPage, HasRead, words_of, known_rows, KnowsRows, StillStands}
 use Rattle.area_guard.specs.History.{Runs, StartsWith, planned_calls, RowsStandFor, HasHistory, Allowed, Here, MayLoad}
-use Rattle.area_guard.specs.History.{MayAdd, IsAtRest, IsRight, Leaves, FitsIn, HoldsFor, HoldsJust, HoldsPages, pending_of, entry_of}
+use Rattle.area_guard.specs.History.{MayAdd, IsAtRest, IsRight, Leaves, FitsIn, HoldsFor, HoldsJust, pending_of, entry_of}
 use Rattle.area_guard.specs.History.{after_look, after_seen, after_sequence, after_row, after_draw, rows_after}
 use Rattle.area_guard.specs.History.MayLoad.{number, glance, sequence, count, row}
 use Rattle.area_guard.specs.History.MayAdd.{draw, raise}
-use Rattle.area_rows.specs.Callers.{CallerView, HasSameRows, plan_of, IsKnown, HasToWrite, HasToStore, IsReadRound, IsReadBefore, IsReadBehind}
-use Rattle.area_rows.specs.Callers.{IsRowEnd, IsHeldPages, IsMoment, Shows, KeepsRead, KeepsRows, CountsWhole}
+use Rattle.area_rows.specs.Callers.{CallerView, HasSameRows, plan_of, IsKnown, HasToWrite, HasToStore, IsReadIn, IsReadRound, IsReadBefore, IsReadBehind}
+use Rattle.area_rows.specs.Callers.{AreInReach, IsHeldPages, IsMoment, Shows, KeepsRead, KeepsRows, CountsWhole}
 use Rattle.area_rows.specs.Callers.{IsReading, IsLook, IsNumbered, IsDrawn, IsClientStep}
 use Rattle.area_guard.specs.Draws.{draw_pending, draw_mine, draw_seen, draw_start, draw_drew, draw_looks, draw_room, draw_most, plan_fits}
 use Rattle.area_guard.specs.Keeping.{no_note}
 use Rattle.area_guard.specs.Parts.{none_is}
-use Rattle.area_rows.proofs.Reading.{known_in, step_reads}
-use Rattle.area_rows.proofs.Moments.{length-rows_in, at_row}
-use Rattle.area_rows.proofs.Moments.{held_some, held_pages, first_row, row_below, row_list, stands, only_own_plan, nobody_plans, rows_are, here_at, moment_of}
+use Rattle.area_rows.proofs.Reading.{step_reads}
+use Rattle.area_rows.proofs.Neighbours.{slot_now, first_row, word_says}
+use Rattle.area_rows.proofs.KnownRows.{seen_known}
+use Rattle.area_rows.proofs.Moments.{held_some, held_pages, row_list, stands, only_own_plan, nobody_plans, rows_are, here_at, moment_of}
 
 module _ (own : Option Held → Type 0) (free held : Type 0) (words : List ℕ) (history : List Entry) (p after : Pass) where
   -- what a load tells of the pass
@@ -155,38 +156,41 @@ module _ (note : Note) (seat : ℕ) (held : Option Held) (pass : Pass) where
   whole_list : (grants : Grants) (words : List ℕ) (passes : List Pass) (here : Here grants words passes seat) → IsAtRest here.pass
       → Holds grants seat everything → IsRowList (rows_in words)
   whole_list grants words passes here rest holds =
-      let pages : HoldsPages grants seat = (everything, holds, everything_pages) in
-      let rows : RowsStandFor here.state passes words =
-      here.running.rows (nobody_plans grants words here.state passes seat here.pass here.exclusive here.backed here.own rest pages) in
       let are = rows_are grants here.start here.history here.state words passes seat here.pass (rows_in words) here.running here.backed
-      here.exclusive here.own holds rest (sym (length-rows_in words rows.0 rows.2))
-      (λ i lt. sym (at_row words i (let w = length-rows_in words rows.0 rows.2 in omega arith))) in
+      here.exclusive here.own holds rest refl in
       row_list (rows_in words) here.state are.0 are.1
 
   module _ (found : ℕ) (after : Pass) where
     -- a load of the row count is kept in the pass, with the layout and all rows of the moment: at least one, at most as
     -- many as there may be and as there is room for, and the layout is the one that was found before. Where everything
-    -- is held they are a list of rows
+    -- is held they are a list of rows. All of them are known then, and their slots are in reach
     pub counts : IsSome held → IsHeldPages held → IsAtRest pass
         → IsMade HasHistory Allowed note seat held pass (loads 2) found after
         → (words : List ℕ) × (length (rows_in words) ≡ found) × (length (slots_in words) ≡ found) × (after ≡ after_seen words pass)
         × ((layout : List ℕ) → pass.laid ≡ Some layout → layout_in words ≡ layout) × (held ≡ Some everything → IsRowList (rows_in words))
-        × (0 < found) × (found ≤ ROWS) × (found ≤ pass.room)
+        × (0 < found) × (found ≤ ROWS) × (found ≤ pass.room) × (known_rows after ≡ rows_in words)
+        × ((slot : ℕ) → IsOneOf (slots_by after.laid) slot → IsInReach pass.room slot)
     counts some_held pages rest s =
         let m = s.3 in let here = s.5.0 in
         let same : here.pass ≡ pass = some-injective here.pass pass (sym here.own ∙ m.own) in
         let rows : RowsStandFor here.state s.2 s.1 = rows_here s.0 s.1 s.2 here some_held pages m.grant (ap (λ (x : Pass). x.pending) same ∙ rest) in
         let some_rows = rows.2.some in let few = rows.2.few in let fits = rows.2.room in let e = s.4 in
-        let room = (here.running.parts seat here.pass here.own).room in (
+        let part = here.running.parts seat here.pass here.own in
+        let room = part.room in
+        let seen : after ≡ after_seen s.1 pass = count_tells _ _ _ s.1 here.history here.pass after s.5.1 ∙ (λ i. after_seen s.1 (same i)) in (
           s.1,
-          length-rows_in s.1 rows.0 rows.2 ∙ e,
-          slots_many 0 (slice_index s.1 2) ∙ e,
-          count_tells _ _ _ s.1 here.history here.pass after s.5.1 ∙ (λ i. after_seen s.1 (same i)),
+          rows_many s.1 rows.0 rows.2 ∙ e,
+          slots_many s.1 rows.0 rows.2 ∙ (rows_many s.1 rows.0 rows.2 ∙ e),
+          seen,
           λ layout laid. (here.running.parts seat here.pass here.own).laid layout (ap (λ (x : Pass). x.laid) same ∙ laid),
           λ all. whole_list s.0 s.1 s.2 here (ap (λ (x : Pass). x.pending) same ∙ rest) (m.grant ∙ ap some all),
           omega arith,
           omega arith,
           subst (λ (x : Pass). found ≤ x.room) same (omega arith),
+          ap known_rows seen ∙ seen_known s.1 rows.0 pass rows.2,
+          λ slot there. subst (λ (x : Pass). IsInReach x.room slot) same
+              (slot_reach s.1 rows.0 rows.2 here.start here.history seat here.pass part slot
+              (subst (λ (x : Pass). IsOneOf (slots_by x.laid) slot) seen there)),
         )
 
     -- a load of a row is kept in the pass: the first one starts at page 0, and each that is counted below the limit
@@ -200,13 +204,11 @@ module _ (note : Note) (seat : ℕ) (held : Option Held) (pass : Pass) where
         let rows : RowsStandFor here.state s.2 s.1 = rows_here s.0 s.1 s.2 here some_held pages m.grant (ap (λ (x : Pass). x.pending) same ∙ rest) in
         let e = s.4 in (
           row_tells _ _ _ s.1 here.history here.pass after index s.5.1 ∙ (λ i. after_row index (e i) (same i)),
-          λ none. ap row_start (sym e ∙ ap (λ n. slice_index s.1 (3 + n)) none) ∙ first_row s.1 rows.0 rows.2,
-          λ there.
-              let l = known_in pass.laid index there in
-              let laid = (here.running.parts seat here.pass here.own).laid l.0 (ap (λ (x : Pass). x.laid) same ∙ l.1) in
-              let count : slice_index s.1 2 ≡ slice_index l.0 0 = ap (λ (layout : List ℕ). slice_index layout 0) laid in
-              let few = l.2 in
-              subst (λ w. row_start w < LIMIT) e (row_below s.1 rows.0 index rows.2 (omega arith)),
+          λ none. ap row_start (sym e ∙ ap (λ n. slice_index s.1 (3 + n)) none)
+              ∙ first_row s.1 rows.0 rows.2 0 (first_slot s.1 rows.0 rows.2),
+          λ there. subst (λ w. row_start w < LIMIT) e (word_says s.1 rows.0 rows.2 index
+              (slot_now s.1 here.pass.laid index (here.running.parts seat here.pass here.own).laid
+              (subst (λ (x : Pass). IsOneOf (slots_by x.laid) index) (sym same) there))).below,
         )
 
     -- a row that was read before starts on the same side of each held page
@@ -398,7 +400,7 @@ writes_plan before after e under same room held d whole known few =
     let same_room = d.room in
     let rows : known_rows after.seat.pass ≡ known_rows before.seat.pass = λ i. words_of (k.1 i) (slots_by (k.0 i)) in
     let plan : plan_of after ≡ plan_of before =
-    λ i. record { old = rows i; first = (same.cut i).first; end = (same.cut i).end; more = same.more i } in
+    λ i. record { old = rows i; first = (same.cut i).at; end = (same.cut i).at + (same.cut i).gone; more = same.more i } in
     let stood = known.fits in
     let counted = same.count in
     record {
@@ -409,8 +411,8 @@ writes_plan before after e under same room held d whole known few =
         list = subst IsRowList (sym rows) known.list;
         counted = same.count ∙ (known.counted ∙ ap length (sym rows));
         fits = omega arith;
-        ordered = subst (λ (c : Cut). c.first ≤ c.end) (sym same.cut) known.ordered;
-        there = subst (λ (z : Cut × ℕ). z.0.end ≤ z.1) (λ i. (sym same.cut i, sym same.count i)) known.there;
+        at = subst (λ (z : Cut ℕ × ℕ). z.0.at < z.1) (λ i. (sym same.cut i, sym same.count i)) known.at;
+        there = subst (λ (z : Cut ℕ × ℕ). z.0.at + z.0.gone ≤ z.1) (λ i. (sym same.cut i, sym same.count i)) known.there;
       };
       few = subst (λ (s : Splice). length (rows_after s) ≤ ROWS) (sym plan) few;
       fits = subst (λ (s : Splice). length (rows_after s) ≤ room_of after.seat.table) (sym plan) (omega arith);
@@ -433,15 +435,9 @@ round_on a b change same_table same_held same_laid same_rows r =
       read = record {
         layout = read.layout;
         laid = same_laid ∙ read.laid;
-        there = read.there;
-        word = read.word;
-        read = subst (λ (l : List ReadRow). HasRead l (slot_at read.layout r.row.index) read.word) (sym same_rows) read.read;
-        lo = read.lo;
-        kind = read.kind;
-        hi = subst (λ (l : List ReadRow). IsRowEnd l (slots_of read.layout) (slot_at read.layout r.row.index) r.row.hi) (sym same_rows) read.hi;
+        in_slot = subst (λ (l : List ReadRow). IsReadIn l (slots_of read.layout) (slot_at read.layout r.row.index) r.row) (sym same_rows) read.in_slot;
       };
-      few = r.few;
-      fits = subst (λ (t : TableId). length (slots_of read.layout) ≤ room_of t) (sym same_table) r.fits;
+      reach = subst (λ (t : TableId). AreInReach t (slots_of read.layout)) (sym same_table) r.reach;
       kind = r.kind;
       named = r.named;
       read_before = subst (λ (l : List ReadRow). IsReadBefore l (slots_of read.layout) (slot_at read.layout r.row.index) r.before)

@@ -224,6 +224,7 @@ writing_on a b c f g = record {
   looks = g.looks ∙ f.looks;
   pending = g.pending ∙ f.pending;
   taken = let l = f.taken in let m = g.taken in omega arith;
+  asked = g.asked ∙ f.asked;
 }
 
 -- no step at all is a writing
@@ -243,6 +244,7 @@ no_writing a = record {
   looks = refl;
   pending = refl;
   taken = omega arith;
+  asked = refl;
 }
 
 -- a pass that knows another layout and other rows
@@ -267,6 +269,7 @@ step_writes a b place laid rows s = record {
   looks = ap (λ (x : Pass). x.looks) s.pass;
   pending = ap (λ (x : Pass). x.pending) s.pass;
   taken = let l : b.trace.taken ≡ a.trace.taken + 1 = ap (λ (r : Record). r.taken) s.trace in omega arith;
+  asked = ap (λ (r : Record). r.asked) s.trace;
 }
 
 -- so is the store of a row
@@ -290,7 +293,7 @@ may_write_plan table v s same is held has =
       table_is = is;
       held = held;
       pending = has.pending ∙ ap Planned (sym plan);
-      ordered = subst (λ (p : Splice). p.first ≤ p.end) (sym plan) has.known.ordered;
+      ordered = subst (λ (p : Splice). p.first ≤ p.end) (sym plan) (omega arith);
       there = subst (λ (p : Splice). p.end ≤ length p.old) (sym plan) (let c = has.known.counted in let t = has.known.there in omega arith);
       list = subst (λ (p : Splice). IsRowList p.old) (sym plan) has.known.list;
       stood = subst (λ (p : Splice). length p.old ≤ room_of v.seat.table) (sym plan)
@@ -323,6 +326,7 @@ all_written a b c w s = record {
   client = ap (λ (r : Record). r.client) s.trace;
   since = w.taken;
   until = let l : c.trace.taken ≡ b.trace.taken + 1 = ap (λ (r : Record). r.taken) s.trace in omega arith;
+  asked = ap (λ (r : Record). r.asked) s.trace ∙ w.asked;
   start = ap (λ (x : Pass). x.start) s.pass ∙ w.start;
   seen = ap (λ (x : Pass). x.seen) s.pass ∙ w.seen;
   mine = ap (λ (x : Pass). x.mine) s.pass ∙ w.mine;

@@ -1,6 +1,6 @@
 -- A call in one piece: its parts make the whole, whether its arguments decide it or the rows do.
-use Rattle.std.proofs.Common.{◌≡◌, ℕ, ◌+◌, ◌<◌, List, [], ◌∷◌, ◌++◌, length, sym, refl, ap, ◌∙◌, subst, arith, inl}
-use Rattle.std.specs.Prelude.{All, Option, Some, None, MatchOption, slice_index}
+use Rattle.std.proofs.Common.{◌≡◌, ℕ, ◌+◌, List, [], ◌∷◌, ◌++◌, sym, refl, ap, ◌∙◌, subst, arith, inl}
+use Rattle.std.specs.Prelude.{All, Option, Some, None, MatchOption}
 use mathlib.Core.Option.{some}
 use lib.ListN.{get_elem?}
 use Rattle.page_types.specs.declared.calls.Call.{Call}
@@ -24,11 +24,10 @@ use Rattle.area_guard.specs.Rows.{rows_in}
 use Rattle.area_guard.specs.Reads.{everything, known_rows, KnowsRows, StillStands}
 use Rattle.area_guard.specs.History.{StartsWith, Runs, RowsStandFor, IsAtRest, HoldsFor, rest_of}
 use Rattle.area_guard.specs.Writes.{everything_pages}
-use Rattle.area_guard.proofs.Slots.{counts_now}
-use Rattle.area_rows.proofs.Numbers.{counts_on, row_read}
 use Rattle.area_rows.specs.Callers.{CallerView, IsMoment, MayNumber, IsKnown, HasPlanned, IsReading, IsNumbered, IsDrawn, IsWritten}
 use Rattle.area_rows.specs.Called.{IsLastStep, IsCalled}
-use Rattle.area_rows.proofs.Moments.{stands, nobody_plans, rows_known, rows_are}
+use Rattle.area_rows.proofs.Moments.{stands, nobody_plans, rows_are}
+use Rattle.area_rows.proofs.KnownRows.{known_now}
 
 -- what is held fits a call where its arguments don't decide it, and where they do
 pub match_none : (o : Option Reply) (P : Type 0) (Q : Reply → Type 0) → o ≡ None → P → MatchOption o P Q
@@ -61,42 +60,34 @@ fits_whole A (Remap addr old new may hint) no_fault = refl
 -- the row words of a moment are those that a caller knows which holds everything
 pub rows_now : (c : CallerView) → c.seat.held ≡ Some everything → IsAtRest c.seat.pass → KnowsRows c.seat.pass
     → (start : List Area) (history : List Entry) (state : List Area) (words : List ℕ) → IsMoment c.seat start history state words
-    → (slice_index words 2 ≡ length (known_rows c.seat.pass))
-    × ((i : ℕ) → i < length (known_rows c.seat.pass) → slice_index words (3 + i) ≡ slice_index (known_rows c.seat.pass) i)
-    × (rows_in words ≡ known_rows c.seat.pass)
+    → rows_in words ≡ known_rows c.seat.pass
 rows_now c held rest knows start history state words m =
-    let rows = known_rows c.seat.pass in
     let granted : get_elem? m.grants c.seat.number ≡ some (Some everything) = m.granted ∙ ap some held in
     let stood : All (StillStands (Some everything) words) m.pass.rows = (m.backed c.seat.number m.pass m.own).rows (Some everything) granted in
     let part = m.running.parts c.seat.number m.pass m.own in
-    let counted : slice_index words 2 ≡ length rows = counts_now words m.pass.laid (length rows) part.laid
-    (counts_on c.seat.pass.laid m.pass.laid (length rows) m.read.laid knows.0) in
-    let word : (i : ℕ) → i < length rows → slice_index words (3 + i) ≡ slice_index rows i = λ i lt.
-    (stands (Some everything) words m.pass.rows i (slice_index rows i) stood
-    (m.read.rows i (slice_index rows i) (row_read c.seat.pass rows knows i lt))).word refl in
     let stand : RowsStandFor state m.passes words =
     m.running.rows (nobody_plans m.grants words state m.passes c.seat.number m.pass m.exclusive m.backed m.own
     (m.read.pending ∙ rest) (everything, granted, everything_pages)) in
-    let room = stand.2.room in
-    (counted, word, rows_known words rows (omega arith) counted word)
+    known_now words stand.0 c.seat.pass stand.2 (λ layout e. part.laid layout (m.read.laid layout e)) knows
+    (λ slot word has. (stands (Some everything) words m.pass.rows slot word stood (m.read.rows slot word has)).word refl)
 
 -- and may be numbered with what its plan says
 pub planned_right : (c : CallerView) (call : Call) (reply : Reply) (count : ℕ) → HasPlanned call reply count c
     → c.seat.held ≡ Some everything → IsAtRest c.seat.pass → plain_reply call ≡ None → (IsFault call → ⊥) → MayNumber c call reply Whole
 planned_right c call reply count planned held rest undecided no_fault start history state words m =
     let p = planned.shows start history state words m in
-    let rows = (rows_now c held rest planned.known.rows start history state words m).2 in (
+    let rows = rows_now c held rest planned.known.rows start history state words m in (
       p.left,
       record {
         fits = match_none (plain_reply call) (FitsByState state call Whole) (λ (_ : Reply). Whole ≡ Nothing) undecided (fits_whole state call no_fault);
         answers = p.answers;
       },
-      subst (λ (l : List ℕ). PlanShows (spliced l c.cut c.more) (kind_at p.left)) rows p.shows,
+      subst (λ (l : List ℕ). PlanShows (spliced (λ (at : ℕ). at) l c.cut c.more) (kind_at p.left)) rows p.shows,
     )
 
 -- the plan of a call on the rows that are known is its plan at every moment until they change
 pub plan_shows : (c : CallerView) (call : Call) (reply : Reply) (count : ℕ) → c.seat.held ≡ Some everything → IsAtRest c.seat.pass
-    → IsKnown c → IsPlan call reply count (spliced (known_rows c.seat.pass) c.cut c.more) (areas_from (known_rows c.seat.pass))
+    → IsKnown c → IsPlan call reply count (spliced (λ (at : ℕ). at) (known_rows c.seat.pass) c.cut c.more) (areas_from (known_rows c.seat.pass))
     → HasPlanned call reply count c
 plan_shows c call reply count held rest known plan = record {
   shows = λ start history state words m.
@@ -104,8 +95,8 @@ plan_shows c call reply count held rest known plan = record {
       let granted : get_elem? m.grants c.seat.number ≡ some (Some everything) = m.granted ∙ ap some held in
       let now = rows_now c held rest known.rows start history state words m in
       let are = rows_are m.grants start history state words m.passes c.seat.number m.pass rows m.running m.backed m.exclusive
-      m.own granted (m.read.pending ∙ rest) now.0 now.1 in
-      subst (λ (z : List ℕ × List Area). IsPlan call reply count (spliced z.0 c.cut c.more) z.1) (λ i. (sym now.2 i, are.1 i)) plan;
+      m.own granted (m.read.pending ∙ rest) now in
+      subst (λ (z : List ℕ × List Area). IsPlan call reply count (spliced (λ (at : ℕ). at) z.0 c.cut c.more) z.1) (λ i. (sym now i, are.1 i)) plan;
   known = known;
 }
 

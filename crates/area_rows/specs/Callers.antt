@@ -32,7 +32,8 @@ use Rattle.area_rows.specs.declared.space.SpaceFault.{SpaceFault}
 use Rattle.area_rows.specs.declared.space.SpaceFault.TheVariants.{Callers, Rows, Memory}
 use Rattle.row_plans.specs.RowWords.{row_start, row_kind}
 use Rattle.row_plans.specs.RowLists.{rows_from}
-use Rattle.area_guard.specs.Rows.{layout_in, slots_of, slot_at, slots_in, AreNeighbours, IsOneOf, IsFirstOf, IsLastOf, IsNext, IsRowOf, room_of, rows_in}
+use Rattle.area_guard.specs.Rows.{layout_in, slots_of, slot_at, slots_in, AreNeighbours, IsOneOf, IsFirstOf, IsLastOf, IsNext, IsRowOf, rows_in}
+use Rattle.area_guard.specs.Rows.{room_of, IsInReach}
 use Rattle.row_plans.specs.declared.planning.Cut.{Cut}
 use Rattle.row_plans.specs.Plans.{IsRowList, spliced, IsPlan}
 use Rattle.area_guard.specs.Reads.{everything, IsHeldPage, HasRead, known_rows, KnowsRows}
@@ -49,7 +50,7 @@ pub record CallerView : Type 0 where
   pub seat : SeatState Pass
   pub left : ℕ
   pub count : ℕ
-  pub cut : Cut
+  pub cut : Cut ℕ
   pub more : List ℕ
   pub change : Option Change
 
@@ -61,8 +62,8 @@ pub record HasSameRows (before after : CallerView) : Type 0 where
   pub change : after.change ≡ before.change
 
 -- a splice of the rows that a seat knows
-abbrev pub splice_of : SeatState Pass → Cut → List ℕ → Splice
-splice_of seat cut more = record { old = known_rows seat.pass; first = cut.first; end = cut.end; more = more }
+abbrev pub splice_of : SeatState Pass → Cut ℕ → List ℕ → Splice
+splice_of seat cut more = record { old = known_rows seat.pass; first = cut.at; end = cut.at + cut.gone; more = more }
 
 -- a caller's last plan under everything
 abbrev pub plan_of : CallerView → Splice
@@ -75,8 +76,8 @@ pub record IsKnown (c : CallerView) : Type 0 where
   pub list : IsRowList (known_rows c.seat.pass)
   pub counted : c.count ≡ length (known_rows c.seat.pass)
   pub fits : c.count ≤ room_of c.seat.table
-  pub ordered : c.cut.first ≤ c.cut.end
-  pub there : c.cut.end ≤ c.count
+  pub at : c.cut.at < c.count
+  pub there : c.cut.at + c.cut.gone ≤ c.count
 
 -- a closed space: the areas that are left and the whole history
 pub record ClosedView : Type 0 where
@@ -137,7 +138,7 @@ MayNumber c call reply under = Shows c.seat (λ _ state. (left : List Area)
 -- reply and leaves so many rows, and they are those of the moment with the plan's splice; the caller knows all rows,
 -- and how many there are
 pub record HasPlanned (call : Call) (reply : Reply) (count : ℕ) (c : CallerView) : Type 0 where
-  pub shows : Shows c.seat (λ words state. IsPlan call reply count (spliced (rows_in words) c.cut c.more) state)
+  pub shows : Shows c.seat (λ words state. IsPlan call reply count (spliced (λ at. at) (rows_in words) c.cut c.more) state)
   pub known : IsKnown c
 
 -- a caller has its plan to write: it holds everything, has numbered the call, knows the rows that stand there, and the
@@ -154,17 +155,20 @@ abbrev pub IsRowEnd : List ReadRow → List ℕ → ℕ → ℕ → Type 0
 IsRowEnd rows slots slot hi = ((next : ℕ) × AreNeighbours slots slot next × (word : ℕ) × HasRead rows next word × (hi ≡ row_start word))
     ⊎ (IsLastOf slots slot × (hi ≡ LIMIT))
 
--- the ends and the kind of the row are as the caller has read them under its range, in a slot of the layout that it has
--- read
+-- the ends and the kind of the row are as they were read, in one of these slots
+pub record IsReadIn (rows : List ReadRow) (slots : List ℕ) (slot : ℕ) (row : Row) : Type 0 where
+  pub there : IsOneOf slots slot
+  pub word : ℕ
+  pub read : HasRead rows slot word
+  pub lo : row.lo ≡ row_start word
+  pub kind : row.kind ≡ row_kind word
+  pub hi : IsRowEnd rows slots slot row.hi
+
+-- they are as the caller has read them under its range, in the row's slot by the layout that it has read
 pub record IsAsRead (pass : Pass) (row : Row) : Type 0 where
   pub layout : List ℕ
   pub laid : pass.laid ≡ Some layout
-  pub there : IsOneOf (slots_of layout) (slot_at layout row.index)
-  pub word : ℕ
-  pub read : HasRead pass.rows (slot_at layout row.index) word
-  pub lo : row.lo ≡ row_start word
-  pub kind : row.kind ≡ row_kind word
-  pub hi : IsRowEnd pass.rows (slots_of layout) (slot_at layout row.index) row.hi
+  pub in_slot : IsReadIn pass.rows (slots_of layout) (slot_at layout row.index) row
 
 -- a page past each end of the row is held as well, by a writer, or there is none
 abbrev pub HoldsAround : Option Held → Row → Type 0
@@ -200,6 +204,15 @@ abbrev pub IsReadBehind : List ReadRow → List ℕ → ℕ → ℕ → Option K
 IsReadBehind rows slots slot next kind = (IsLastOf slots slot × (kind ≡ None))
     ⊎ (AreNeighbours slots slot next × (word : ℕ) × HasRead rows next word × (kind ≡ row_kind word))
 
+-- the kind of the row in a slot, as the caller has read it, or None where there is no slot
+abbrev pub IsKindIn : List ReadRow → Option ℕ → Option Kind → Type 0
+IsKindIn rows None kind = kind ≡ None
+IsKindIn rows (Some slot) kind = (word : ℕ) × HasRead rows slot word × (kind ≡ row_kind word)
+
+-- all of these slots are in reach of a table
+abbrev pub AreInReach : TableId → List ℕ → Type 0
+AreInReach table slots = (slot : ℕ) → IsOneOf slots slot → IsInReach (room_of table) slot
+
 -- a caller holds an area and a page on each side as a writer, has read the area's row and those on both sides, and the
 -- change is one store on one of them
 pub record IsReadRound (seat : SeatState Pass) (change : Change) : Type 0 where
@@ -212,8 +225,7 @@ pub record IsReadRound (seat : SeatState Pass) (change : Change) : Type 0 where
   pub pages : row.lo < row.hi
   pub limit : row.hi ≤ LIMIT
   pub read : IsAsRead seat.pass row
-  pub few : length (slots_of read.layout) ≤ ROWS
-  pub fits : length (slots_of read.layout) ≤ room_of seat.table
+  pub reach : AreInReach seat.table (slots_of read.layout)
   pub kind : row.kind ≡ Some change.old
   pub named : IsNamedKind change.kind
   pub read_before : IsReadBefore seat.pass.rows (slots_of read.layout) (slot_at read.layout row.index) before
@@ -285,7 +297,7 @@ AreNewCallersIn lists table start calls callers = (k : ℕ) (c : CallerView) →
       seat = new_seat_in lists table (λ n. new_pass start (room_of table) (slice_index calls n)) k;
       left = slice_index calls k;
       count = 0;
-      cut = record { first = 0; end = 0 };
+      cut = record { at = 0; gone = 0 };
       more = [];
       change = None;
     }
@@ -327,6 +339,7 @@ pub record IsReading (before after : SeatState Pass) : Type 0 where
   pub mine : after.pass.mine ≡ before.pass.mine
   pub looks : after.pass.looks ≡ before.pass.looks
   pub taken : before.trace.taken ≤ after.trace.taken
+  pub asked : after.trace.asked ≡ before.trace.asked
   pub read : KeepsRead before.pass after.pass
 
 -- a seat of this table may load all rows, of which there are so many: it holds everything, has nothing to write, and
@@ -357,6 +370,7 @@ pub record IsCounted (before : SeatState Pass) (found : ℕ) (after : SeatState 
   pub slots : length (slots_in words) ≡ found
   pub step : IsClientStep before 2 (after_seen words before.pass) after
   pub again : (layout : List ℕ) → before.pass.laid ≡ Some layout → layout_in words ≡ layout
+  pub known : known_rows after.pass ≡ rows_in words
   pub list : before.held ≡ Some everything → IsRowList (rows_in words)
 
 -- a look at the number word: at a moment of the running space the caller sees the history so far, and it keeps what
@@ -423,6 +437,7 @@ pub record IsWritten (before after : SeatState Pass) : Type 0 where
   pub client : after.trace.client ≡ Some (record { place = 1; step = step })
   pub since : before.trace.taken ≤ step
   pub until : step < after.trace.taken
+  pub asked : after.trace.asked ≡ before.trace.asked
   pub start : after.pass.start ≡ before.pass.start
   pub seen : after.pass.seen ≡ before.pass.seen
   pub mine : after.pass.mine ≡ before.pass.mine

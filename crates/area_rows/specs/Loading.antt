@@ -32,6 +32,7 @@ reading_on a b c f g = record {
   mine = g.mine ∙ f.mine;
   looks = g.looks ∙ f.looks;
   taken = let l = f.taken in let m = g.taken in omega arith;
+  asked = g.asked ∙ f.asked;
   read = keeps_on a.pass b.pass c.pass f.read g.read;
 }
 
@@ -48,6 +49,7 @@ no_reading a = record {
   mine = refl;
   looks = refl;
   taken = omega arith;
+  asked = refl;
   read = record { laid = λ layout e. e; rows = λ index word h. h; sequence = λ n e. e; pending = refl };
 }
 

@@ -93,6 +93,7 @@ pub record IsWriting (before after : SeatState Pass) : Type 0 where
   pub looks : after.pass.looks ≡ before.pass.looks
   pub pending : after.pass.pending ≡ before.pass.pending
   pub taken : before.trace.taken ≤ after.trace.taken
+  pub asked : after.trace.asked ≡ before.trace.asked
 
 -- 1 where the row word at that place of a list isn't the one that stood there, or none stood there
 abbrev pub new_row : List ℕ → List ℕ → ℕ → ℕ

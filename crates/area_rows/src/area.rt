@@ -3,18 +3,17 @@
 //! changes, the whole area changes, its first pages go to the area before it, or its last pages to the area behind it.
 //! This is the speculative mprotect of Kogan, Dice and Issa, EuroSys 2020; a reader may rely on `IsAreaPlan`
 //! (`specs/AreaPlans.antt`).
-ghost use Rattle.std.specs.Prelude.{◌≡◌, ◌<◌, ◌≤◌, ◌+◌, IsSome, None, Some};
-ghost use Rattle.page_types.specs.declared.TheConstants.{LIMIT, ROWS};
+ghost use Rattle.std.specs.Prelude.{ℕ, ◌≡◌, ◌<◌, ◌≤◌, IsSome, None, Some};
+ghost use Rattle.page_types.specs.declared.TheConstants.{LIMIT};
 ghost use Rattle.page_types.specs.declared.calls.Call.TheVariants.{Protect};
 ghost use Rattle.page_types.specs.Named.{IsNamedCall, IsNamedKind};
 ghost use Rattle.page_types.specs.Pages.{page_of, end_page};
 ghost use Rattle.page_types.specs.PlainReply.{plain_reply};
-ghost use Rattle.area_guard.specs.Rows.{room_of, IsOneOf};
-ghost use Rattle.area_guard.specs.Reads.{slots_by, counts_of};
+ghost use Rattle.area_guard.specs.Rows.{room_of, IsInReach};
 ghost use Rattle.area_guard.specs.Changes.{alone};
 ghost use Rattle.area_rows.specs.OneStore.{IsRound};
 ghost use Rattle.area_guard.specs.History.{IsAtRest};
-ghost use Rattle.area_rows.specs.Callers.{IsAsRead, IsReadBefore, IsReadBehind, IsReading, RowIs, Shows};
+ghost use Rattle.area_rows.specs.Callers.{IsAsRead, IsKindIn, IsReading, RowIs, Shows};
 ghost use Rattle.area_rows.specs.AreaPlans.{IsChosen, IsAreaPlan, planned_change};
 
 use crate::row::Row;
@@ -51,7 +50,7 @@ fn change_in(plan: AreaPlan) -> Option<Change>
 
 /// Whether the area is sealed, and else which of the four ways it is, by the kinds of the page before the row and of
 /// the page behind it, None where there is none. `change` has the pages of the call, which lie in the row, and their
-/// kinds, and names the slot of the row as if this changed whole; `next` is the one behind it.
+/// kinds, and names the slot of the row as if this changed whole; `next` is the one behind it, where there is one.
 fn choose(
     row: &Row,
     next: u32,
@@ -98,42 +97,20 @@ fn choose(
 }
 
 impl Space {
-    /// The kind of the row before the one in this slot, or None before the first row.
-    fn kind_before(&self, caller: &mut Caller, index: u32) -> Option<Kind>
+    /// The kind of the row in a slot, or None where there is no slot.
+    fn kind_in(&self, caller: &mut Caller, slot: Option<u32>) -> Option<Kind>
         requires table { caller.old.seat.table ≡ self.now.table }
         requires held { IsSome caller.old.seat.held }
         requires rest { IsAtRest caller.old.seat.pass }
-        requires index { index < ROWS }
-        requires room { index < room_of caller.old.seat.table }
-        requires there { IsOneOf (slots_by caller.old.seat.pass.laid) index }
-        ensures read { IsReadBefore caller.new.seat.pass.rows (slots_by caller.old.seat.pass.laid) index result }
+        requires reach { (place : ℕ) → slot ≡ Some place → IsInReach (room_of caller.old.seat.table) place }
+        ensures read { IsKindIn caller.new.seat.pass.rows slot result }
         ensures reading { IsReading caller.old.seat caller.new.seat }
         ensures left { caller.new.left ≡ caller.old.left }
     {
-        if index == 0 {
+        let Some(place) = slot else {
             return None;
-        }
-        let (_, kind) = read_row(self.load_row(caller, index - 1));
-        kind
-    }
-
-    /// The kind of the row behind the one in this slot, or None behind the last of `count` rows.
-    fn kind_behind(&self, caller: &mut Caller, index: u32, count: u64) -> Option<Kind>
-        requires table { caller.old.seat.table ≡ self.now.table }
-        requires held { IsSome caller.old.seat.held }
-        requires rest { IsAtRest caller.old.seat.pass }
-        requires index { index < count }
-        requires few { count ≤ ROWS }
-        requires fits { count ≤ room_of caller.old.seat.table }
-        requires counted { counts_of caller.old.seat.pass.laid ≡ Some count }
-        ensures read { IsReadBehind caller.new.seat.pass.rows (slots_by caller.old.seat.pass.laid) index (index + 1) result }
-        ensures reading { IsReading caller.old.seat caller.new.seat }
-        ensures left { caller.new.left ≡ caller.old.left }
-    {
-        if index as u64 + 1 == count {
-            return None;
-        }
-        let (_, kind) = read_row(self.load_row(caller, index + 1));
+        };
+        let (_, kind) = read_row(self.load_row(caller, place));
         kind
     }
 
@@ -170,9 +147,11 @@ impl Space {
         ensures left { caller.new.left ≡ caller.old.left }
     {
         caller.holds_pages();
-        let count = self.load_count(caller);
-        let before = self.kind_before(caller, row.index);
-        let behind = self.kind_behind(caller, row.index, count);
+        let count = self.load_count(caller) as u32;
+        let previous = caller.previous_slot(row.index);
+        let next = caller.next_slot(row.index, count);
+        let before = self.kind_in(caller, previous);
+        let behind = self.kind_in(caller, next);
         let new = Kind { prot, ..kind };
         let change = Change {
             index: row.index,
@@ -183,7 +162,7 @@ impl Space {
             old: kind,
             new,
         };
-        let plan = choose(row, row.index + 1, change, before, behind);
+        let plan = choose(row, next.unwrap_or(0), change, before, behind);
         caller.change = change_in(plan);
         plan
     }

@@ -2,7 +2,7 @@
 //! holding the range where `acquire` returns, and on a release keeping what the caller has seen and numbered.
 ghost use Rattle.std.specs.Prelude.{◌≡◌, ◌≤◌, ◌+◌, ◌*◌, ◌↔◌, ℕ, Some, None, IsSome, IfErr, OnOk, OnErr};
 ghost use Rattle.list_cuts.specs.Cut.{list_count};
-ghost use Rattle.range_rw.specs.Contract.{IsLockCall, IsRelease, IsCause, IsLongRefusal, IsReadyLeft, IsSpentIn, pools_at};
+ghost use Rattle.range_rw.specs.Contract.{AsksFor, AsksOnly, IsLockCall, IsRelease, IsCause, IsLongRefusal, IsReadyLeft, IsSpentIn, pools_at};
 ghost use Rattle.range_rw.specs.Several.{TakesAlone};
 ghost use Rattle.area_guard.specs.History.{rest_of, IsAtRest};
 ghost use Rattle.area_rows.specs.Callers.{held_span};
@@ -33,6 +33,7 @@ impl Space {
         requires table { caller.old.seat.table ≡ self.now.table }
         requires free { caller.old.seat.held ≡ None }
         ensures call { IsLockCall caller.old.seat caller.new.seat }
+        ensures asks { AsksFor (held_span span mode) caller.old.seat.trace.asked caller.new.seat.trace.asked }
         ensures held { caller.new.seat.held ≡ Some (held_span span mode) }
         ensures rest { IsAtRest caller.new.seat.pass }
         ensures left { caller.new.left ≡ caller.old.left }
@@ -60,6 +61,7 @@ impl Space {
         requires table { caller.old.seat.table ≡ self.now.table }
         requires free { caller.old.seat.held ≡ None }
         ensures call { IsLockCall caller.old.seat caller.new.seat }
+        ensures asks { AsksOnly (held_span span mode) caller.old.seat.trace.asked caller.new.seat.trace.asked }
         ensures held { OnOk result (caller.new.seat.held ≡ Some (held_span span mode)) }
         ensures free { OnErr result (caller.new.seat.held ≡ None) }
         ensures rest { IsAtRest caller.new.seat.pass }

@@ -6,8 +6,8 @@ ghost use Rattle.page_types.specs.declared.TheConstants.{LIMIT, ROWS, SEARCH};
 ghost use Rattle.page_types.specs.Named.{IsNamedOption};
 ghost use Rattle.area_guard.specs.History.{IsAtRest};
 ghost use Rattle.area_rows.specs.Halving.{own_slot, IsAmong};
-ghost use Rattle.area_guard.specs.Rows.{room_of};
-ghost use Rattle.area_guard.specs.Reads.{counts_of, IsHeldPage};
+ghost use Rattle.area_guard.specs.Rows.{room_of, IsOneOf, IsNextOf, IsPreviousOf};
+ghost use Rattle.area_guard.specs.Reads.{counts_of, slots_by, IsHeldPage};
 ghost use Rattle.area_rows.specs.Callers.{HasSameRows, IsHeldPages, IsReading, IsAsRead, RowIs, Shows};
 
 use crate::row::Row;
@@ -30,6 +30,26 @@ fn next_base(base: u32, half: u32, start: u64, page: u64) -> u32
 {
     let up = ((1 << 63) + page - start) >> 63;
     base + half * up as u32
+}
+
+impl Caller {
+    /// The slot behind one in which a row stands, or None behind the last of so many rows, by what the caller has read.
+    pub(crate) fn next_slot(&self, slot: u32, count: u32) -> Option<u32>
+        requires counted { counts_of self.now.seat.pass.laid ≡ Some count }
+        requires there { IsOneOf (slots_by self.now.seat.pass.laid) slot }
+        ensures next { IsNextOf (slots_by self.now.seat.pass.laid) slot result }
+    {
+        let next = slot + 1;
+        if next < count { Some(next) } else { None }
+    }
+
+    /// The slot before it, or None before the first one.
+    pub(crate) fn previous_slot(&self, slot: u32) -> Option<u32>
+        requires there { IsOneOf (slots_by self.now.seat.pass.laid) slot }
+        ensures previous { IsPreviousOf (slots_by self.now.seat.pass.laid) slot result }
+    {
+        if slot == 0 { None } else { Some(slot - 1) }
+    }
 }
 
 impl Space {
@@ -99,13 +119,12 @@ impl Space {
         ensures bound { caller.new.seat.trace.taken ≤ caller.old.seat.trace.taken + 2 }
         ensures counted { steps.new + caller.old.seat.trace.taken ≡ steps.old + caller.new.seat.trace.taken }
     {
+        let behind = caller.next_slot(index, count);
         steps.tick();
-        let word = self.load_row(caller, index);
-        let (lo, kind) = read_row(word);
-        if index + 1 < count {
+        let (lo, kind) = read_row(self.load_row(caller, index));
+        if let Some(next) = behind {
             steps.tick();
-            let next = self.load_row(caller, index + 1);
-            let (hi, _) = read_row(next);
+            let (hi, _) = read_row(self.load_row(caller, next));
             return Row {
                 index,
                 lo,

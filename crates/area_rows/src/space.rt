@@ -65,7 +65,7 @@ pub struct Caller {
     /// How many rows there were at the last plan.
     pub(crate) count: u32,
     /// Which rows go by the last plan.
-    pub(crate) cut: Cut,
+    pub(crate) cut: Cut<u32>,
     /// The row words that come in their place, with room for `SPARE` more than the table has room for: a call may
     /// change as many rows as there are. The room is touched only as far as rows come.
     pub(crate) plan: Vec<u64>,

@@ -11,10 +11,11 @@ ghost use Rattle.area_guard.specs.declared.guard.Change.{Change};
 ghost use Rattle.space_model.specs.declared.entries.Under.TheVariants.{Area as OverArea, Whole};
 ghost use Rattle.row_plans.specs.RowWords.{row_start};
 ghost use Rattle.area_rows.specs.Halving.{IsOnSameSide};
-ghost use Rattle.area_guard.specs.Rows.{room_of, IsOneOf};
+ghost use Rattle.area_guard.specs.Rows.{room_of, IsOneOf, IsInReach};
 ghost use Rattle.area_guard.specs.Reads.{everything, slots_by, HasRead, IsHeldPage};
 ghost use Rattle.area_guard.specs.History.{HoldsFor, IsAtRest, IsRight, Leaves, pending_of, after_row, entry_note};
 ghost use Rattle.area_rows.specs.Callers.{HasSameRows, splice_of, plan_of, IsKnown, HasToWrite, HasToStore, IsReadRound, CountsWhole, IsReading, IsCounted};
+ghost use Rattle.area_rows.specs.Callers.{AreInReach};
 ghost use Rattle.area_rows.specs.Callers.{IsClientStep, IsLook, IsDrawn, MayNumber, Shows};
 
 use crate::noted::{By, Noted};
@@ -43,6 +44,7 @@ impl Space {
         ensures some { 0 < result }
         ensures few { result ≤ ROWS }
         ensures fits { result ≤ room_of caller.old.seat.table }
+        ensures reach { AreInReach caller.old.seat.table (slots_by caller.new.seat.pass.laid) }
     {
         self.table
             .load_as_uncounted::<By<Brand>>(&mut caller.seat, ROW_COUNT)
@@ -54,8 +56,7 @@ impl Space {
         requires table { caller.old.seat.table ≡ self.now.table }
         requires held { IsSome caller.old.seat.held }
         requires rest { IsAtRest caller.old.seat.pass }
-        requires index { index < ROWS }
-        requires room { index < room_of caller.old.seat.table }
+        requires reach { IsInReach (room_of caller.old.seat.table) index }
         ensures step { IsClientStep caller.old.seat (3 + index) (after_row index result caller.old.seat.pass) caller.new.seat }
         ensures left { caller.new.left ≡ caller.old.left }
         ensures rows { HasSameRows caller.old caller.new }
@@ -114,7 +115,7 @@ impl Space {
         &self,
         seat: &mut Seat<RowGuard>,
         draft: &Entry,
-        cut: Cut,
+        cut: Cut<u32>,
         more: &[u64],
         change: Option<Change>,
     ) -> u64

@@ -10,6 +10,7 @@ ghost use Rattle.page_types.specs.PlainReply.{plain_reply};
 ghost use Rattle.space_model.specs.declared.entries.Under.TheVariants.{Whole};
 ghost use Rattle.row_plans.specs.RowLists.{areas_from};
 ghost use Rattle.row_plans.specs.Plans.{spliced, IsPlan};
+ghost use Rattle.range_rw.specs.Contract.{AsksFor};
 ghost use Rattle.area_guard.specs.Reads.{everything, known_rows};
 ghost use Rattle.page_types.specs.Classes.{IsFault};
 ghost use Rattle.area_guard.specs.History.{IsAtRest};
@@ -22,7 +23,7 @@ use area_guard::RowGuard;
 use lock_core::Mode;
 use page_types::{Call, LIMIT, Reply, Span, plain};
 use range_rw::Seat;
-use row_plans::{Rows, plan_rows};
+use row_plans::{Found, Rows, plan_rows, read_row};
 use space_model::{Entry, Under};
 use std::sync::Wait;
 
@@ -34,15 +35,20 @@ struct AllRows<'a> {
 }
 
 impl<'a> Rows for AllRows<'a> {
+    ghost use Rattle.std.specs.Prelude.{refl};
     ghost use Rattle.area_guard.specs.Reads.{known_rows};
     ghost use Rattle.area_rows.specs.Callers.{HasLoaded, MayLoadAll};
     ghost use Rattle.area_rows.specs.Loading.{no_load_all, loads_on_all, same_known};
 
     type Hand = Seat<RowGuard>;
 
+    type Place = u32;
+
     ghost may_load = { λ rows seat. MayLoadAll rows.space.now.table rows.count seat };
 
     ghost words = { λ rows seat. known_rows seat.pass };
+
+    ghost number = { λ rows seat at. at };
 
     ghost loaded = { λ rows one two. HasLoaded one two };
 
@@ -52,15 +58,55 @@ impl<'a> Rows for AllRows<'a> {
 
     ghost same_words = { λ rows one two. same_known rows.space.now.table rows.count one two };
 
+    ghost same_places = { λ rows one two may loaded. refl };
+
     ghost are_rows = { λ rows seat may. may.list };
 
     fn count(&self) -> u32 {
         self.count
     }
 
-    fn load(&self, hand: &mut Seat<RowGuard>, index: u32) -> u64 {
+    fn first(&self) -> u32 {
+        0
+    }
+
+    fn find(&self, hand: &mut Seat<RowGuard>, page: u64) -> Found<u32> {
+        let mut low = 0;
+        let mut high = self.count;
+        let mut word = 0;
+        let mut end = LIMIT;
+        'halve: while high - low > 1 {
+            let middle = low + (high - low) / 2;
+            let read = self.load(hand, middle);
+            let (start, _) = read_row(read);
+            if start <= page {
+                low = middle;
+                word = read;
+            } else {
+                high = middle;
+                end = start;
+            }
+        }
+        if low == 0 {
+            word = self.load(hand, 0);
+        }
+        Found { at: low, word, end }
+    }
+
+    fn load(&self, hand: &mut Seat<RowGuard>, at: u32) -> u64 {
         let space = self.space;
-        space.load_known(hand, index)
+        space.load_known(hand, at)
+    }
+
+    fn next(&self, _hand: &mut Seat<RowGuard>, at: u32) -> Option<u32> {
+        if at + 1 < self.count {
+            return Some(at + 1);
+        }
+        None
+    }
+
+    fn previous(&self, _hand: &mut Seat<RowGuard>, at: u32) -> u32 {
+        at - 1
     }
 }
 
@@ -73,7 +119,7 @@ impl Caller {
         ensures left { self.new.left ≡ self.old.left }
         ensures known { IsKnown self.new }
         ensures same { known_rows self.new.seat.pass ≡ known_rows self.old.seat.pass }
-        ensures plan { IsPlan call.now result.0 result.1 (spliced (known_rows self.old.seat.pass) self.new.cut self.new.more)
+        ensures plan { IsPlan call.now result.0 result.1 (spliced (λ at. at) (known_rows self.old.seat.pass) self.new.cut self.new.more)
             (areas_from (known_rows self.old.seat.pass)) }
     {
         let rows = AllRows { space, count };
@@ -98,7 +144,7 @@ impl Space {
         requires named { IsNamedCall call.now }
         ensures planned { HasPlanned call.now result.0 result.1 caller.new }
         ensures refused { (why : Why) → result.0 ≡ Refused why
-            → spliced (known_rows caller.new.seat.pass) caller.new.cut caller.new.more ≡ known_rows caller.new.seat.pass }
+            → spliced (λ at. at) (known_rows caller.new.seat.pass) caller.new.cut caller.new.more ≡ known_rows caller.new.seat.pass }
         ensures reading { IsReading caller.old.seat caller.new.seat }
         ensures left { caller.new.left ≡ caller.old.left }
     {
@@ -116,6 +162,7 @@ impl Space {
         requires named { IsNamedCall call }
         requires decided { plain_reply call ≡ Some reply }
         ensures called { IsCalled caller.old line call result caller.new }
+        ensures asked { caller.new.seat.trace.asked ≡ caller.old.seat.trace.asked }
         ensures taken { caller.new.seat.trace.taken ≡ caller.old.seat.trace.taken + 1 }
         ensures pools { caller.new.seat.pools ≡ caller.old.seat.pools }
         ensures further { caller.new.seat.further ≡ caller.old.seat.further }
@@ -137,6 +184,7 @@ impl Space {
         requires undecided { plain_reply call ≡ None }
         ensures called { IsCalled caller.old line call result caller.new }
         ensures under { result.under ≡ Whole }
+        ensures asks { AsksFor everything caller.old.seat.trace.asked caller.new.seat.trace.asked }
         ensures looks { caller.new.seat.pass.looks ≡ caller.old.seat.pass.looks }
     {
         caller.holds_pages();

@@ -203,7 +203,7 @@ impl Space {
     }
 
     /// Writes a splice and the row count.
-    fn write_splice(&self, seat: &mut Seat<RowGuard>, count: u32, cut: Cut, more: &[u64])
+    fn write_splice(&self, seat: &mut Seat<RowGuard>, count: u32, cut: Cut<u32>, more: &[u64])
         requires writes { WritesPlan self.now.table seat.old }
         requires plan { plan_at seat.old ≡ splice_of seat.old cut more.now }
         requires count { count ≡ length (plan_at seat.old).old }
@@ -213,10 +213,11 @@ impl Space {
         ensures writing { IsWriting seat.old seat.new }
         ensures taken { seat.new.trace.taken + 1 ≡ seat.old.trace.taken + steps_of (plan_at seat.old) }
     {
-        let to = cut.first + more.len() as u32;
-        self.move_tail(seat, count, cut.end, to);
-        self.lay_rows(seat, count, cut.first, more);
-        self.write_count(seat, count, count - cut.end + to);
+        let end = cut.at + cut.gone;
+        let to = cut.at + more.len() as u32;
+        self.move_tail(seat, count, end, to);
+        self.lay_rows(seat, count, cut.at, more);
+        self.write_count(seat, count, count - end + to);
     }
 
     /// Writes what the caller's last call under everything left: the splice that it planned, of the rows as they stand,

@@ -12,6 +12,7 @@ use Rattle.page_types.specs.declared.calls.Kind.{Kind}
 use Rattle.page_types.specs.declared.calls.Call.{Call}
 use Rattle.page_types.specs.declared.calls.Call.TheVariants.{Fault}
 use Rattle.page_types.specs.declared.calls.Reply.{Reply}
+use Rattle.page_types.specs.Classes.{IsFault}
 use Rattle.page_types.specs.Named.{IsNamedReply}
 use Rattle.page_types.specs.Pages.{page_of}
 use Rattle.page_types.specs.PlainReply.{plain_reply}
@@ -23,16 +24,18 @@ use Rattle.space_model.specs.Held.{FitsByState}
 use Rattle.space_model.specs.Answers.{AnswersFault}
 use Rattle.space_model.proofs.Judgements.{fault_answers}
 use Rattle.lock_core.specs.declared.range.Held.{Held}
-use Rattle.range_rw.specs.Contract.{SeatState, IsRelease, IsReadyLeft, Pools, Record, ready_in, pools_at}
+use Rattle.lock_core.specs.declared.range.Mode.TheVariants.{Reader as Shared}
+use Rattle.range_rw.specs.Contract.{SeatState, AsksOnly, IsRelease, IsReadyLeft, Pools, Record, ready_in, pools_at}
 use Rattle.range_rw.specs.Several.{TakesAlone}
+use Rattle.range_rw.proofs.Asking.{asks_stay, asks_kept, asks_wider}
 use Rattle.area_guard.specs.declared.guard.Pass.{Pass}
 use Rattle.area_guard.specs.declared.guard.Pending.TheVariants.{AtRest}
 use Rattle.area_rows.specs.declared.row.Row.{Row}
 use Rattle.area_rows.specs.History.{StartsWith, Runs, IsRight, HoldsFor, rest_of}
 use Rattle.area_rows.specs.Reads.{IsHeldPage}
-use Rattle.area_rows.specs.Callers.{CallerView, MayNumber, IsReading, IsDrawn, RowIs, Shows}
+use Rattle.area_rows.specs.Callers.{CallerView, held_span, MayNumber, IsReading, IsDrawn, RowIs, Shows}
 use Rattle.area_rows.specs.Called.{IsCalled, IsLastPlace}
-use Rattle.page_fault.specs.Faults.{IsAccess}
+use Rattle.page_fault.specs.Faults.{AsksPage, AsksPageOf, IsAccess, page_held}
 use Rattle.area_rows.proofs.Wholes.{match_none}
 
 -- the page's kind decides
@@ -138,3 +141,24 @@ one_page c range one = (
         sym takes.is ∙ ap (list_of c) here;
   },
 )
+
+-- a fault that asks for nothing asks for nothing but its page
+pub asks_none : (call : Call) (a b : List Held) → IsFault call → b ≡ a → AsksPageOf call a b
+asks_none (Fault addr access) a b is same = asks_stay same
+asks_none call a b is same = absurd is
+
+-- the span that a fault holds is its page
+span_page : (addr : ℕ) (access wanted : Access) (span : Span) → IsAccess (Fault addr access) wanted span → held_span span Shared ≡ page_held addr
+span_page addr access wanted span is = λ i. record { range = record { lo = is.1 i; hi = is.2 i }; mode = Shared }
+
+-- so one that holds it, and asks for nothing behind that, asks for its page alone
+pub asks_page : (addr : ℕ) (access wanted : Access) (span : Span) (a m b : List Held) → IsAccess (Fault addr access) wanted span
+    → plain_reply (Fault addr access) ≡ None → AsksOnly (held_span span Shared) a m → b ≡ m → AsksPage addr access a b
+asks_page addr access wanted span a m b is undecided asks same =
+    asks_kept (asks_wider (λ h e. (e ∙ span_page addr access wanted span is, undecided)) asks) same
+
+-- whichever fault it is
+pub asks_span : (call : Call) (access : Access) (span : Span) (a m b : List Held) → IsAccess call access span → plain_reply call ≡ None
+    → AsksOnly (held_span span Shared) a m → b ≡ m → AsksPageOf call a b
+asks_span (Fault addr access) wanted span a m b is undecided asks same = asks_page addr access wanted span a m b is undecided asks same
+asks_span call access span a m b is undecided asks same = absurd is

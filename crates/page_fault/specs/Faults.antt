@@ -1,7 +1,7 @@
 -- What the two calls for page faults answer, and what each answer says: an access to a page as sigaction(2) has it. An
 -- entry is right at its place in the one history, and at the step that drew its number its caller held the range that
 -- the entry names: the page as a reader, or nothing where the arguments decide. The caller's pass keeps that range.
-use Rattle.std.specs.Prelude.{ℕ, ◌≡◌, ◌↔◌, ◌<◌, ◌+◌, None}
+use Rattle.std.specs.Prelude.{ℕ, ◌≡◌, ◌↔◌, ◌<◌, ◌+◌, List, None}
 use Rattle.page_types.specs.declared.sets.Access.{Access}
 use Rattle.page_types.specs.declared.calls.Call.TheVariants.{Fault}
 use Rattle.page_types.specs.declared.calls.Call.{Call}
@@ -11,7 +11,7 @@ use Rattle.page_types.specs.PlainReply.{plain_reply}
 use Rattle.space_model.specs.declared.entries.Entry.{Entry}
 use Rattle.lock_core.specs.declared.range.Held.{Held}
 use Rattle.lock_core.specs.declared.range.Mode.TheVariants.{Reader}
-use Rattle.range_rw.specs.Contract.{IsLockCall, IsCause, IsLongRefusal, IsSpentIn}
+use Rattle.range_rw.specs.Contract.{AsksAmong, IsLockCall, IsCause, IsLongRefusal, IsSpentIn}
 use Rattle.area_rows.specs.declared.answer.Answer.{Answer}
 use Rattle.area_rows.specs.Callers.{CallerView}
 use Rattle.area_rows.specs.Called.{IsCalled, IsAnswered}
@@ -47,6 +47,16 @@ pub record IsNotHeld (seats : ℕ) (before : CallerView) (addr : ℕ) (access : 
   pub left : after.left ≡ before.left
   pub cause : IsCause before.seat after.seat (page_held addr) why
   pub long : IsLongRefusal why ↔ IsSpentIn seats before.seat after.seat
+
+-- each range that a fault asks for is its page as a reader, and its arguments don't decide it: one that they decide
+-- asks for none. What is held was asked for, so a fault holds nothing else on its way
+abbrev pub AsksPage : ℕ → Access → List Held → List Held → Type 0
+AsksPage addr access before after = AsksAmong (λ h. (h ≡ page_held addr) × (plain_reply (Fault addr access) ≡ None)) before after
+
+-- the same of a call that is a fault
+abbrev pub AsksPageOf : Call → List Held → List Held → Type 0
+AsksPageOf (Fault addr access) before after = AsksPage addr access before after
+AsksPageOf call before after = ⊥
 
 -- the answer of a fault that waits for nobody, in a space of so many callers
 abbrev pub IsTried : ℕ → CallerView → ℕ → ℕ → Access → TriedFault → CallerView → Type 0

@@ -12,11 +12,11 @@ ghost use Rattle.page_types.specs.declared.TheConstants.{SEARCH};
 ghost use Rattle.area_rows.specs.History.{IsAtRest};
 ghost use Rattle.area_rows.specs.Callers.{held_span};
 ghost use Rattle.area_rows.specs.Called.{IsCalled, IsAnswered};
-ghost use Rattle.page_fault.specs.Faults.{IsAccess, IsAnswer, IsTried};
+ghost use Rattle.page_fault.specs.Faults.{AsksPage, AsksPageOf, IsAccess, IsAnswer, IsTried};
 
 use area_rows::{Answer, Caller, Space};
 use lock_core::Mode;
-use page_types::{Access, Call, PAGE, Reply, Span, plain};
+use page_types::{Access, Call, LIMIT, PAGE, Reply, Span, plain};
 use range_rw::NotHeld;
 use space_model::{Entry, Under, access_reply};
 use std::marker::Brand;
@@ -33,6 +33,19 @@ pub enum TriedFault {
     NotHeld(NotHeld),
     /// The caller has no number left.
     Spent,
+}
+
+/// The reply to a call that its arguments alone decide, as `plain` gives it; that is asked only where it may have one.
+#[inline(always)]
+fn decided(call: &Call) -> Option<Reply>
+    ensures { result ≡ plain_reply call.now }
+{
+    if let Call::Fault { addr, .. } = *call {
+        if addr / PAGE < LIMIT {
+            return None;
+        }
+    }
+    plain(call)
 }
 
 /// What is done to which page by a fault that its arguments don't decide.
@@ -62,6 +75,7 @@ fn number_plain<L: Ledger>(
     requires named { IsNamedCall call }
     requires decided { plain_reply call ≡ Some reply }
     ensures called { IsCalled caller.old line call result caller.new }
+    ensures asked { caller.new.seat.trace.asked ≡ caller.old.seat.trace.asked }
     ensures pools { caller.new.seat.pools ≡ caller.old.seat.pools }
     ensures further { caller.new.seat.further ≡ caller.old.seat.further }
     ensures bound { caller.new.seat.trace.taken ≤ caller.old.seat.trace.taken + 1 }
@@ -73,6 +87,7 @@ fn number_plain<L: Ledger>(
 
 /// A fault whose page the caller holds: it reads the page's row, draws its number, and gives the page back, in at most
 /// `SEARCH + 6` steps.
+#[inline(always)]
 fn number_held<L: Ledger>(
     space: &Space,
     caller: &mut Caller,
@@ -89,6 +104,7 @@ fn number_held<L: Ledger>(
     requires held { caller.old.seat.held ≡ Some (held_span span Reader) }
     requires rest { IsAtRest caller.old.seat.pass }
     ensures called { IsCalled (record caller.old { seat = record caller.old.seat { held = None } }) line call result caller.new }
+    ensures asked { caller.new.seat.trace.asked ≡ caller.old.seat.trace.asked }
     ensures ready { caller.new.seat.pools.ready ≡ caller.old.seat.pools.ready }
     ensures further { (j : ℕ) → (pools_at caller.new.seat j).ready ≡ (pools_at caller.old.seat j).ready }
     ensures bound { caller.new.seat.trace.taken ≤ caller.old.seat.trace.taken + (SEARCH + 6) }
@@ -102,6 +118,7 @@ fn number_held<L: Ledger>(
     entry
 }
 
+#[inline(always)]
 fn fault_counting<L: Ledger, R: Wait>(
     space: &Space,
     wait: &R,
@@ -116,9 +133,10 @@ fn fault_counting<L: Ledger, R: Wait>(
     requires left { 0 < caller.old.left }
     requires call { IsFault call }
     ensures called { IsCalled caller.old line call result caller.new }
+    ensures asks { AsksPageOf call caller.old.seat.trace.asked caller.new.seat.trace.asked }
 {
     let mut steps = Steps::<L>::new(blank);
-    if let Some(reply) = plain(&call) {
+    if let Some(reply) = decided(&call) {
         return number_plain(space, caller, line, call, reply, &mut steps);
     }
     let (access, span) = access_of(call);
@@ -126,7 +144,9 @@ fn fault_counting<L: Ledger, R: Wait>(
     number_held(space, caller, line, call, access, span, &mut steps)
 }
 
-/// Makes a call that is a fault, as `fault` does, with the same answers.
+/// Makes a call that is a fault, as `fault` does, with the same answers. It stands in its callers with what makes the
+/// fault, so that an entry which nobody looks at is not copied up the calls.
+#[inline(always)]
 pub fn make_fault<R: Wait>(
     space: &Space,
     wait: &R,
@@ -138,6 +158,7 @@ pub fn make_fault<R: Wait>(
     requires free { caller.old.seat.held ≡ None }
     requires call { IsFault call }
     ensures answer { IsAnswered caller.old line call result caller.new }
+    ensures asks { AsksPageOf call caller.old.seat.trace.asked caller.new.seat.trace.asked }
 {
     if caller.left() == 0 {
         return Answer::Spent;
@@ -150,7 +171,8 @@ pub fn make_fault<R: Wait>(
 /// One access to the byte at `addr`, by the caller, which is of this space and holds nothing; `line` is the line of
 /// the input that names it, counted from 1.
 /// It waits until the caller holds the byte's page as a reader, and then draws the number; a fault at or above
-/// `LIMIT` holds nothing. `Spent` comes exactly where the caller has no number left, and nothing has changed then.
+/// `LIMIT` holds nothing. On its way it asks for no other range. `Spent` comes exactly where the caller has no number
+/// left, and nothing has changed then.
 pub fn fault<R: Wait>(
     space: &Space,
     wait: &R,
@@ -162,6 +184,7 @@ pub fn fault<R: Wait>(
     requires table { caller.old.seat.table ≡ space.now.table }
     requires free { caller.old.seat.held ≡ None }
     ensures answer { IsAnswer caller.old line addr access result caller.new }
+    ensures asks { AsksPage addr access caller.old.seat.trace.asked caller.new.seat.trace.asked }
 {
     make_fault(space, wait, caller, line, Call::Fault { addr, access })
 }
@@ -183,6 +206,7 @@ pub fn try_fault<L: Ledger>(
     requires table { caller.old.seat.table ≡ space.now.table }
     requires free { caller.old.seat.held ≡ None }
     ensures answer { IsTried space.now.seats caller.old line addr access result caller.new }
+    ensures asks { AsksPage addr access caller.old.seat.trace.asked caller.new.seat.trace.asked }
     ensures ready { IsReadyLeft caller.old.seat.pools.ready caller.new.seat.pools.ready }
     ensures further { (j : ℕ) → IsReadyLeft (pools_at caller.old.seat j).ready (pools_at caller.new.seat j).ready }
     ensures bound { caller.new.seat.trace.taken ≤ caller.old.seat.trace.taken + (64 + 386 * space.now.seats) + (SEARCH + 6) }
@@ -192,7 +216,7 @@ pub fn try_fault<L: Ledger>(
         return TriedFault::Spent;
     }
     let call = Call::Fault { addr, access };
-    if let Some(reply) = plain(&call) {
+    if let Some(reply) = decided(&call) {
         return TriedFault::Answered(number_plain(space, caller, line, call, reply, steps));
     }
     let (access, span) = access_of(call);

@@ -8,3 +8,4 @@ pub mod RowChanges
 pub mod RowPatches
 pub mod PlanLeft
 pub mod Loading
+pub mod Comes

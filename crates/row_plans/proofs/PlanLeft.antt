@@ -26,7 +26,7 @@ use Rattle.space_model.proofs.Changing.{kind_at-limit, rising_end, patched-behin
 use Rattle.space_model.proofs.Judgements.{made_answers}
 use Rattle.space_model.proofs.Stepping.{patches_few, judged-named}
 use Rattle.space_model.proofs.SomeAnswer.{leaves_areas}
-use Rattle.row_plans.specs.RowWords.{row_start, row_kind, row_word}
+use Rattle.row_plans.specs.RowWords.{row_start, row_kind}
 use Rattle.row_plans.specs.RowLists.{rows_start, DiffersFrom, ShowFrom, IsBareGap, with_row, areas_from}
 use Rattle.row_plans.specs.Planning.{IsMade}
 use Rattle.row_plans.specs.declared.planning.Cut.{Cut}
@@ -79,8 +79,9 @@ pub counted_rows : (rows : List ℕ) → IsRowList rows → length rows ≡ row_
 counted_rows rows is = rows_counted 0 rows (kind_at (areas_from rows)) is.show
 
 -- where no row goes and none comes the rows are as they were
-pub as_they_were : (old more : List ℕ) (cut : Cut) → cut.first ≡ 0 → cut.end ≡ 0 → more ≡ [] → spliced old cut more ≡ old
-as_they_were old more cut first end none = λ i. splice old (first i) (end i) (none i)
+pub as_they_were : {P : Type 0} (number : P → ℕ) (old more : List ℕ) (cut : Cut P) → number cut.at ≡ 0 → cut.gone ≡ 0 → more ≡ []
+    → spliced number old cut more ≡ old
+as_they_were number old more cut first end none = λ i. splice old (first i) (first i + end i) (none i)
 
 -- a call that changes nothing plans the rows as they are
 module _ (old plan : List ℕ) (c : Call) (reply : Reply) (count : ℕ) (is : IsRowList old) (same : plan ≡ old) (counts : count ≡ length old) where

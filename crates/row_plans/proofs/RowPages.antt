@@ -2,8 +2,7 @@
 -- it.
 use Rattle.std.proofs.Common.{◌≡◌, ◌≢◌, ℕ, zero, suc, ◌+◌, ◌<◌, ◌≤◌, List, [], ◌∷◌, ◌-◌, min, max, get_or, drop, length}
 use Rattle.std.proofs.Common.{true, false, sym, refl, ap, ◌∙◌, subst, arith, inl, inr}
-use Rattle.std.proofs.Common.{ltb, ltb-true, ltb-false}
-use Rattle.std.specs.List.Sorted.{IsNonDecreasingBy, IsPartitionPoint}
+use Rattle.std.specs.List.Sorted.{IsNonDecreasingBy}
 use Rattle.std.proofs.lemmas.Bool.{cases_lt}
 use Rattle.std.specs.Prelude.{Option, None}
 use Rattle.page_types.specs.declared.TheConstants.{LIMIT, LOWEST}
@@ -247,29 +246,18 @@ rows_apart rows kinds a b show lt there =
     subst (λ (n : ℕ). rows_start (drop (a + 1) rows) ≤ rows_start (drop n rows)) at (starts_up rows kinds (a + 1) (b - (a + 1)) show) in
     omega arith
 
--- no fewer rows start before a later page
-pub more_before : (rows : List ℕ) (kinds : ℕ → Option Kind) (from to next stop : ℕ) → ShowFrom 0 rows kinds → from ≤ to
-    → StartBefore rows from next → StartBefore rows to stop → next ≤ stop
-more_before rows kinds from to next stop show ordered low high = elim (cases_lt stop next) [
-  | inl lt ↦
-      let b : rows_start (drop (next - 1) rows) < from = low.behind (omega arith) in
-      let a : to ≤ rows_start (drop stop rows) = high.ahead in
-      let e : stop + (next - 1 - stop) ≡ next - 1 = omega arith in
-      let up : rows_start (drop stop rows) ≤ rows_start (drop (next - 1) rows) =
-      subst (λ (j : ℕ). rows_start (drop stop rows) ≤ rows_start (drop j rows)) e (starts_up rows kinds stop (next - 1 - stop) show) in
-      absurd (omega arith)
-  | inr ge ↦ ge
-]
-
--- before page 0 no row starts
-pub none_before : (rows : List ℕ) → StartBefore rows 0 0
-none_before rows = record { there = omega arith; ahead = omega arith; behind = λ l. absurd (omega arith) }
-
 -- where no row starts before a page, no page lies before the first row
 pub none_from : (rows : List ℕ) (kinds : ℕ → Option Kind) (i p : ℕ) → ShowFrom 0 rows kinds → i ≡ 0 → p < rows_start (drop i rows) → ⊥
 none_from rows kinds i p show is below =
     let f = (first_row rows kinds show).1 in
     let l : p < rows_start (drop 0 rows) = subst (λ (n : ℕ). p < rows_start (drop n rows)) is below in absurd (omega arith)
+
+-- a row that starts behind page 0 isn't the first one
+pub not_first : (rows : List ℕ) (kinds : ℕ → Option Kind) (i start : ℕ) → ShowFrom 0 rows kinds → rows_start (drop i rows) ≡ start → 0 < start → 0 < i
+not_first rows kinds i start show begins some = elim (cases_lt 0 i) [
+  | inl lt ↦ lt
+  | inr ge ↦ absurd (none_from rows kinds i 0 show (omega arith) (omega arith))
+]
 
 -- behind a row of a span one row more starts before where the span goes on
 pub next_come : (rows : List ℕ) (i at to hi : ℕ) → at ≡ min (rows_start (drop i rows)) hi → at < hi

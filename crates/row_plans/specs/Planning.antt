@@ -2,7 +2,7 @@
 -- appended in order, and one whose kind is the last row's lengthens that row. Each step goes on from the page and the
 -- old row that the one before has come to. Only private functions speak of this; what callers see is the kinds of pages
 -- and the reply.
-use Rattle.std.specs.Prelude.{ℕ, Bool, false, ◌≡◌, ◌<◌, ◌≤◌, ◌+◌, ◌-◌, min, if◌then◌else◌, Option, Some, None, List, [], ◌∷◌, length, drop}
+use Rattle.std.specs.Prelude.{ℕ, Bool, false, ◌≡◌, ◌<◌, ◌≤◌, ◌+◌, ◌-◌, min, if◌then◌else◌, Option, Some, None, List, [], ◌∷◌, length, drop, slice_index}
 use Rattle.page_types.specs.declared.calls.Kind.{Kind}
 use Rattle.page_types.specs.declared.calls.Reply.{Reply}
 use Rattle.space_model.specs.declared.areas.Area.{Area}
@@ -13,7 +13,9 @@ use Rattle.space_model.specs.Effect.{painted}
 use Rattle.space_model.specs.Judges.{Makes, IsNamedPaint}
 use Rattle.space_model.specs.Places.{FitsAt}
 use Rattle.space_model.specs.Starts.{same_option}
-use Rattle.row_plans.specs.Plans.{PlanShows}
+use Rattle.page_types.specs.Named.{IsNamedOption}
+use Rattle.row_plans.specs.declared.planning.Come.{Come}
+use Rattle.row_plans.specs.Plans.{PlanShows, IsPlaceOf}
 use Rattle.row_plans.specs.RowWords.{row_start, row_kind, row_word}
 use Rattle.row_plans.specs.RowLists.{DiffersFrom, rows_start}
 
@@ -60,6 +62,18 @@ pub record StartBefore (rows : List ℕ) (page count : ℕ) : Type 0 where
   pub there : count ≤ length rows
   pub ahead : page ≤ rows_start (drop count rows)
   pub behind : 0 < count → rows_start (drop (count - 1) rows) < page
+
+-- how many rows start before the page up to which they were gone through, where places tell the numbers of rows
+abbrev pub come_to : {P : Type 0} → (P → ℕ) → Come P → ℕ
+come_to number come = number come.at + come.gone
+
+-- the rows were gone through up to a page
+pub record IsCome {P : Type 0} (rows : List ℕ) (number : P → ℕ) (page : ℕ) (come : Come P) : Type 0 where
+  pub before : StartBefore rows page (come_to number come)
+  pub kind : 0 < come_to number come → come.kind ≡ row_kind (slice_index rows (come_to number come - 1))
+  pub named : IsNamedOption come.kind
+  pub next : IsPlaceOf rows number (come_to number come) come.next
+  pub end : come.end ≡ rows_start (drop (come_to number come) rows)
 
 -- 1 where a page, before which so many rows start, isn't the first of the next row
 abbrev pub part_left : List ℕ → ℕ → ℕ → ℕ

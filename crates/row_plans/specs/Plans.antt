@@ -1,7 +1,7 @@
 -- What a call on an address space leaves, as row words: a plan says the reply and the rows before any word is stored.
 -- Both are those of `Answers`, this project's profile of mmap(2) and the calls like it, at the areas that the rows
 -- before stand for. The rows after are a splice of those before, and the rows as they are where nothing changes.
-use Rattle.std.specs.Prelude.{ℕ, ◌≡◌, ◌<◌, ◌≤◌, All, Option, List, length}
+use Rattle.std.specs.Prelude.{ℕ, ◌≡◌, ◌<◌, ◌≤◌, ◌+◌, All, Option, Some, None, List, length}
 use Rattle.std.specs.List.{splice}
 use Rattle.page_types.specs.declared.TheConstants.{ROWS}
 use Rattle.page_types.specs.declared.calls.Kind.{Kind}
@@ -24,9 +24,14 @@ pub record PlanShows (rows : List ℕ) (kinds : ℕ → Option Kind) : Type 0 wh
 abbrev pub IsRowList : List ℕ → Type 0
 IsRowList rows = PlanShows rows (kind_at (areas_from rows))
 
--- a list of rows in which those of a cut go and others come in their place
-abbrev pub spliced : List ℕ → Cut → List ℕ → List ℕ
-spliced rows cut more = splice rows cut.first cut.end more
+-- the place, if any, of the row of a number that is at most the number of rows, where places tell the numbers of rows
+abbrev pub IsPlaceOf : {P : Type 0} → List ℕ → (P → ℕ) → ℕ → Option P → Type 0
+IsPlaceOf rows number n None = n ≡ length rows
+IsPlaceOf rows number n (Some at) = (number at ≡ n) × (n < length rows)
+
+-- a list of rows in which those of a cut go and others come in their place, where places tell the numbers of rows
+abbrev pub spliced : {P : Type 0} → (P → ℕ) → List ℕ → Cut P → List ℕ → List ℕ
+spliced number rows cut more = splice rows (number cut.at) (number cut.at + cut.gone) more
 
 -- the plan of a call on an area list: its reply, and how many rows and which the list has that it leaves
 pub record IsPlan (call : Call) (reply : Reply) (count : ℕ) (plan : List ℕ) (state : List Area) : Type 0 where

@@ -1,7 +1,7 @@
 //! The searches that judging a call takes, over rows that are loaded: the kind of a page, the lowest page of a sort,
-//! and the highest place of free pages, which is this project's own choice beside mmap(2). The first two begin at a row
-//! that is found by halving, and the last goes down from the last row of its window until it finds a gap. A reader may
-//! rely on what is found being so of all kinds that the rows show.
+//! and the highest place of free pages, which is this project's own choice beside mmap(2). The first two begin at the
+//! row of a page, and the last goes down from the last row of its window until it finds a gap. A reader may rely on
+//! what is found being so of all kinds that the rows show.
 ghost use Rattle.std.specs.Prelude.{max, drop, length, None, ◌+◌, ◌^◌, ℕ, IsTrue, IsFalse, ◌≡◌, ◌<◌, ◌≤◌, Option, MatchOption};
 ghost use Rattle.page_types.specs.declared.TheConstants.{LIMIT, LOWEST};
 ghost use Rattle.page_types.specs.declared.calls.Kind.{Kind};
@@ -10,8 +10,8 @@ ghost use Rattle.space_model.specs.Areas.{kind_at};
 ghost use Rattle.space_model.specs.Sorts.{IsEnd};
 ghost use Rattle.space_model.specs.Places.{FitsAt, IsHighestFit};
 ghost use Rattle.row_plans.specs.RowWords.{row_start, row_kind};
-ghost use Rattle.row_plans.specs.RowLists.{rows_start, ShowFrom, areas_from};
-ghost use Rattle.row_plans.specs.Planning.{StartBefore};
+ghost use Rattle.row_plans.specs.RowLists.{rows_start, areas_from};
+ghost use Rattle.row_plans.specs.Plans.{IsPlaceOf};
 
 use crate::row_words::read_row;
 use crate::rows::Rows;
@@ -57,51 +57,32 @@ impl<'a, R: Rows> Pages for RowPages<'a, R> {
     }
 }
 
-/// Where row `i` starts, or `LIMIT` where there are not so many.
-pub(crate) fn start_of<R: Rows>(rows: &R, hand: &mut R::Hand, i: u32) -> u64
-    requires may { R.may_load rows.now hand.old }
-    ensures start { result ≡ rows_start (drop i (R.words rows.now hand.old)) }
-    ensures loaded { R.loaded rows.now hand.old hand.new }
-{
-    if i < rows.count() {
-        let (start, _) = read_row(rows.load(hand, i));
-        start
-    } else {
-        LIMIT
-    }
+/// Where the row behind another stands, if there is one, and where it starts, or `LIMIT`.
+#[derive(Clone, Copy)]
+pub(crate) struct Behind<P> {
+    pub(crate) next: Option<P>,
+    pub(crate) end: u64,
 }
 
-/// The number of rows that start before a page, found by halving.
-pub(crate) fn rows_before<R: Rows>(rows: &R, hand: &mut R::Hand, page: u64) -> u32
+/// The row behind another.
+pub(crate) fn row_behind<R: Rows>(rows: &R, hand: &mut R::Hand, at: R::Place) -> Behind<R::Place>
     requires may { R.may_load rows.now hand.old }
-    requires page { page ≤ LIMIT }
-    ensures before { StartBefore (R.words rows.now hand.old) page result }
+    requires there { R.number rows.now hand.old at < length (R.words rows.now hand.old) }
+    ensures next { IsPlaceOf (R.words rows.now hand.old) (R.number rows.now hand.old) (R.number rows.now hand.old at + 1) result.next }
+    ensures end { result.end ≡ rows_start (drop (R.number rows.now hand.old at + 1) (R.words rows.now hand.old)) }
     ensures loaded { R.loaded rows.now hand.old hand.new }
 {
-    let mut low = 0;
-    let mut high = rows.count();
-    'halve: while low < high {
-        let middle = low + (high - low) / 2;
-        let (start, _) = read_row(rows.load(hand, middle));
-        if start < page {
-            low = middle + 1;
-        } else {
-            high = middle;
-        }
+    let Some(next) = rows.next(hand, at) else {
+        return Behind {
+            next: None,
+            end: LIMIT,
+        };
+    };
+    let (end, _) = read_row(rows.load(hand, next));
+    Behind {
+        next: Some(next),
+        end,
     }
-    low
-}
-
-/// The number of the row that has a page, counted from 0.
-fn row_at<R: Rows>(rows: &R, hand: &mut R::Hand, page: u64) -> u32
-    requires may { R.may_load rows.now hand.old }
-    requires page { page < LIMIT }
-    ensures there { result < length (R.words rows.now hand.old) }
-    ensures from { rows_start (drop result (R.words rows.now hand.old)) ≤ page }
-    ensures until { page < rows_start (drop (result + 1) (R.words rows.now hand.old)) }
-    ensures loaded { R.loaded rows.now hand.old hand.new }
-{
-    rows_before(rows, hand, page + 1) - 1
 }
 
 /// The kind of a page, or None where it isn't mapped.
@@ -111,8 +92,8 @@ fn kind_of<R: Rows>(rows: &R, hand: &mut R::Hand, page: u64) -> Option<Kind>
     ensures kind { result ≡ kind_at (areas_from (R.words rows.now hand.old)) page }
     ensures loaded { R.loaded rows.now hand.old hand.new }
 {
-    let at = row_at(rows, hand, page);
-    let (_, kind) = read_row(rows.load(hand, at));
+    let row = rows.find(hand, page);
+    let (_, kind) = read_row(row.word);
     kind
 }
 
@@ -128,16 +109,24 @@ fn end_of<R: Rows>(rows: &R, hand: &mut R::Hand, sort: Sort, lo: u64, hi: u64) -
     if lo == hi {
         return hi;
     }
-    let mut i = row_at(rows, hand, lo);
-    'rows: while i < rows.count() {
-        let (start, kind) = read_row(rows.load(hand, i));
-        if is_sort(sort, kind) {
-            return start.max(lo).min(hi);
-        }
-        i += 1;
-        if start_of(rows, hand, i) >= hi {
+    let row = rows.find(hand, lo);
+    let (_, kind) = read_row(row.word);
+    if is_sort(sort, kind) {
+        return lo;
+    }
+    if row.end >= hi {
+        return hi;
+    }
+    let mut at = row.at;
+    'rows: while let Some(next) = rows.next(hand, at) {
+        let (start, kind) = read_row(rows.load(hand, next));
+        if start >= hi {
             return hi;
         }
+        if is_sort(sort, kind) {
+            return start;
+        }
+        at = next;
     }
     hi
 }
@@ -167,16 +156,24 @@ fn highest_fit<R: Rows>(rows: &R, hand: &mut R::Hand, window: u64, pages: u64) -
         (IsHighestFit (kind_at (areas_from (R.words rows.now hand.old))) window pages) }
     ensures loaded { R.loaded rows.now hand.old hand.new }
 {
-    let mut i = rows_before(rows, hand, window);
-    let mut end = start_of(rows, hand, i);
-    'rows: while i > 0 {
-        let (start, kind) = read_row(rows.load(hand, i - 1));
+    if window == 0 {
+        return None;
+    }
+    let row = rows.find(hand, window - 1);
+    let mut at = row.at;
+    let mut word = row.word;
+    let mut end = row.end;
+    'rows: loop {
+        let (start, kind) = read_row(word);
         let top = end.min(window);
         if fits_in(start, top, kind, pages) {
             return Some(top - pages);
         }
+        if start == 0 {
+            return None;
+        }
         end = start;
-        i -= 1;
+        at = rows.previous(hand, at);
+        word = rows.load(hand, at);
     }
-    None
 }

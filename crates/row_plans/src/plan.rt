@@ -19,21 +19,21 @@ use space_model::{Change, Judged, full_reply, judge};
 
 /// What a call answers, how many rows the address space has after it, and which rows go.
 #[derive(Clone, Copy, Debug, PartialEq, Eq)]
-pub struct Planned {
+pub struct Planned<P> {
     /// The reply.
     pub reply: Reply,
     /// The number of rows that the call leaves: areas, and gaps between 0 and `LIMIT`.
     pub rows: u32,
     /// The rows that go. None does where nothing changes.
-    pub cut: Cut,
+    pub cut: Cut<P>,
 }
 
 /// The plan of a call that changes nothing: no row goes, and none comes.
-fn unchanged(count: u32, reply: Reply, new: &mut Vec<u64>) -> Planned
+fn unchanged<P>(first: P, count: u32, reply: Reply, new: &mut Vec<u64>) -> Planned<P>
     ensures reply { result.reply ≡ reply }
     ensures rows { result.rows ≡ count }
-    ensures first { result.cut.first ≡ 0 }
-    ensures end { result.cut.end ≡ 0 }
+    ensures at { result.cut.at ≡ first }
+    ensures gone { result.cut.gone ≡ 0 }
     ensures none { new.new.items ≡ [] }
     ensures room { vec_capacity new.old ≤ vec_capacity new.new }
 {
@@ -41,28 +41,34 @@ fn unchanged(count: u32, reply: Reply, new: &mut Vec<u64>) -> Planned
     Planned {
         reply,
         rows: count,
-        cut: Cut { first: 0, end: 0 },
+        cut: Cut { at: first, gone: 0 },
     }
 }
 
 /// The plan of a change, unless the result would have more than `ROWS` rows.
-fn changed<R: Rows>(old: &R, hand: &mut R::Hand, change: Change, new: &mut Vec<u64>) -> Planned
+fn changed<R: Rows>(
+    old: &R,
+    hand: &mut R::Hand,
+    change: Change,
+    new: &mut Vec<u64>,
+) -> Planned<R::Place>
     requires may { R.may_load old.now hand.old }
     requires named { IsNamedChange change }
     requires rising { AreRising 0 (patches_of change) }
     requires room { length (R.words old.now hand.old) + 2 * length (patches_of change) ≤ vec_capacity new.old }
-    ensures made { IsMade change result.reply result.rows (spliced (R.words old.now hand.old) result.cut new.new.items)
+    ensures made { IsMade change result.reply result.rows (spliced (R.number old.now hand.old) (R.words old.now hand.old) result.cut new.new.items)
         (areas_from (R.words old.now hand.old)) }
-    ensures ordered { result.cut.first ≤ result.cut.end }
-    ensures there { result.cut.end ≤ length (R.words old.now hand.old) }
+    ensures at { R.number old.now hand.old result.cut.at < length (R.words old.now hand.old) }
+    ensures there { R.number old.now hand.old result.cut.at + result.cut.gone ≤ length (R.words old.now hand.old) }
+    ensures few { length new.new.items ≤ result.cut.gone + 2 * length (patches_of change) }
     ensures room { vec_capacity new.old ≤ vec_capacity new.new }
     ensures loaded { R.loaded old.now hand.old hand.new }
 {
     let count = old.count();
     let cut = plan_change(old, hand, change, new);
-    let rows = count - (cut.end - cut.first) + new.len() as u32;
+    let rows = count - cut.gone + new.len() as u32;
     if rows as usize > ROWS {
-        return unchanged(count, full_reply(change.full, rows), new);
+        return unchanged(old.first(), count, full_reply(change.full, rows), new);
     }
     Planned {
         reply: change.reply,
@@ -72,28 +78,34 @@ fn changed<R: Rows>(old: &R, hand: &mut R::Hand, change: Change, new: &mut Vec<u
 }
 
 /// The plan of a call on rows that are loaded: its reply, and the splice that it makes of the rows. Those that come go
-/// into `new`; it gives which go. Where the call changes nothing, as a refused one, none goes and none comes. A call
-/// whose pages are fixed loads the rows of these pages, one on each side, and as many more as halving takes; one that
-/// looks for a place loads the rows from the last one of its window down to the gap that it finds. It takes no memory:
-/// `new` has room for `SPARE` rows more than there are.
-pub fn plan_rows<R: Rows>(old: &R, hand: &mut R::Hand, call: &Call, new: &mut Vec<u64>) -> Planned
+/// into `new`, at most `SPARE` more than go; it gives which go. Where the call changes nothing, as a refused one, none
+/// goes and none comes. A call whose pages are fixed loads the rows of these pages, one on each side, and as many more
+/// as finding a row takes; one that looks for a place loads the rows from the last one of its window down to the gap
+/// that it finds. It takes no memory: `new` has room for `SPARE` rows more than there are.
+pub fn plan_rows<R: Rows>(
+    old: &R,
+    hand: &mut R::Hand,
+    call: &Call,
+    new: &mut Vec<u64>,
+) -> Planned<R::Place>
     requires may { R.may_load old.now hand.old }
     requires named { IsNamedCall call.now }
     requires room { length (R.words old.now hand.old) + SPARE ≤ vec_capacity new.old }
-    ensures plan { IsPlan call.now result.reply result.rows (spliced (R.words old.now hand.old) result.cut new.new.items)
+    ensures plan { IsPlan call.now result.reply result.rows (spliced (R.number old.now hand.old) (R.words old.now hand.old) result.cut new.new.items)
         (areas_from (R.words old.now hand.old)) }
-    ensures ordered { result.cut.first ≤ result.cut.end }
-    ensures there { result.cut.end ≤ length (R.words old.now hand.old) }
+    ensures at { R.number old.now hand.old result.cut.at < length (R.words old.now hand.old) }
+    ensures there { R.number old.now hand.old result.cut.at + result.cut.gone ≤ length (R.words old.now hand.old) }
+    ensures few { length new.new.items ≤ result.cut.gone + SPARE }
     ensures room { vec_capacity new.old ≤ vec_capacity new.new }
     ensures loaded { R.loaded old.now hand.old hand.new }
 {
     if let Some(reply) = plain(call) {
-        return unchanged(old.count(), reply, new);
+        return unchanged(old.first(), old.count(), reply, new);
     }
     let pages = RowPages { rows: old };
     match judge(&pages, hand, call) {
-        Judged::Refused(why) => unchanged(old.count(), Reply::Refused(why), new),
-        Judged::Keeps(reply) => unchanged(old.count(), reply, new),
+        Judged::Refused(why) => unchanged(old.first(), old.count(), Reply::Refused(why), new),
+        Judged::Keeps(reply) => unchanged(old.first(), old.count(), reply, new),
         Judged::Changes(change) => changed(old, hand, change, new),
     }
 }

@@ -3,7 +3,7 @@
 //! are put together anew, from left to right, at most two more than go for each stretch of pages, in the caller's own
 //! room. A reader may rely on the rows after the splice showing the kinds after the patches, whatever kinds the rows
 //! before showed.
-ghost use Rattle.std.specs.Prelude.{ℕ, All, take, drop, min, ◌≡◌, ◌<◌, ◌≤◌, ◌+◌, ◌*◌, ◌-◌, [], Option, length, vec_capacity};
+ghost use Rattle.std.specs.Prelude.{ℕ, All, take, drop, min, ◌≡◌, ◌<◌, ◌≤◌, ◌+◌, ◌*◌, ◌-◌, [], Option, length, slice_index, vec_capacity};
 ghost use Rattle.page_types.specs.declared.calls.Kind.{Kind};
 ghost use Rattle.page_types.specs.declared.TheConstants.{LIMIT};
 ghost use Rattle.page_types.specs.Named.{IsNamedOption};
@@ -11,22 +11,23 @@ ghost use Rattle.space_model.specs.Starts.{same_option};
 ghost use Rattle.space_model.specs.Effect.{painted, patched, AreRising};
 ghost use Rattle.space_model.specs.Judges.{IsNamedPaint, AreNamedPaints, patches_of};
 ghost use Rattle.row_plans.specs.RowLists.{rows_start, ShowFrom, IsBareGap};
-ghost use Rattle.row_plans.specs.Plans.{spliced};
-ghost use Rattle.row_plans.specs.Planning.{ends_with, put, ShowTo, StartBefore, part_left, repainted, IsNamedRepaint, GoesOn};
+ghost use Rattle.row_plans.specs.RowWords.{row_kind};
+ghost use Rattle.row_plans.specs.Plans.{spliced, IsPlaceOf};
+ghost use Rattle.row_plans.specs.Planning.{ends_with, put, ShowTo, part_left, repainted, IsNamedRepaint, GoesOn, come_to, IsCome};
 
-use crate::places::{rows_before, start_of};
+use crate::places::row_behind;
 use crate::row_words::{read_row, write_row};
 use crate::rows::Rows;
 use page_types::{Kind, LIMIT};
 use space_model::{Change, Paint, Patch};
 
-/// The rows that go where a list of rows is changed: those from number `first` up to `end`, counted from 0.
+/// The rows that go where a list of rows is changed: so many, from a place on.
 #[derive(Clone, Copy, Debug, PartialEq, Eq)]
-pub struct Cut {
-    /// The number of the first row that goes.
-    pub first: u32,
-    /// The number behind that of the last one.
-    pub end: u32,
+pub struct Cut<P> {
+    /// Where the first row that goes stands, or any row where none goes.
+    pub at: P,
+    /// How many rows go.
+    pub gone: u32,
 }
 
 /// Pages, by their numbers, and what becomes of them: they are painted, or stay as they are.
@@ -35,6 +36,21 @@ struct Stretch {
     from: u64,
     to: u64,
     paint: Option<Paint>,
+}
+
+/// How far the old rows were gone through: those that start before a page.
+#[derive(Clone, Copy)]
+struct Come<P> {
+    /// The first row that goes.
+    at: P,
+    /// How many rows from there on start before the page.
+    gone: u32,
+    /// The kind of the last one of these, or None where there is none.
+    kind: Option<Kind>,
+    /// The row behind, if there is one.
+    next: Option<P>,
+    /// Where that one starts, or `LIMIT`.
+    end: u64,
 }
 
 /// Whether two kinds are the same, None being that of a gap.
@@ -127,60 +143,88 @@ fn repainted(paint: Option<Paint>, kind: Option<Kind>) -> Option<Kind>
     }
 }
 
-/// The kind of the pages from one on, before which `next` rows start, up to where row `next` starts.
-fn kind_from<R: Rows>(old: &R, hand: &mut R::Hand, next: u32) -> Option<Kind>
-    requires may { R.may_load old.now hand.old }
-    requires there { next ≤ length (R.words old.now hand.old) }
-    ensures named { IsNamedOption result }
-    ensures kind { (page : ℕ) (kinds : ℕ → Option Kind) → StartBefore (R.words old.now hand.old) page next
-        → ShowFrom 0 (R.words old.now hand.old) kinds
-        → (p : ℕ) → page ≤ p → p < rows_start (drop next (R.words old.now hand.old)) → kinds p ≡ result }
-    ensures loaded { R.loaded old.now hand.old hand.new }
-{
-    if next == 0 {
-        return None;
-    }
-    let (_, kind) = read_row(old.load(hand, next - 1));
-    kind
-}
-
-/// Puts the row before so many as it stands, where there is one: the rows that come go on from it. It gives the number
-/// of that row.
-fn put_before<R: Rows>(rows: &mut Vec<u64>, old: &R, hand: &mut R::Hand, start: u32) -> u32
+/// Begins the rows that come with the row before a page, as it stands, where there is one: they go on from it.
+fn begin<R: Rows>(rows: &mut Vec<u64>, old: &R, hand: &mut R::Hand, page: u64) -> Come<R::Place>
     requires may { R.may_load old.now hand.old }
     requires none { rows.old.items ≡ [] }
-    requires there { start ≤ length (R.words old.now hand.old) }
+    requires page { page ≤ LIMIT }
     requires room { 0 < vec_capacity rows.old }
-    ensures before { result ≡ start - 1 }
-    ensures items { rows.new.items ≡ take (start - result) (drop result (R.words old.now hand.old)) }
+    ensures come { IsCome (R.words old.now hand.old) (R.number old.now hand.old) page result }
+    ensures at { R.number old.now hand.old result.at < length (R.words old.now hand.old) }
+    ensures before { R.number old.now hand.old result.at ≡ come_to (R.number old.now hand.old) result - 1 }
+    ensures items { rows.new.items ≡ take result.gone (drop (R.number old.now hand.old result.at) (R.words old.now hand.old)) }
     ensures room { vec_capacity rows.old ≤ vec_capacity rows.new }
     ensures loaded { R.loaded old.now hand.old hand.new }
 {
-    if start == 0 {
-        return 0;
+    if page == 0 {
+        let first = old.first();
+        return Come {
+            at: first,
+            gone: 0,
+            kind: None,
+            next: Some(first),
+            end: 0,
+        };
     }
-    rows.push_reserved(old.load(hand, start - 1));
-    start - 1
+    let row = old.find(hand, page - 1);
+    rows.push_reserved(row.word);
+    let (_, kind) = read_row(row.word);
+    Come {
+        at: row.at,
+        gone: 1,
+        kind,
+        next: old.next(hand, row.at),
+        end: row.end,
+    }
 }
 
-/// Appends the pages of a stretch with the kinds that they get. `first` old rows start before the first of them; it
-/// gives how many start before the page behind the last.
+/// Goes one row further, which there is.
+fn go_on<R: Rows>(old: &R, hand: &mut R::Hand, come: Come<R::Place>) -> Come<R::Place>
+    requires may { R.may_load old.now hand.old }
+    requires next { IsPlaceOf (R.words old.now hand.old) (R.number old.now hand.old) (come_to (R.number old.now hand.old) come) come.next }
+    requires there { come_to (R.number old.now hand.old) come < length (R.words old.now hand.old) }
+    ensures at { result.at ≡ come.at }
+    ensures gone { result.gone ≡ come.gone + 1 }
+    ensures kind { result.kind ≡ row_kind (slice_index (R.words old.now hand.old) (come_to (R.number old.now hand.old) come)) }
+    ensures named { IsNamedOption result.kind }
+    ensures next { IsPlaceOf (R.words old.now hand.old) (R.number old.now hand.old) (come_to (R.number old.now hand.old) come + 1) result.next }
+    ensures end { result.end ≡ rows_start (drop (come_to (R.number old.now hand.old) come + 1) (R.words old.now hand.old)) }
+    ensures loaded { R.loaded old.now hand.old hand.new }
+{
+    let Some(next) = come.next else {
+        unreachable!()
+    };
+    let (_, kind) = read_row(old.load(hand, next));
+    let behind = row_behind(old, hand, next);
+    Come {
+        at: come.at,
+        gone: come.gone + 1,
+        kind,
+        next: behind.next,
+        end: behind.end,
+    }
+}
+
+/// Appends the pages of a stretch with the kinds that they get. The old rows were gone through up to its first page; it
+/// goes through them up to the page behind its last one.
 fn put_to<R: Rows>(
     rows: &mut Vec<u64>,
     old: &R,
     hand: &mut R::Hand,
     pages: Stretch,
-    first: u32,
-) -> u32
+    come: Come<R::Place>,
+) -> Come<R::Place>
     requires may { R.may_load old.now hand.old }
     requires paint { IsNamedRepaint pages.paint }
-    requires come { StartBefore (R.words old.now hand.old) pages.from first }
+    requires come { IsCome (R.words old.now hand.old) (R.number old.now hand.old) pages.from come }
     requires ordered { pages.from ≤ pages.to }
     requires limit { pages.to ≤ LIMIT }
-    requires room { length rows.old.items + length (R.words old.now hand.old) + 1 ≤ first + vec_capacity rows.old }
+    requires room { length rows.old.items + length (R.words old.now hand.old) + 1 ≤ come_to (R.number old.now hand.old) come + vec_capacity rows.old }
     requires gaps { All IsBareGap rows.old.items }
-    ensures come { StartBefore (R.words old.now hand.old) pages.to result }
-    ensures few { length rows.new.items + first ≤ length rows.old.items + result + part_left (R.words old.now hand.old) pages.from first }
+    ensures come { IsCome (R.words old.now hand.old) (R.number old.now hand.old) pages.to result }
+    ensures at { result.at ≡ come.at }
+    ensures few { length rows.new.items + come.gone ≤ length rows.old.items + result.gone
+        + part_left (R.words old.now hand.old) pages.from (come_to (R.number old.now hand.old) come) }
     ensures room { vec_capacity rows.old ≤ vec_capacity rows.new }
     ensures gaps { All IsBareGap rows.new.items }
     ensures shows { (from : ℕ) (kinds others : ℕ → Option Kind) → ShowFrom 0 (R.words old.now hand.old) kinds
@@ -188,51 +232,52 @@ fn put_to<R: Rows>(
         → ShowTo from rows.old.items pages.from others → ShowTo from rows.new.items pages.to others }
     ensures loaded { R.loaded old.now hand.old hand.new }
 {
-    let end = start_of(old, hand, first).min(pages.to);
-    let kind = kind_from(old, hand, first);
-    put_part(rows, pages.from, end, repainted(pages.paint, kind));
-    let mut next = first;
+    let end = come.end.min(pages.to);
+    put_part(rows, pages.from, end, repainted(pages.paint, come.kind));
+    let mut now = come;
     let mut at = end;
     'rows: while at < pages.to {
-        let (_, kind) = read_row(old.load(hand, next));
-        put_row(rows, at, repainted(pages.paint, kind));
-        next += 1;
-        at = start_of(old, hand, next).min(pages.to);
+        now = go_on(old, hand, now);
+        put_row(rows, at, repainted(pages.paint, now.kind));
+        at = now.end.min(pages.to);
     }
-    next
+    now
 }
 
-/// Ends the rows that come, behind a page before which `next` old rows start. What is left of the last of these is put
-/// as it was, and the row behind goes where it is of the kind of the last row that comes. It gives the number of the
-/// first old row that stays.
-fn join_on<R: Rows>(rows: &mut Vec<u64>, old: &R, hand: &mut R::Hand, to: u64, next: u32) -> u32
+/// Ends the rows that come, behind a page up to which the old rows were gone through. What is left of the last of these
+/// is put as it was, and the row behind goes where it is of the kind of the last row that comes. It gives how many go.
+fn join_on<R: Rows>(
+    rows: &mut Vec<u64>,
+    old: &R,
+    hand: &mut R::Hand,
+    to: u64,
+    come: Come<R::Place>,
+) -> u32
     requires may { R.may_load old.now hand.old }
-    requires come { StartBefore (R.words old.now hand.old) to next }
+    requires come { IsCome (R.words old.now hand.old) (R.number old.now hand.old) to come }
     requires limit { to ≤ LIMIT }
     requires room { length rows.old.items < vec_capacity rows.old }
     requires gaps { All IsBareGap rows.old.items }
-    ensures next { next ≤ result }
-    ensures there { result ≤ length (R.words old.now hand.old) }
-    ensures few { length rows.new.items ≤ length rows.old.items + part_left (R.words old.now hand.old) to next }
+    ensures gone { come.gone ≤ result }
+    ensures there { R.number old.now hand.old come.at + result ≤ length (R.words old.now hand.old) }
+    ensures few { length rows.new.items ≤ length rows.old.items + part_left (R.words old.now hand.old) to (come_to (R.number old.now hand.old) come) }
     ensures room { vec_capacity rows.old ≤ vec_capacity rows.new }
     ensures gaps { All IsBareGap rows.new.items }
-    ensures ahead { to ≤ rows_start (drop result (R.words old.now hand.old)) }
+    ensures ahead { to ≤ rows_start (drop (R.number old.now hand.old come.at + result) (R.words old.now hand.old)) }
     ensures shows { (from : ℕ) (kinds others : ℕ → Option Kind) → ShowFrom 0 (R.words old.now hand.old) kinds
         → ((p : ℕ) → to ≤ p → p < LIMIT → others p ≡ kinds p) → ShowTo from rows.old.items to others
-        → ShowTo from rows.new.items (rows_start (drop result (R.words old.now hand.old))) others }
-    ensures differs { GoesOn rows.new.items (drop result (R.words old.now hand.old)) }
+        → ShowTo from rows.new.items (rows_start (drop (R.number old.now hand.old come.at + result) (R.words old.now hand.old))) others }
+    ensures differs { GoesOn rows.new.items (drop (R.number old.now hand.old come.at + result) (R.words old.now hand.old)) }
     ensures loaded { R.loaded old.now hand.old hand.new }
 {
-    let end = start_of(old, hand, next);
-    let kind = kind_from(old, hand, next);
-    put_part(rows, to, end, kind);
-    if next < old.count() {
+    put_part(rows, to, come.end, come.kind);
+    if let Some(next) = come.next {
         let (_, kind) = read_row(old.load(hand, next));
         if ends_with(rows.as_slice(), kind) {
-            return next + 1;
+            return come.gone + 1;
         }
     }
-    next
+    come.gone
 }
 
 /// The splice that a change makes of the rows: which go, and which come in their place.
@@ -241,34 +286,33 @@ pub(crate) fn plan_change<R: Rows>(
     hand: &mut R::Hand,
     change: Change,
     rows: &mut Vec<u64>,
-) -> Cut
+) -> Cut<R::Place>
     requires may { R.may_load old.now hand.old }
     requires paints { AreNamedPaints (patches_of change) }
     requires rising { AreRising 0 (patches_of change) }
     requires room { length (R.words old.now hand.old) + 2 * length (patches_of change) ≤ vec_capacity rows.old }
-    ensures ordered { result.first ≤ result.end }
-    ensures there { result.end ≤ length (R.words old.now hand.old) }
-    ensures few { length rows.new.items ≤ result.end - result.first + 2 * length (patches_of change) }
+    ensures at { R.number old.now hand.old result.at < length (R.words old.now hand.old) }
+    ensures there { R.number old.now hand.old result.at + result.gone ≤ length (R.words old.now hand.old) }
+    ensures few { length rows.new.items ≤ result.gone + 2 * length (patches_of change) }
     ensures room { vec_capacity rows.old ≤ vec_capacity rows.new }
-    ensures gaps { All IsBareGap (spliced (R.words old.now hand.old) result rows.new.items) }
+    ensures gaps { All IsBareGap (spliced (R.number old.now hand.old) (R.words old.now hand.old) result rows.new.items) }
     ensures shows { (kinds : ℕ → Option Kind) → ShowFrom 0 (R.words old.now hand.old) kinds
-        → ShowFrom 0 (spliced (R.words old.now hand.old) result rows.new.items) (patched (patches_of change) kinds) }
+        → ShowFrom 0 (spliced (R.number old.now hand.old) (R.words old.now hand.old) result rows.new.items) (patched (patches_of change) kinds) }
     ensures loaded { R.loaded old.now hand.old hand.new }
 {
     rows.clear();
     let first = change.first;
-    let start = rows_before(old, hand, first.lo);
-    let begin = put_before(rows, old, hand, start);
+    let begun = begin(rows, old, hand, first.lo);
     let own = Stretch {
         from: first.lo,
         to: first.hi,
         paint: Some(first.paint),
     };
-    let next = put_to(rows, old, hand, own, start);
+    let next = put_to(rows, old, hand, own, begun);
     match change.second {
         None => Cut {
-            first: begin,
-            end: join_on(rows, old, hand, first.hi, next),
+            at: begun.at,
+            gone: join_on(rows, old, hand, first.hi, next),
         },
         Some(second) => {
             let between = Stretch {
@@ -284,8 +328,8 @@ pub(crate) fn plan_change<R: Rows>(
             };
             let last = put_to(rows, old, hand, other, again);
             Cut {
-                first: begin,
-                end: join_on(rows, old, hand, second.hi, last),
+                at: begun.at,
+                gone: join_on(rows, old, hand, second.hi, last),
             }
         }
     }

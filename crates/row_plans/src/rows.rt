@@ -1,20 +1,41 @@
-//! Rows that are loaded one by one, where they are needed. Whoever keeps them says how: a caller of a shared space
-//! loads words under the range that it holds, and a test reads a list. A reader may rely on all loads finding one list
-//! of rows, whichever of them are loaded, and in which order.
-ghost use Rattle.std.specs.Prelude.{ℕ, List, ◌≡◌, ◌<◌, length, slice_index};
-ghost use Rattle.row_plans.specs.Plans.{IsRowList};
+//! Rows that are found and loaded where they are needed, by the places where they stand. Whoever keeps them says what a
+//! place is: rows may stand one behind the other or in blocks. A caller of a shared space loads words under the range
+//! that it holds, and a test reads a list. A reader may rely on all loads finding one list of rows, whichever of them
+//! are loaded, and in which order.
+ghost use Rattle.std.specs.Prelude.{ℕ, List, ◌≡◌, ◌<◌, ◌≤◌, ◌+◌, length, drop, slice_index};
+ghost use Rattle.page_types.specs.declared.TheConstants.{LIMIT};
+ghost use Rattle.row_plans.specs.RowWords.{row_start};
+ghost use Rattle.row_plans.specs.RowLists.{rows_start};
+ghost use Rattle.row_plans.specs.Plans.{IsRowList, IsPlaceOf};
 
-/// Rows that can be loaded. A load may need a hand besides, as a caller's seat where the rows are words that threads
-/// share; it then says what it leaves of that hand.
+/// A row that was found.
+#[derive(Clone, Copy)]
+pub struct Found<P> {
+    /// Where it stands.
+    pub at: P,
+    /// Its word.
+    pub word: u64,
+    /// The page at which the next row starts, or `LIMIT`.
+    pub end: u64,
+}
+
+/// Rows that can be found and loaded. A load may need a hand besides, as a caller's seat where the rows are words that
+/// threads share; it then says what it leaves of that hand.
 pub trait Rows {
     /// What a load needs besides the rows.
     type Hand;
+
+    /// Where a row stands.
+    type Place: Copy;
 
     /// With this hand rows may be loaded.
     ghost may_load: { Self → Self.Hand → Type 0 };
 
     /// The words of all rows, as loads with this hand find them.
     ghost words: { Self → Self.Hand → List ℕ };
+
+    /// The number of the row at a place, counted from 0; where no row stands there, no row has that number.
+    ghost number: { Self → Self.Hand → Self.Place → ℕ };
 
     /// What loads leave of a hand.
     ghost loaded: { Self → Self.Hand → Self.Hand → Type 0 };
@@ -29,6 +50,9 @@ pub trait Rows {
     ghost same_words: { (rows : Self) (one two : Self.Hand) → may_load rows one → loaded rows one two
         → may_load rows two × (words rows two ≡ words rows one) };
 
+    /// It leaves each row at its place.
+    ghost same_places: { (rows : Self) (one two : Self.Hand) → may_load rows one → loaded rows one two → number rows two ≡ number rows one };
+
     /// The words are a list of rows.
     ghost are_rows: { (rows : Self) (hand : Self.Hand) → may_load rows hand → IsRowList (words rows hand) };
 
@@ -36,10 +60,40 @@ pub trait Rows {
     fn count(&self) -> u32
         ensures { (hand : Self.Hand) → may_load self.now hand → result ≡ length (words self.now hand) };
 
-    /// The word of a row, counted from 0.
-    fn load(&self, hand: &mut Self::Hand, index: u32) -> u64
+    /// The place of the first row.
+    fn first(&self) -> Self::Place
+        ensures { (hand : Self.Hand) → may_load self.now hand → number self.now hand result ≡ 0 };
+
+    /// The row that has a page.
+    fn find(&self, hand: &mut Self::Hand, page: u64) -> Found<Self::Place>
         requires may { may_load self.now hand.old }
-        requires there { index < length (words self.now hand.old) }
-        ensures word { result ≡ slice_index (words self.now hand.old) index }
+        requires page { page < LIMIT }
+        ensures there { number self.now hand.old result.at < length (words self.now hand.old) }
+        ensures word { result.word ≡ slice_index (words self.now hand.old) (number self.now hand.old result.at) }
+        ensures end { result.end ≡ rows_start (drop (number self.now hand.old result.at + 1) (words self.now hand.old)) }
+        ensures from { row_start result.word ≤ page }
+        ensures until { page < result.end }
+        ensures loaded { loaded self.now hand.old hand.new };
+
+    /// The word of the row at a place.
+    fn load(&self, hand: &mut Self::Hand, at: Self::Place) -> u64
+        requires may { may_load self.now hand.old }
+        requires there { number self.now hand.old at < length (words self.now hand.old) }
+        ensures word { result ≡ slice_index (words self.now hand.old) (number self.now hand.old at) }
+        ensures loaded { loaded self.now hand.old hand.new };
+
+    /// The place of the row behind, or None behind the last row.
+    fn next(&self, hand: &mut Self::Hand, at: Self::Place) -> Option<Self::Place>
+        requires may { may_load self.now hand.old }
+        requires there { number self.now hand.old at < length (words self.now hand.old) }
+        ensures next { IsPlaceOf (words self.now hand.old) (number self.now hand.old) (number self.now hand.old at + 1) result }
+        ensures loaded { loaded self.now hand.old hand.new };
+
+    /// The place of the row before, where there is one.
+    fn previous(&self, hand: &mut Self::Hand, at: Self::Place) -> Self::Place
+        requires may { may_load self.now hand.old }
+        requires there { number self.now hand.old at < length (words self.now hand.old) }
+        requires less { 0 < number self.now hand.old at }
+        ensures previous { number self.now hand.old result + 1 ≡ number self.now hand.old at }
         ensures loaded { loaded self.now hand.old hand.new };
 }

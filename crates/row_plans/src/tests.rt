@@ -1,12 +1,15 @@
-ghost use Rattle.std.specs.Prelude.{◌≡◌, ◌≤◌, ◌<◌, IfOk, IsTrue, length};
+ghost use Rattle.std.specs.Prelude.{◌≡◌, ◌≤◌, ◌<◌, ◌+◌, IfOk, IsTrue, length, drop, slice_index};
+ghost use Rattle.page_types.specs.declared.TheConstants.{LIMIT};
 ghost use Rattle.page_types.specs.Named.{IsNamedCall};
 ghost use Rattle.space_model.specs.Judges.{IsNamedPaint};
+ghost use Rattle.row_plans.specs.RowWords.{row_start};
+ghost use Rattle.row_plans.specs.RowLists.{rows_start};
 ghost use Rattle.row_plans.specs.Plans.{IsRowList, spliced};
 
 use crate::plan::plan_rows;
 use crate::planning::{Cut, plan_change};
 use crate::row_words::{read_row, write_row};
-use crate::rows::Rows;
+use crate::rows::{Found, Rows};
 use page_types::{Call, Kind, LIMIT, MapFlags, PAGE, Prot, ROWS, Reply, SPARE};
 use space_model::{Change, Paint, Patch};
 use std::alloc::{AllocError, Global};
@@ -21,6 +24,35 @@ fn no_areas(alloc: Global) -> Result<Vec<u64>, AllocError>
     let mut rows = Vec::new(alloc);
     rows.push(write_row(0, None))?;
     Ok(rows)
+}
+
+/// The row that has a page.
+fn find(rows: &[u64], page: u64) -> Found<u32>
+    requires list { IsRowList rows.now }
+    requires page { page < LIMIT }
+    ensures there { result.at < length rows.now }
+    ensures word { result.word ≡ slice_index rows.now result.at }
+    ensures end { result.end ≡ rows_start (drop (result.at + 1) rows.now) }
+    ensures from { row_start result.word ≤ page }
+    ensures until { page < result.end }
+{
+    let mut at = 0;
+    'rows: while at + 1 < rows.len() {
+        let (end, _) = read_row(rows[at + 1]);
+        if page < end {
+            return Found {
+                at: at as u32,
+                word: rows[at],
+                end,
+            };
+        }
+        at += 1;
+    }
+    Found {
+        at: at as u32,
+        word: rows[at],
+        end: LIMIT,
+    }
 }
 
 /// Rows that were read, as a list.
@@ -46,9 +78,13 @@ impl<'a> Rows for ReadRows<'a> {
 
     type Hand = ();
 
+    type Place = u32;
+
     ghost may_load = { λ rows _. IsRowList rows };
 
     ghost words = { λ rows _. rows };
+
+    ghost number = { λ _ _ at. at };
 
     ghost loaded = { λ _ _ _. Unit {0} };
 
@@ -58,26 +94,47 @@ impl<'a> Rows for ReadRows<'a> {
 
     ghost same_words = { λ _ _ _ may _. (may, refl) };
 
+    ghost same_places = { λ _ _ _ _ _. refl };
+
     ghost are_rows = { λ _ _ may. may };
 
     fn count(&self) -> u32 {
         self.rows.len() as u32
     }
 
-    fn load(&self, _hand: &mut (), index: u32) -> u64 {
-        self.rows[index as usize]
+    fn first(&self) -> u32 {
+        0
+    }
+
+    fn find(&self, _hand: &mut (), page: u64) -> Found<u32> {
+        let rows = self.rows;
+        find(rows, page)
+    }
+
+    fn load(&self, _hand: &mut (), at: u32) -> u64 {
+        self.rows[at as usize]
+    }
+
+    fn next(&self, _hand: &mut (), at: u32) -> Option<u32> {
+        if at as usize + 1 < self.rows.len() {
+            return Some(at + 1);
+        }
+        None
+    }
+
+    fn previous(&self, _hand: &mut (), at: u32) -> u32 {
+        at - 1
     }
 }
 
 /// The list with the splice in it.
-fn spliced(alloc: Global, rows: &[u64], cut: Cut, more: &[u64]) -> Result<Vec<u64>, AllocError>
-    requires ordered { cut.first ≤ cut.end }
-    requires there { cut.end ≤ length rows.now }
-    ensures { IfOk result (λ new. new.items ≡ spliced rows.now cut more.now) }
+fn spliced(alloc: Global, rows: &[u64], cut: Cut<u32>, more: &[u64]) -> Result<Vec<u64>, AllocError>
+    requires there { cut.at + cut.gone ≤ length rows.now }
+    ensures { IfOk result (λ new. new.items ≡ spliced (λ at. at) rows.now cut more.now) }
 {
-    let mut new = Vec::from_slice(alloc, &rows[..cut.first as usize])?;
+    let mut new = Vec::from_slice(alloc, &rows[..cut.at as usize])?;
     new.extend_from_slice(more)?;
-    new.extend_from_slice(&rows[cut.end as usize..])?;
+    new.extend_from_slice(&rows[cut.at as usize + cut.gone as usize..])?;
     Ok(new)
 }
 

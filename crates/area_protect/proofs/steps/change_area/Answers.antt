@@ -7,6 +7,7 @@ use Rattle.space_model.specs.Held.{IsSimple}
 use Rattle.area_rows.specs.AreaPlans.{IsOneKind}
 use Rattle.area_rows.specs.History.{change_pending}
 use Rattle.area_rows.specs.Callers.{MayNumber}
+use Rattle.range_rw.specs.Contract.{Record}
 use Rattle.area_protect.proofs.Looking.{look_shows}
 use Rattle.area_protect.proofs.Stages.{after_back, looked_round, changed_area, nothing_to_store, stored_one, no_lock_call}
 use Rattle.area_protect.proofs.steps.change_area.Goals as goal
@@ -104,3 +105,30 @@ returns-in-Sealed-clause-changed g c =
     (change_pending r.new.caller.change) p.reading p.left c.requires.rest e.line (e.call ∙ c.call-call.ensures) e.under
     e.named e.drawn e.left
     (nothing_to_store n.new.caller.seat (e.drawn.writes ∙ ap change_pending p.plan.0)) refl d.ensures.release d.ensures.left
+
+-- no step of it asks for a range
+pub returns-in-NotSimple-clause-asked : goal.returns-in-NotSimple-clause-asked
+returns-in-NotSimple-clause-asked g c = c.release.ensures.release.asked
+    ∙ (ap (λ (t : Record). t.asked) c.look-at.ensures.look.step.trace ∙ c.in-NotSimple.ensures.reading.asked)
+
+-- nor where each row stays
+pub returns-in-Same-clause-asked : goal.returns-in-Same-clause-asked
+returns-in-Same-clause-asked g c = c.release-in-Same.ensures.release.asked ∙ (ap (λ (t : Record). t.asked) c.number-entry.ensures.drawn.trace
+    ∙ c.in-Same.ensures.reading.asked)
+
+-- nor where a row's kind is set
+pub returns-in-SetKind-clause-asked : goal.returns-in-SetKind-clause-asked
+returns-in-SetKind-clause-asked g c = c.release-in-SetKind.ensures.release.asked
+    ∙ (ap (λ (t : Record). t.asked) c.set_kind.ensures.stored.trace ∙ (ap (λ (t : Record). t.asked) c.number-entry-in-SetKind.ensures.drawn.trace
+    ∙ c.in-SetKind.ensures.reading.asked))
+
+-- nor where a row's start moves
+pub returns-in-MoveStart-clause-asked : goal.returns-in-MoveStart-clause-asked
+returns-in-MoveStart-clause-asked g c = c.release-in-MoveStart.ensures.release.asked
+    ∙ (ap (λ (t : Record). t.asked) c.move_start.ensures.stored.trace ∙ (ap (λ (t : Record). t.asked) c.number-entry-in-MoveStart.ensures.drawn.trace
+    ∙ c.in-MoveStart.ensures.reading.asked))
+
+-- nor in a sealed area
+pub returns-in-Sealed-clause-asked : goal.returns-in-Sealed-clause-asked
+returns-in-Sealed-clause-asked g c = c.release-in-Sealed.ensures.release.asked ∙ (ap (λ (t : Record). t.asked) c.number-entry-in-Sealed.ensures.drawn.trace
+    ∙ c.in-Sealed.ensures.reading.asked)

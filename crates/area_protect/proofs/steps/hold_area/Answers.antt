@@ -5,6 +5,8 @@ use Rattle.page_types.specs.declared.calls.Kind.{Kind}
 use Rattle.page_types.specs.Named.{IsNamedOption}
 use Rattle.lock_core.specs.declared.range.Held.{Held}
 use Rattle.area_rows.specs.Callers.{CountsWhole, RowIs, Shows}
+use Rattle.range_rw.specs.Contract.{Record}
+use Rattle.range_rw.proofs.Asking.{asks_kept, for_only}
 use Rattle.area_protect.proofs.Looking.{look_counts}
 use Rattle.area_protect.proofs.Stages.{whole_back, looked_round, counts_on}
 use Rattle.area_protect.proofs.steps.hold_area.Goals as goal
@@ -53,3 +55,18 @@ returns-then-sequence-found-clause-looked g c =
     (looked_round c.args.caller.now a.new.caller q.new.caller l.new.caller d.new.caller l.result a.ensures.call
     a.ensures.left a.ensures.rest q.ensures.reading q.ensures.left l.ensures.look l.ensures.left d.ensures.release
     d.ensures.left).0
+
+-- what is asked for is the area with a page on each side
+pub returns-then-sequence-found-clause-asks : goal.returns-then-sequence-found-clause-asks
+returns-then-sequence-found-clause-asks g c = asks_kept (for_only c.acquire.ensures.asks)
+    (c.release.ensures.release.asked ∙ (ap (λ (t : Record). t.asked) c.look-second.ensures.look.step.trace ∙ c.sequence-sequence.ensures.reading.asked))
+
+-- also where it is held
+pub returns-in-Some-clause-asks : goal.returns-in-Some-clause-asks
+returns-in-Some-clause-asks g c = asks_kept (for_only c.acquire.ensures.asks)
+    (c.row_of-row.ensures.reading.asked ∙ c.sequence-sequence.ensures.reading.asked)
+
+-- and where its boundaries have moved
+pub returns-in_default-clause-asks : goal.returns-in_default-clause-asks
+returns-in_default-clause-asks g c = asks_kept (for_only c.acquire.ensures.asks)
+    (c.release-in_default.ensures.release.asked ∙ (c.row_of-row.ensures.reading.asked ∙ c.sequence-sequence.ensures.reading.asked))

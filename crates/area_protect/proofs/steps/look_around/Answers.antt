@@ -1,10 +1,12 @@
-use Rattle.std.proofs.Common.{◌∙◌, refl, subst, sym, arith, inl, inr}
+use Rattle.std.proofs.Common.{◌∙◌, refl, subst, sym, arith, inl, inr, ap}
 use Rattle.std.specs.Prelude.{Option, IsSome}
 use Rattle.lock_core.specs.declared.range.Held.{Held}
 use Rattle.lock_core.specs.declared.range.Mode.TheVariants.{Reader}
 use Rattle.area_rows.specs.AreaPlans.{IsOneKind}
 use Rattle.area_rows.specs.Callers.{held_span}
 use Rattle.area_rows.specs.Loading.{reading_on}
+use Rattle.range_rw.specs.Contract.{Record}
+use Rattle.range_rw.proofs.Asking.{for_kept}
 use Rattle.area_protect.proofs.Looking.{look_shows, look_counts}
 use Rattle.area_protect.proofs.Stages.{other_shown, after_back, whole_back, looked_round, first_round, counts_on}
 use Rattle.area_protect.proofs.steps.look_around.Goals as goal
@@ -109,3 +111,21 @@ returns-in_default-2-clause-looked g c =
     let read = reading_on a.new.caller.seat q.new.caller.seat r.new.caller.seat q.ensures.reading r.ensures.reading in
     (looked_round c.args.caller.now a.new.caller r.new.caller l.new.caller d.new.caller l.result a.ensures.call a.ensures.left
     a.ensures.rest read (r.ensures.left ∙ q.ensures.left) l.ensures.look l.ensures.left d.ensures.release d.ensures.left).0
+
+-- what is asked for is the pages as a reader
+pub returns-in-Some-clause-asks : goal.returns-in-Some-clause-asks
+returns-in-Some-clause-asks g c = for_kept c.acquire.ensures.asks
+    (c.release.ensures.release.asked ∙ (ap (λ (t : Record). t.asked) c.look-at.ensures.look.step.trace
+    ∙ (c.row_of-row.ensures.reading.asked ∙ c.sequence-sequence.ensures.reading.asked)))
+
+-- also where they reach behind the row of the first one
+pub returns-in_default-clause-asks : goal.returns-in_default-clause-asks
+returns-in_default-clause-asks g c = for_kept c.acquire.ensures.asks
+    (c.release.ensures.release.asked ∙ (ap (λ (t : Record). t.asked) c.look-at.ensures.look.step.trace
+    ∙ (c.row_of-row.ensures.reading.asked ∙ c.sequence-sequence.ensures.reading.asked)))
+
+-- and where the first one isn't mapped
+pub returns-in_default-2-clause-asks : goal.returns-in_default-2-clause-asks
+returns-in_default-2-clause-asks g c = for_kept c.acquire.ensures.asks
+    (c.release.ensures.release.asked ∙ (ap (λ (t : Record). t.asked) c.look-at.ensures.look.step.trace
+    ∙ (c.row_of-row.ensures.reading.asked ∙ c.sequence-sequence.ensures.reading.asked)))

@@ -1,5 +1,7 @@
 use Rattle.std.proofs.Common.{◌∙◌, subst}
 use Rattle.area_protect.specs.Attempts.{HoldsRow}
+use Rattle.range_rw.proofs.Asking.{asks_kept}
+use Rattle.area_protect.proofs.Asking.{looks_first, area_then}
 use Rattle.area_protect.proofs.Looking.{looked_on, moved_between, more_rows_later, changed_after, first_then, first_changed, first_needs}
 use Rattle.area_protect.proofs.steps.one_attempt.Goals as goal
 
@@ -65,3 +67,35 @@ returns-in-Err-change_area-clause-attempt g c =
     let look = looked_on a c.look_around.new.caller d c.look_around.ensures.looked c.in-Area.ensures.looked in
     let needs = c.in-Err-change_area.ensures.rows in
     (looked_on a d e look needs.looked, more_rows_later a d e c.args.request c.in-Err-change_area.at look needs)
+
+-- the look asks for the pages
+pub returns-in-Err-clause-asks : goal.returns-in-Err-clause-asks
+returns-in-Err-clause-asks g c = looks_first c.args.pages.lo c.args.pages.hi _ _ c.look_around.ensures.asks
+
+-- and then the area is asked for, also where its boundaries have moved
+pub returns-in-Other-clause-asks : goal.returns-in-Other-clause-asks
+returns-in-Other-clause-asks g c =
+    let f = c.in-Ok.ensures.found in
+    area_then c.args.pages.lo c.args.pages.hi c.in-Ok.found.area c.widened-wide.result _ _ _ f.area f.from f.until c.widened-wide.ensures
+    (looks_first c.args.pages.lo c.args.pages.hi _ _ c.look_around.ensures.asks) c.hold_area.ensures.asks
+
+-- where a call under everything came between
+pub returns-in-Moved-clause-asks : goal.returns-in-Moved-clause-asks
+returns-in-Moved-clause-asks g c =
+    let f = c.in-Ok.ensures.found in
+    area_then c.args.pages.lo c.args.pages.hi c.in-Ok.found.area c.widened-wide.result _ _ _ f.area f.from f.until c.widened-wide.ensures
+    (looks_first c.args.pages.lo c.args.pages.hi _ _ c.look_around.ensures.asks) c.hold_area.ensures.asks
+
+-- where the change got its entry
+pub returns-in-Ok-change_area-clause-asks : goal.returns-in-Ok-change_area-clause-asks
+returns-in-Ok-change_area-clause-asks g c =
+    let f = c.in-Ok.ensures.found in
+    asks_kept (area_then c.args.pages.lo c.args.pages.hi c.in-Ok.found.area c.widened-wide.result _ _ _ f.area f.from f.until c.widened-wide.ensures
+    (looks_first c.args.pages.lo c.args.pages.hi _ _ c.look_around.ensures.asks) c.hold_area.ensures.asks) c.change_area.ensures.asked
+
+-- and where it needs more rows
+pub returns-in-Err-change_area-clause-asks : goal.returns-in-Err-change_area-clause-asks
+returns-in-Err-change_area-clause-asks g c =
+    let f = c.in-Ok.ensures.found in
+    asks_kept (area_then c.args.pages.lo c.args.pages.hi c.in-Ok.found.area c.widened-wide.result _ _ _ f.area f.from f.until c.widened-wide.ensures
+    (looks_first c.args.pages.lo c.args.pages.hi _ _ c.look_around.ensures.asks) c.hold_area.ensures.asks) c.change_area.ensures.asked

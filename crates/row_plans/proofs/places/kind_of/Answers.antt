@@ -1,8 +1,8 @@
-use Rattle.std.proofs.Common.{◌≡◌, ap, ◌∙◌}
+use Rattle.std.proofs.Common.{ℕ, ◌≡◌, ◌<◌, ◌≤◌, drop, get_or, ap, subst, ◌∙◌, arith}
 use Rattle.space_model.specs.Areas.{kind_at}
-use Rattle.std.specs.Prelude.{slice_index}
-use Rattle.row_plans.specs.RowWords.{row_kind}
-use Rattle.row_plans.specs.RowLists.{areas_from}
+use Rattle.row_plans.specs.RowWords.{row_start, row_kind}
+use Rattle.row_plans.specs.RowLists.{rows_start, areas_from}
+use Rattle.row_plans.proofs.Splices.{start_at}
 use Rattle.row_plans.proofs.RowPages.{kind_there}
 use Rattle.row_plans.proofs.places.kind_of.Goals as goal
 
@@ -12,9 +12,11 @@ returns-clause-kind g c =
     let rows = c.args.rows.now in
     let hand = c.args.hand.now in
     let words = g.R.Rows.words rows hand in
-    let at = c.row_at-at.result in
-    let found = c.row_at-at.ensures in
-    let now = g.R.Rows.same_words rows hand c.row_at-at.new.hand c.requires.may found.loaded in
-    let word : c.load.result ≡ slice_index words at = c.load.ensures.word ∙ ap (λ l. slice_index l at) now.1 in
+    let found = c.find-row.ensures in
+    let at : ℕ = g.R.Rows.number rows hand c.find-row.result.at in
+    let begins : rows_start (drop at words) ≡ row_start (get_or words at 0) = start_at words at found.there in
+    let starts = ap row_start found.word in
+    let from = found.from in
+    let low : rows_start (drop at words) ≤ c.args.page = omega arith in
     kind_there words (kind_at (areas_from words)) at c.args.page c.read_row-kind.result.1 (g.R.Rows.are_rows rows hand c.requires.may).show
-    found.there found.from found.until (c.read_row-kind.ensures.kind ∙ ap row_kind word)
+    found.there low (subst (λ (x : ℕ). c.args.page < x) found.end found.until) (c.read_row-kind.ensures.kind ∙ ap row_kind found.word)

@@ -1,4 +1,4 @@
-use Rattle.std.proofs.Common.{rules, ◌≡◌, ◌<◌, ◌≤◌, length, ◌∙◌, ap, refl}
+use Rattle.std.proofs.Common.{rules, ℕ, List, ◌≡◌, ◌<◌, ◌≤◌, ◌+◌, ◌-◌, length, ◌∙◌, ap, refl, arith}
 use Rattle.page_types.specs.declared.TheConstants.{ROWS}
 use Rattle.space_model.specs.Areas.{kind_at}
 use Rattle.space_model.specs.Effect.{patched}
@@ -16,20 +16,24 @@ returns-then-rows-gt-ROWS-clause-made g c =
     let old = c.args.old.now in
     let hand = c.args.hand.now in
     let words = g.R.Rows.words old hand in
+    let number = g.R.Rows.number old hand in
     let list = g.R.Rows.are_rows old hand c.requires.may in
     let cut = c.plan_change-cut.result in
     let more = c.plan_change-cut.new.rows.items in
     let made = c.plan_change-cut.ensures in
-    let shown : ShowFrom 0 (spliced words cut more) (patched (patches_of c.args.change) (kind_at (areas_from words))) =
+    let shown : ShowFrom 0 (spliced number words cut more) (patched (patches_of c.args.change) (kind_at (areas_from words))) =
     made.shows (kind_at (areas_from words)) list.show in
     let all : c.count-count.result ≡ length words = c.count-count.ensures hand c.requires.may in
-    let wide = splice_length words more cut.first cut.end made.ordered made.there in
+    let ordered : number cut.at ≤ number cut.at + cut.gone = omega arith in
+    let wide = splice_length words more (number cut.at) (number cut.at + cut.gone) ordered made.there in
+    let gone : number cut.at + cut.gone - number cut.at ≡ cut.gone = omega arith in
     let none = c.unchanged.ensures in
     let counted : c.args.change.full ≡ c.args.change.full = refl in
-    let many : ROWS < length (spliced words cut more) = search rules in
-    made_full words (spliced words cut more) c.args.change list c.requires.rising shown
-    (spliced words c.unchanged.result.cut c.unchanged.new.new.items) c.unchanged.result.reply c.unchanged.result.rows many
-    (as_they_were words c.unchanged.new.new.items c.unchanged.result.cut none.first none.end none.none)
+    let many : ROWS < length (spliced number words cut more) = search rules in
+    made_full words (spliced number words cut more) c.args.change list c.requires.rising shown
+    (spliced number words c.unchanged.result.cut c.unchanged.new.new.items) c.unchanged.result.reply c.unchanged.result.rows many
+    (as_they_were number words c.unchanged.new.new.items c.unchanged.result.cut (ap number none.at ∙ c.first.ensures hand c.requires.may) none.gone
+    none.none)
     (none.reply ∙ (c.full_reply.ensures ∙ ap (full_reply c.args.change.full) (search rules))) (none.rows ∙ all)
 
 -- where they aren't, it is made with the splice
@@ -38,13 +42,20 @@ returns-clause-made g c =
     let old = c.args.old.now in
     let hand = c.args.hand.now in
     let words = g.R.Rows.words old hand in
+    let number = g.R.Rows.number old hand in
     let list = g.R.Rows.are_rows old hand c.requires.may in
     let cut = c.plan_change-cut.result in
     let more = c.plan_change-cut.new.rows.items in
     let made = c.plan_change-cut.ensures in
-    let shown : ShowFrom 0 (spliced words cut more) (patched (patches_of c.args.change) (kind_at (areas_from words))) =
+    let shown : ShowFrom 0 (spliced number words cut more) (patched (patches_of c.args.change) (kind_at (areas_from words))) =
     made.shows (kind_at (areas_from words)) list.show in
     let all : c.count-count.result ≡ length words = c.count-count.ensures hand c.requires.may in
-    let wide = splice_length words more cut.first cut.end made.ordered made.there in
-    let few : length (spliced words cut more) ≤ ROWS = search rules in
-    made_done words (spliced words cut more) c.args.change list c.requires.rising shown c.args.change.reply _ few made.gaps refl (search rules)
+    let ordered : number cut.at ≤ number cut.at + cut.gone = omega arith in
+    let wide = splice_length words more (number cut.at) (number cut.at + cut.gone) ordered made.there in
+    let gone : number cut.at + cut.gone - number cut.at ≡ cut.gone = omega arith in
+    let few : length (spliced number words cut more) ≤ ROWS = search rules in
+    made_done words (spliced number words cut more) c.args.change list c.requires.rising shown c.args.change.reply _ few made.gaps refl (search rules)
+
+-- where no row goes, none comes
+pub returns-then-rows-gt-ROWS-clause-few : goal.returns-then-rows-gt-ROWS-clause-few
+returns-then-rows-gt-ROWS-clause-few g c = let none = ap (λ (l : List ℕ). length l) c.unchanged.ensures.none in omega arith

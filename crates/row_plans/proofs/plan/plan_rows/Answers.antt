@@ -1,4 +1,4 @@
-use Rattle.std.proofs.Common.{rules, ◌≡◌, ◌∙◌, length, sym, ap, subst, arith}
+use Rattle.std.proofs.Common.{rules, ◌≡◌, ◌∙◌, length, sym, ap, arith}
 use Rattle.std.specs.Prelude.{None, Some, List, ℕ}
 use Rattle.page_types.specs.PlainReply.{plain_reply}
 use Rattle.space_model.specs.Areas.{kind_at}
@@ -6,6 +6,7 @@ use Rattle.row_plans.specs.RowLists.{areas_from}
 use Rattle.row_plans.specs.Plans.{spliced}
 use Rattle.row_plans.specs.Planning.{IsMade}
 use Rattle.row_plans.proofs.PlanLeft.{judged_few, judged_named, as_they_were, plan_plain, plan_refused, plan_kept, plan_made}
+use Rattle.row_plans.proofs.Loading.{loads_first, as_before}
 use Rattle.row_plans.proofs.plan.plan_rows.Goals as goal
 
 -- what the arguments decide is the plan
@@ -14,10 +15,12 @@ returns-in-Some-clause-plan g c =
     let old = c.args.old.now in
     let hand = c.args.hand.now in
     let words = g.R.Rows.words old hand in
+    let number = g.R.Rows.number old hand in
     let none = c.unchanged.ensures in
-    let as_before = as_they_were words c.unchanged.new.new.items c.unchanged.result.cut none.first none.end none.none in
+    let as_before = as_they_were number words c.unchanged.new.new.items c.unchanged.result.cut
+    (ap number none.at ∙ c.first.ensures hand c.requires.may) none.gone none.none in
     let decided : plain_reply c.args.call.now ≡ Some c.unchanged.result.reply = sym c.in-Some.ensures ∙ ap (λ r. Some r) (sym none.reply) in
-    plan_plain words (spliced words c.unchanged.result.cut c.unchanged.new.new.items) c.args.call.now c.unchanged.result.reply c.unchanged.result.rows
+    plan_plain words (spliced number words c.unchanged.result.cut c.unchanged.new.new.items) c.args.call.now c.unchanged.result.reply c.unchanged.result.rows
     (g.R.Rows.are_rows old hand c.requires.may) as_before (none.rows ∙ c.count.ensures hand c.requires.may) decided
 
 -- what the rows refuse is the plan
@@ -26,10 +29,12 @@ returns-in-Refused-clause-plan g c =
     let old = c.args.old.now in
     let hand = c.args.hand.now in
     let words = g.R.Rows.words old hand in
+    let number = g.R.Rows.number old hand in
     let none = c.unchanged-in-Refused.ensures in
-    let as_before = as_they_were words c.unchanged-in-Refused.new.new.items c.unchanged-in-Refused.result.cut none.first none.end none.none in
+    let as_before = as_they_were number words c.unchanged-in-Refused.new.new.items c.unchanged-in-Refused.result.cut
+    (ap number none.at ∙ c.first-in-Refused.ensures hand c.requires.may) none.gone none.none in
     let undecided : plain_reply c.args.call.now ≡ None = search rules in
-    plan_refused words (spliced words c.unchanged-in-Refused.result.cut c.unchanged-in-Refused.new.new.items) c.args.call.now
+    plan_refused words (spliced number words c.unchanged-in-Refused.result.cut c.unchanged-in-Refused.new.new.items) c.args.call.now
     c.unchanged-in-Refused.result.reply c.unchanged-in-Refused.result.rows (g.R.Rows.are_rows old hand c.requires.may) as_before
     (none.rows ∙ c.count-in-Refused.ensures hand c.requires.may) c.in-Refused.why undecided c.in-Refused.ensures.judged none.reply
 
@@ -39,10 +44,12 @@ returns-in-Keeps-clause-plan g c =
     let old = c.args.old.now in
     let hand = c.args.hand.now in
     let words = g.R.Rows.words old hand in
+    let number = g.R.Rows.number old hand in
     let none = c.unchanged-in-Keeps.ensures in
-    let as_before = as_they_were words c.unchanged-in-Keeps.new.new.items c.unchanged-in-Keeps.result.cut none.first none.end none.none in
+    let as_before = as_they_were number words c.unchanged-in-Keeps.new.new.items c.unchanged-in-Keeps.result.cut
+    (ap number none.at ∙ c.first-in-Keeps.ensures hand c.requires.may) none.gone none.none in
     let undecided : plain_reply c.args.call.now ≡ None = search rules in
-    plan_kept words (spliced words c.unchanged-in-Keeps.result.cut c.unchanged-in-Keeps.new.new.items) c.args.call.now
+    plan_kept words (spliced number words c.unchanged-in-Keeps.result.cut c.unchanged-in-Keeps.new.new.items) c.args.call.now
     c.unchanged-in-Keeps.result.reply c.unchanged-in-Keeps.result.rows (g.R.Rows.are_rows old hand c.requires.may) as_before
     (none.rows ∙ c.count-in-Keeps.ensures hand c.requires.may) c.in-Keeps.reply undecided c.in-Keeps.ensures.judged none.reply
 
@@ -70,11 +77,32 @@ returns-in-Changes-clause-plan g c =
     let old = c.args.old.now in
     let hand = c.args.hand.now in
     let words = g.R.Rows.words old hand in
-    let same = (g.R.Rows.same_words old hand c.judge.new.hand c.requires.may c.in-Changes.ensures.looked).1 in
+    let number = g.R.Rows.number old hand in
     let undecided : plain_reply c.args.call.now ≡ None = search rules in
     let made : IsMade c.in-Changes.change c.changed.result.reply c.changed.result.rows
-    (spliced words c.changed.result.cut c.changed.new.new.items) (areas_from words) =
-    subst (λ (l : List ℕ). IsMade c.in-Changes.change c.changed.result.reply c.changed.result.rows
-    (spliced l c.changed.result.cut c.changed.new.new.items) (areas_from l)) same c.changed.ensures.made in
-    plan_made words (spliced words c.changed.result.cut c.changed.new.new.items) c.args.call.now c.in-Changes.change c.changed.result.reply
+    (spliced number words c.changed.result.cut c.changed.new.new.items) (areas_from words) =
+    as_before (λ l n. IsMade c.in-Changes.change c.changed.result.reply c.changed.result.rows
+    (spliced n l c.changed.result.cut c.changed.new.new.items) (areas_from l))
+    (loads_first g.R.Rows old hand c.judge.new.hand c.requires.may c.in-Changes.ensures.looked) c.changed.ensures.made in
+    plan_made words (spliced number words c.changed.result.cut c.changed.new.new.items) c.args.call.now c.in-Changes.change c.changed.result.reply
     c.changed.result.rows undecided c.in-Changes.ensures.judged made
+
+-- where no row goes, none comes
+pub returns-in-Some-clause-few : goal.returns-in-Some-clause-few
+returns-in-Some-clause-few g c = let none = ap (λ (l : List ℕ). length l) c.unchanged.ensures.none in omega arith
+
+-- where no row goes, none comes
+pub returns-in-Refused-clause-few : goal.returns-in-Refused-clause-few
+returns-in-Refused-clause-few g c = let none = ap (λ (l : List ℕ). length l) c.unchanged-in-Refused.ensures.none in omega arith
+
+-- where no row goes, none comes
+pub returns-in-Keeps-clause-few : goal.returns-in-Keeps-clause-few
+returns-in-Keeps-clause-few g c = let none = ap (λ (l : List ℕ). length l) c.unchanged-in-Keeps.ensures.none in omega arith
+
+-- a change has two patches at most, so at most SPARE rows more come than go
+pub returns-in-Changes-clause-few : goal.returns-in-Changes-clause-few
+returns-in-Changes-clause-few g c =
+    let words = g.R.Rows.words c.args.old.now c.args.hand.now in
+    let two = judged_few (kind_at (areas_from words)) c.args.call.now c.in-Changes.change c.in-Changes.ensures.judged in
+    let few = c.changed.ensures.few in
+    omega arith

@@ -1,17 +1,18 @@
-use Rattle.std.proofs.Common.{ℕ, ◌≡◌, ◌<◌, ◌≤◌, ◌+◌, ◌-◌, min, drop, length, vec_capacity}
+use Rattle.std.proofs.Common.{ℕ, ◌≡◌, ◌<◌, ◌≤◌, ◌+◌, ◌-◌, min, length, vec_capacity}
 use Rattle.std.specs.Prelude.{All, Option}
 use Rattle.page_types.specs.declared.calls.Kind.{Kind}
-use Rattle.row_plans.specs.RowLists.{rows_start, ShowFrom, IsBareGap}
-use Rattle.row_plans.specs.Planning.{ShowTo, StartBefore, repainted}
+use Rattle.row_plans.specs.RowLists.{ShowFrom, IsBareGap}
+use Rattle.row_plans.specs.Planning.{ShowTo, repainted, IsCome, come_to}
 use Rattle.row_plans.proofs.planning.put_to.Given as goal
 
 -- the rows so far show the new kinds up to where the next old row starts, or up to the end of the pages
 abbrev pub invariant-rows : goal.invariant-rows
 invariant-rows g l = record {
   loaded : g.R.Rows.loaded l.old l.initial.hand l.hand;
-  at_is : l.at ≡ min (rows_start (drop l.next (g.R.Rows.words l.old l.initial.hand))) l.pages.to;
-  come : StartBefore (g.R.Rows.words l.old l.initial.hand) l.at l.next;
-  few : length l.rows.items + l.first ≤ length l.initial.rows.items + l.next;
+  at_is : l.at ≡ min l.now.end l.pages.to;
+  come : IsCome (g.R.Rows.words l.old l.initial.hand) (g.R.Rows.number l.old l.initial.hand) l.at l.now;
+  first : l.now.at ≡ l.fn.come.at;
+  few : length l.rows.items + l.fn.come.gone ≤ length l.initial.rows.items + l.now.gone;
   above : l.pages.from ≤ l.at;
   room : vec_capacity l.initial.rows ≤ vec_capacity l.rows;
   gaps : All IsBareGap l.rows.items;
@@ -22,4 +23,4 @@ invariant-rows g l = record {
 
 -- with each turn one old row less is left
 abbrev pub decreases-rows : goal.decreases-rows
-decreases-rows g l = length (g.R.Rows.words l.old l.initial.hand) - l.next
+decreases-rows g l = length (g.R.Rows.words l.old l.initial.hand) - come_to (g.R.Rows.number l.old l.initial.hand) l.now

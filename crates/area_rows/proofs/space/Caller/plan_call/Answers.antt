@@ -1,4 +1,4 @@
-use Rattle.std.proofs.Common.{◌∙◌, ap, sym, subst, arith}
+use Rattle.std.proofs.Common.{ℕ, ◌∙◌, ap, sym, subst, arith}
 use Rattle.row_plans.specs.RowLists.{areas_from}
 use Rattle.row_plans.specs.Plans.{spliced, IsPlan}
 use Rattle.area_guard.specs.Rows.{room_of}
@@ -60,13 +60,14 @@ returns-clause-known c =
     subst (λ (v : CallerView). MayLoadAll c.args.space.now.table c.args.count v.seat) (sym c.self.view_is) c.requires.may in
     let next = same_known c.args.space.now.table c.args.count c.self.inside.seat c.plan_rows-planned.new.hand may c.plan_rows-planned.ensures.loaded in
     let counted = may.counted in
+    let at = c.plan_rows-planned.ensures.at in
     let there = c.plan_rows-planned.ensures.there in
     record {
       rows = next.0.knows;
       list = next.0.list;
       counted = next.0.counted;
       fits = next.0.fits;
-      ordered = c.plan_rows-planned.ensures.ordered;
+      at = omega arith;
       there = omega arith;
     }
 
@@ -80,5 +81,5 @@ pub returns-clause-plan : goal.returns-clause-plan
 returns-clause-plan c =
     let p = c.plan_rows-planned.result in
     subst (λ (v : CallerView). IsPlan c.args.call.now p.reply p.rows
-    (spliced (known_rows v.seat.pass) p.cut c.plan_rows-planned.new.new.items) (areas_from (known_rows v.seat.pass))) c.self.view_is
+    (spliced (λ (at : ℕ). at) (known_rows v.seat.pass) p.cut c.plan_rows-planned.new.new.items) (areas_from (known_rows v.seat.pass))) c.self.view_is
     c.plan_rows-planned.ensures.plan

@@ -1,4 +1,5 @@
-use Rattle.std.proofs.Common.{sym, subst}
+use Rattle.std.proofs.Common.{sym, ap, subst}
+use Rattle.range_rw.specs.Contract.{Record}
 use Rattle.space_model.specs.declared.entries.Under.{Under}
 use Rattle.area_rows.specs.Called.{IsLastStep}
 use Rattle.area_rows.proofs.Wholes.{plain_right, last_drawn}
@@ -21,3 +22,7 @@ returns-clause-called c =
       written = f.drawn.writes;
       left = f.left;
     }
+
+-- it asks for no range
+pub returns-clause-asked : goal.returns-clause-asked
+returns-clause-asked c = ap (λ (t : Record). t.asked) c.draw.ensures.drawn.trace

@@ -2,6 +2,8 @@ use Rattle.std.proofs.Common.{◌∙◌, ◌+◌, ap, refl, sym, subst}
 use Rattle.space_model.specs.declared.entries.Under.{Under}
 use Rattle.area_guard.specs.declared.guard.Pass.{Pass}
 use Rattle.area_rows.specs.Called.{IsLastStep}
+use Rattle.range_rw.specs.Contract.{Record}
+use Rattle.range_rw.proofs.Asking.{for_kept}
 use Rattle.area_rows.proofs.Wholes.{planned_right, numbered_whole, last_whole}
 use Rattle.area_rows.proofs.space.Space.call_whole.Goals as goal
 
@@ -45,3 +47,9 @@ returns-clause-looks g c =
     let looks = λ (x : Pass). x.looks in
     ap looks c.release_uncounted.ensures.release.pass ∙ (c.write_plan.ensures.written.looks ∙ (c.draw-entry.ensures.drawn.looks
     ∙ (c.plan-reply.ensures.reading.looks ∙ ap looks c.acquire.ensures.call.pass)))
+
+-- it asked for everything, and for nothing behind that
+pub returns-clause-asks : goal.returns-clause-asks
+returns-clause-asks g c = for_kept c.acquire.ensures.asks
+    (c.release_uncounted.ensures.release.asked ∙ (c.write_plan.ensures.written.asked
+    ∙ (ap (λ (t : Record). t.asked) c.draw-entry.ensures.drawn.trace ∙ c.plan-reply.ensures.reading.asked)))

@@ -20,7 +20,7 @@ draw_as-requires-clause-right c =
     let cut : c.caller.inside.cut ≡ c.args.caller.now.cut = ap (λ (v : CallerView). v.cut) c.caller.view_is in
     let seat : c.caller.inside.seat ≡ c.args.caller.now.seat = ap (λ (v : CallerView). v.seat) c.caller.view_is in
     let change : c.caller.inside.change ≡ c.args.caller.now.change = ap (λ (v : CallerView). v.change) c.caller.view_is in
-    subst (λ (z : SeatState Pass × Cut × List ℕ × Option Change). Shows z.0
+    subst (λ (z : SeatState Pass × Cut ℕ × List ℕ × Option Change). Shows z.0
     (λ (words : List ℕ) (state : List Area). (left : List Area) × IsRight state c.args.call c.args.reply c.args.under left
     × Leaves state c.args.under (pending_of c.args.under (splice_of z.0 z.1 z.2) z.3) left))
     (λ i. (sym seat i, sym cut i, sym more i, sym change i)) c.requires.right

@@ -25,12 +25,13 @@ halve-init g c = record {
   room = (SEARCH, let few = c.requires.few in omega arith, omega arith);
 }
 
--- there is room for the middle row
-pub load_row-word-requires-clause-room : goal.load_row-word-requires-clause-room
-load_row-word-requires-clause-room g c =
+-- the middle row is in reach
+pub load_row-word-requires-clause-reach : goal.load_row-word-requires-clause-reach
+load_row-word-requires-clause-reach g c =
     let i = c.halve.invariant in
     let table = ap room_of i.reading.table in
-    let fits = c.requires.fits in let there = i.among.there in let lt = c.halve-test.true in omega arith
+    let few = c.requires.few in let fits = c.requires.fits in let there = i.among.there in let lt = c.halve-test.true in
+    (omega arith, omega arith)
 
 -- one row more is read, and the row of the page is among the half that is left
 pub halve-preserved : goal.halve-preserved

@@ -1,7 +1,8 @@
-use Rattle.std.proofs.Common.{rules, ℕ, ◌≤◌, ap, ◌∙◌, subst}
+use Rattle.std.proofs.Common.{rules, ℕ, ◌≤◌, subst}
 use Rattle.area_guard.specs.Keeping.{no_note}
-use Rattle.area_guard.specs.Rows.{room_of}
-use Rattle.area_rows.specs.Callers.{CallerView, IsCounted}
+use Rattle.area_guard.specs.Rows.{room_of, IsOneOf, IsInReach}
+use Rattle.area_guard.specs.Reads.{slots_by}
+use Rattle.area_rows.specs.Callers.{CallerView, AreInReach, IsCounted}
 use Rattle.area_rows.proofs.Stepping.{may_count, counts}
 use Rattle.area_rows.proofs.space.Space.load_count.Goals as goal
 
@@ -22,6 +23,7 @@ returns-clause-counted c =
       slots = r.2;
       step = record { table = call.table; number = call.number; held = call.held; pools = call.pools; further = call.further; pass = r.3; trace = call.trace };
       again = r.4;
+      known = r.9;
       list = r.5;
     })
 
@@ -47,3 +49,12 @@ returns-clause-fits c =
     (search rules) c.caller.invariant.5 (search rules) c.load_as_uncounted.ensures.made in
     subst (λ (v : CallerView). c.load_as_uncounted.result ≤ room_of v.seat.table) c.caller.view_is
     (subst (λ (n : ℕ). c.load_as_uncounted.result ≤ n) c.caller.invariant.7 r.8)
+
+-- and their slots are in reach
+pub returns-clause-reach : goal.returns-clause-reach
+returns-clause-reach c =
+    let s = c.caller.inside.seat in
+    let r = counts no_note s.number s.held s.pass c.load_as_uncounted.result c.load_as_uncounted.new.seat.pass
+    (search rules) c.caller.invariant.5 (search rules) c.load_as_uncounted.ensures.made in
+    subst (λ (v : CallerView). AreInReach v.seat.table (slots_by c.load_as_uncounted.new.seat.pass.laid)) c.caller.view_is
+    (subst (λ (n : ℕ). (slot : ℕ) → IsOneOf (slots_by c.load_as_uncounted.new.seat.pass.laid) slot → IsInReach n slot) c.caller.invariant.7 r.10)

@@ -10,7 +10,7 @@ use Rattle.area_rows.proofs.space.Space.load_row.Goals as goal
 
 -- the guard allows the load of a row
 pub load_as_uncounted-requires-clause-allowed : goal.load_as_uncounted-requires-clause-allowed
-load_as_uncounted-requires-clause-allowed c = may_row no_note _ _ _ c.args.index c.requires.index (search rules) c.caller.invariant.5
+load_as_uncounted-requires-clause-allowed c = may_row no_note _ _ _ c.args.index c.requires.reach.0 (search rules) c.caller.invariant.5
 
 -- there is a client word for the row
 pub load_as_uncounted-requires-clause-place : goal.load_as_uncounted-requires-clause-place
@@ -18,7 +18,7 @@ load_as_uncounted-requires-clause-place c =
     let same = ap (λ (v : CallerView). room_of v.seat.table) c.caller.view_is in
     let table : room_of c.args.caller.now.seat.table ≡ room_of c.self.inside.table.table =
     ap room_of (c.requires.table ∙ sym (ap (λ (t : TableShape). t.table) c.self.view_is)) in
-    let wide = c.self.invariant.0 in let room = c.self.invariant.1 in let lt = c.requires.room in omega arith
+    let wide = c.self.invariant.0 in let room = c.self.invariant.1 in let lt = c.requires.reach.1 in omega arith
 
 -- a row that is counted starts below the limit
 pub returns-clause-below : goal.returns-clause-below

@@ -5,7 +5,7 @@ use Rattle.row_plans.specs.Plans.{IsRowList, spliced, IsPlan}
 use Rattle.row_plans.specs.RowLists.{areas_from}
 use Rattle.area_guard.specs.declared.guard.Pass.{Pass}
 use Rattle.area_guard.specs.Reads.{known_rows, KnowsRows}
-use Rattle.area_rows.proofs.KnownRows.{seen_known, seen_knows}
+use Rattle.area_rows.proofs.KnownRows.{seen_knows}
 use Rattle.area_rows.specs.Loading.{reading_on}
 use Rattle.area_rows.proofs.Reading.{count_reads}
 use Rattle.area_rows.proofs.StoreCounts.{refused_rows}
@@ -17,8 +17,7 @@ pub plan_call-requires-clause-may : goal.plan_call-requires-clause-may
 plan_call-requires-clause-may c =
     let n = c.load_count-count.ensures.counted in
     let p = c.args.caller.now.seat.pass in
-    let rows : known_rows c.load_count-count.new.caller.seat.pass ≡ rows_in n.words =
-    ap known_rows n.step.pass ∙ seen_known n.words p (n.slots ∙ sym n.all) in
+    let rows : known_rows c.load_count-count.new.caller.seat.pass ≡ rows_in n.words = n.known in
     record {
       table_is = n.step.table ∙ c.requires.table;
       held = n.step.held ∙ c.requires.held;
@@ -37,7 +36,7 @@ returns-clause-planned c =
     let p = c.plan_call.result in
     plan_shows c.plan_call.new.self c.args.call.now p.0 p.1 (e.reading.held ∙ (n.step.held ∙ c.requires.held))
     (e.reading.read.pending ∙ (ap (λ (x : Pass). x.pending) n.step.pass ∙ c.requires.rest)) e.known
-    (subst (λ (l : List ℕ). IsPlan c.args.call.now p.0 p.1 (spliced l c.plan_call.new.self.cut c.plan_call.new.self.more) (areas_from l))
+    (subst (λ (l : List ℕ). IsPlan c.args.call.now p.0 p.1 (spliced (λ (at : ℕ). at) l c.plan_call.new.self.cut c.plan_call.new.self.more) (areas_from l))
     (sym e.same) e.plan)
 
 -- the plan of a refused call leaves the rows as they are
@@ -46,8 +45,8 @@ returns-clause-refused c = λ why is.
     let e = c.plan_call.ensures in
     let p = c.plan_call.result in
     let rows = known_rows c.plan_call.new.self.seat.pass in
-    refused_rows rows (spliced rows c.plan_call.new.self.cut c.plan_call.new.self.more) c.args.call.now p.0 p.1 why e.known.list
-    (subst (λ (l : List ℕ). IsPlan c.args.call.now p.0 p.1 (spliced l c.plan_call.new.self.cut c.plan_call.new.self.more) (areas_from l))
+    refused_rows rows (spliced (λ (at : ℕ). at) rows c.plan_call.new.self.cut c.plan_call.new.self.more) c.args.call.now p.0 p.1 why e.known.list
+    (subst (λ (l : List ℕ). IsPlan c.args.call.now p.0 p.1 (spliced (λ (at : ℕ). at) l c.plan_call.new.self.cut c.plan_call.new.self.more) (areas_from l))
     (sym e.same) e.plan) is
 
 -- all that was done is a reading

@@ -2,7 +2,7 @@ use Rattle.std.proofs.Common.{◌≡◌, arith, ap, ◌∙◌, sym}
 use Rattle.range_rw.specs.Contract.{TableShape}
 use Rattle.area_guard.specs.Rows.{room_of}
 use Rattle.area_guard.specs.Keeping.{no_note}
-use Rattle.area_rows.proofs.ReplacingRows.{may_store_change, change_stored, index_low, index_fits}
+use Rattle.area_rows.proofs.ReplacingRows.{may_store_change, change_stored, index_reach}
 use Rattle.area_rows.proofs.space.Space.store_change.Goals as goal
 
 -- the guard allows the store of the change
@@ -12,7 +12,7 @@ store_as_uncounted-requires-clause-allowed c = let w = c.requires.change in may_
 
 -- its place is a word's
 pub overflow_add-index : goal.overflow_add-index
-overflow_add-index c = let w = c.requires.change in let lt = index_low c.args.seat.now w.0 w.2 in let at = w.3 in omega arith
+overflow_add-index c = let w = c.requires.change in let lt = (index_reach c.args.seat.now w.0 w.2).0 in let at = w.3 in omega arith
 
 -- there is a client word for the row
 pub store_as_uncounted-requires-clause-place : goal.store_as_uncounted-requires-clause-place
@@ -20,7 +20,7 @@ store_as_uncounted-requires-clause-place c =
     let w = c.requires.change in
     let table : room_of c.args.seat.now.table ≡ room_of c.self.inside.table.table =
     ap room_of (c.requires.table ∙ sym (ap (λ (t : TableShape). t.table) c.self.view_is)) in
-    let wide = c.self.invariant.0 in let room = c.self.invariant.1 in let lt = index_fits c.args.seat.now w.0 w.2 in let at = w.3 in omega arith
+    let wide = c.self.invariant.0 in let room = c.self.invariant.1 in let lt = (index_reach c.args.seat.now w.0 w.2).1 in let at = w.3 in omega arith
 
 -- it was one step of the seat, after which all is written
 pub returns : goal.returns

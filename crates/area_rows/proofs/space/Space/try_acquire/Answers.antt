@@ -1,6 +1,6 @@
 use Rattle.std.proofs.Common.{◌≡◌, ◌+◌, ◌*◌, ◌∙◌, ap, subst, sym, ℕ, arith}
 use Rattle.std.specs.Prelude.{IfErr, ◌↔◌}
-use Rattle.range_rw.specs.Contract.{SeatState, TableShape, IsReadyLeft, IsLongRefusal, IsSpentIn, most_steps, pools_at}
+use Rattle.range_rw.specs.Contract.{SeatState, TableShape, AsksOnly, IsReadyLeft, IsLongRefusal, IsSpentIn, most_steps, pools_at}
 use Rattle.range_rw.specs.Several.{TakesAlone}
 use Rattle.list_cuts.specs.Cut.{Regions, list_count}
 use Rattle.lock_core.specs.Range.{Interval}
@@ -42,3 +42,10 @@ returns-clause-wide g c =
     let all : (64 + 386 * c.self.inside.table.seats) * list_count c.self.inside.table.cut
     ≡ (64 + 386 * c.args.self.now.seats) * list_count c.args.self.now.cut = ap most_steps c.self.view_is in
     let w = ap (λ (v : CallerView). v.seat.trace.taken) c.caller.view_is in omega arith
+
+-- the numbers of the span's pages are asked for and no others
+pub returns-clause-asks : goal.returns-clause-asks
+returns-clause-asks g c =
+    let r = c.range_of.ensures in
+    subst (λ (z : Interval × SeatState Pass). AsksOnly (record { range = z.0; mode = c.args.mode }) z.1.trace.asked c.try_acquire.new.seat.trace.asked)
+    (λ i. (record { lo = r.lo i; hi = r.hi i }, ap (λ (v : CallerView). v.seat) c.caller.view_is i)) c.try_acquire.ensures.asks

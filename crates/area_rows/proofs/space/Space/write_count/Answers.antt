@@ -5,7 +5,7 @@ use Rattle.area_guard.specs.Reads.{HasRows}
 use Rattle.area_guard.specs.History.{rows_after, after_count}
 use Rattle.area_rows.specs.Writing.{plan_at}
 use Rattle.area_rows.proofs.StoringRows.{count_writes, no_writing, writes_on}
-use Rattle.area_guard.proofs.Slots.{slots_many}
+use Rattle.area_guard.proofs.Slots.{numbers_many}
 use Rattle.area_rows.proofs.SpliceStores.{all_laid}
 use Rattle.area_rows.proofs.StoreCounts.{count_is_stored, count_not_stored}
 use Rattle.area_rows.proofs.space.Space.write_count.Goals as goal
@@ -39,7 +39,7 @@ returns-clause-rows c =
     let p = plan_at s in
     let w = c.requires.writes in
     subst (λ (x : Pass). HasRows x (rows_after p)) (sym c.store_count.ensures.step.pass)
-    (all_laid p w.ordered w.there (after_count c.args.left s.pass) (ap Some (slots_many 0 c.args.left ∙ c.requires.left)) c.requires.laid)
+    (all_laid p w.ordered w.there (after_count c.args.left s.pass) (ap Some (numbers_many 0 c.args.left ∙ c.requires.left)) c.requires.laid)
 
 -- the store is a writing
 pub returns-clause-writing : goal.returns-clause-writing

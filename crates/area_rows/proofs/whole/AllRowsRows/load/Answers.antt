@@ -18,7 +18,7 @@ load_known-requires-clause-room c =
 -- the word is the one that is known
 pub returns-clause-word : goal.returns-clause-word
 returns-clause-word c =
-    c.load_known.ensures.word _ (row_read c.args.hand.now.pass (known_rows c.args.hand.now.pass) c.requires.may.knows c.args.index c.requires.there)
+    c.load_known.ensures.word _ (row_read c.args.hand.now.pass (known_rows c.args.hand.now.pass) c.requires.may.knows c.args.at c.requires.there)
 
 -- and the seat knows the same rows
 pub returns-clause-loaded : goal.returns-clause-loaded
@@ -26,6 +26,6 @@ returns-clause-loaded c =
     let s = c.args.hand.now in
     let u = c.load_known.new.seat in
     let step = c.load_known.ensures.step in
-    loaded_row s u c.args.index c.args.index c.load_known.result (row_reads s u c.args.index c.load_known.result step) step.pass
-    (known_slot s.pass.laid (length (known_rows s.pass)) c.args.index c.requires.may.knows.0 c.requires.there)
-    (c.load_known.ensures.word _ (row_read c.args.hand.now.pass (known_rows c.args.hand.now.pass) c.requires.may.knows c.args.index c.requires.there))
+    loaded_row s u c.args.at c.args.at c.load_known.result (row_reads s u c.args.at c.load_known.result step) step.pass
+    (known_slot s.pass.laid (length (known_rows s.pass)) c.args.at c.requires.may.knows.0 c.requires.there)
+    (c.load_known.ensures.word _ (row_read c.args.hand.now.pass (known_rows c.args.hand.now.pass) c.requires.may.knows c.args.at c.requires.there))
