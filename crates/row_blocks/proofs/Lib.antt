@@ -17,3 +17,4 @@ pub mod Comings
 pub mod Cuts
 pub mod Pairs
 pub mod Writes
+pub mod Fills

@@ -5,10 +5,10 @@
 //! number of steps.
 #![tactic(auto)]
 
-mod beginning;
 mod coming;
 mod cutting;
 mod deleting;
+mod filling;
 mod finding;
 mod inserting;
 mod laying;
@@ -22,8 +22,8 @@ mod splitting;
 mod words;
 mod writing;
 
-pub use beginning::begin;
 pub use deleting::delete;
+pub use filling::{blocks_for, fill, gather};
 pub use finding::{Found, find};
 pub use inserting::insert;
 pub use laying::lay;
@@ -34,5 +34,7 @@ pub use splitting::split;
 pub use words::Words;
 pub use writing::write;
 
+#[cfg(test)]
+mod fill_tests;
 #[cfg(test)]
 mod tests;

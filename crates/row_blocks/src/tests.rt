@@ -1,9 +1,9 @@
 //! Words of one's own, and a script of splices over them. A reader may rely on what the trait asks of those who keep
 //! words being met there, and on what a splice asks.
-ghost use Rattle.std.specs.Prelude.{ℕ, ◌≡◌, ◌+◌, ◌-◌, ◌*◌, ◌<◌, ◌≤◌, length, slice_index};
+ghost use Rattle.std.specs.Prelude.{ℕ, ◌≡◌, ◌+◌, ◌-◌, ◌*◌, ◌<◌, ◌≤◌, length, slice_index, vec_capacity};
 ghost use Rattle.row_blocks.specs.Blocks.{IsLaidOut, blocks_of, rows_of, rows_in, rank};
 
-use crate::beginning::begin;
+use crate::filling;
 use crate::positions::{Position, next, previous};
 use crate::words::Words;
 use crate::writing::write;
@@ -199,22 +199,34 @@ fn row(words: &[u64], blocks: usize, at: Position) -> u64
     words[blocks + 127 * (packed / 128) as usize + (at.place - 1)]
 }
 
-/// Row k is the number k, but for the rows 10 to 30, which are higher by the 250 that have gone before them. Each but
-/// the last is read, from one position to the next and back.
-fn expect<A: Abort>(words: &Plain<'_, A>, bench: &mut Bench, blocks: usize, count: usize)
+/// Row k is the number k, but for the rows 10 to 30, which are higher by the 250 that have gone before them. All are
+/// gathered, and each but the last is read, from one position to the next and back.
+fn expect<A: Abort>(
+    words: &Plain<'_, A>,
+    bench: &mut Bench,
+    blocks: usize,
+    count: usize,
+    out: &mut Vec<u64>,
+)
     requires blocks { blocks ≡ words.now.blocks }
     requires few { blocks ≤ 2048 }
     requires laid { IsLaidOut blocks bench.old.words.items }
     requires there { length (rows_in blocks bench.old.words.items) ≡ count }
     requires some { 0 < count }
+    requires room { count ≤ vec_capacity out.old }
     ensures words { bench.new.words.items ≡ bench.old.words.items }
+    ensures room { vec_capacity out.new ≡ vec_capacity out.old }
 {
     let rt = words.rt;
+    out.clear();
+    filling::gather(bench.words.as_slice(), blocks, out);
+    let rows = out.as_slice();
     let mut at = Position { block: 0, place: 0 };
     let mut k = 0;
     'rows: while k + 1 < count {
         let wanted = if k < 10 || k >= 31 { k } else { k + 250 };
         assert_eq!(rt; row(bench.words.as_slice(), blocks, at), wanted as u64);
+        assert_eq!(rt; rows[k], wanted as u64);
         let behind = next(words, bench, blocks, at);
         assert_eq!(rt; previous(words, bench, blocks, behind), at);
         at = behind;
@@ -224,17 +236,18 @@ fn expect<A: Abort>(words: &Plain<'_, A>, bench: &mut Bench, blocks: usize, coun
 
 /// Rows come until blocks are split, most of them go again by one splice, and then rows come until there is hardly room
 /// for more, so that two blocks are merged where one was split.
-fn play<A: Abort>(words: &Plain<'_, A>, bench: &mut Bench)
+fn play<A: Abort>(words: &Plain<'_, A>, bench: &mut Bench, out: &mut Vec<u64>)
     requires blocks { words.now.blocks ≡ 8 }
     requires wide { length bench.old.words.items ≡ 1033 }
+    requires room { 379 ≤ vec_capacity out.old }
 {
-    begin(words, bench, 8, 0);
+    filling::fill(bench.words.as_mut_slice(), 8, &[0]);
     fill(words, bench, 8, 1, 70);
     splice_at(words, bench, 8, 10, 250, &[]);
-    expect(words, bench, 8, 31);
+    expect(words, bench, 8, 31, out);
     fill(words, bench, 8, 31, 87);
     come_and_go(words, bench, 8, 379, 300);
-    expect(words, bench, 8, 379);
+    expect(words, bench, 8, 379, out);
 }
 
 #[test]
@@ -244,6 +257,7 @@ fn rows_come_and_go_over_several_blocks(rt: HostRuntime) -> Result<(), Fail> {
         words: vec![in rt.alloc(); 7777; 1033]?,
         steps: 0,
     };
-    play(&words, &mut bench);
+    let mut out = Vec::with_capacity(rt.alloc(), 379)?;
+    play(&words, &mut bench, &mut out);
     Ok(())
 }
