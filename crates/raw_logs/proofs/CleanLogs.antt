@@ -22,12 +22,13 @@ use Rattle.raw_logs.specs.declared.told.Form.TheVariants.{Blank, Unknown, Long, 
 use Rattle.raw_logs.specs.declared.told.Told.{Told}
 use Rattle.raw_logs.specs.Choosing.{Picked, is_blank, with_own, with_line, picked}
 use Rattle.raw_logs.specs.Counting.{one_more_of}
-use Rattle.raw_logs.specs.Log.{Numbered, texts_of, goes_on, Heals, all_healed, heals_message, heals_stack, heals_broken, heals_blank, heals_line}
-use Rattle.raw_logs.specs.Log.{ArePlain, all_plain, plain_stays, plain_changes}
+use Rattle.raw_logs.specs.Log.{Numbered, texts_of, goes_on, LineKind, Message, OfStack, CutShort, LeftIn, IsKind, Each, Healed, nothing_healed, is_gap, with_kind, healed_from}
+use Rattle.raw_logs.specs.Log.{healed, changed, IsStripped}
 use Rattle.raw_logs.specs.Numbering.{StartsAt, IsRoot, ChangesNumber, IsNumbering, LosesBrackets, with_number}
-use Rattle.raw_logs.specs.Numbering.{AreNumbered, all_numbered, number_stays, number_changes}
+use Rattle.raw_logs.specs.Numbering.{IsRenumbered}
 use Rattle.raw_logs.specs.Reading.{IsNumberedLog, AreTexts}
 use Rattle.raw_logs.specs.Spaces.{made_from, has_line}
+use Rattle.raw_logs.proofs.MadeLines.{Changing}
 
 -- a line without a newline
 abbrev pub IsClean : List ℕ → Type 0
@@ -76,22 +77,46 @@ on_clean : (part : Option Numbered) (number : ℕ) (line : List ℕ) → IsClean
 on_clean None number line h g = g
 on_clean (Some part) number line h g = each_whole (isnt 10) part.text line h g
 
+-- the texts so far have none, nor has the part that waits
+pub record IsCleanState (h : Healed) : Type 0 where
+  -- each text
+  pub texts : AreClean h.texts
+  -- and the part that waits
+  pub part : IsCleanPart h.part
+
+are_clean_more : (texts : List Numbered) (text : Numbered) → AreClean texts → IsClean text.text → AreClean (texts ++ (text ∷ []))
+are_clean_more [] text h g = (g, tt)
+are_clean_more (t ∷ texts) text h g = (h.0, are_clean_more texts text h.1 g)
+
+kind_clean : (number : ℕ) (line : List ℕ) (kind : LineKind) (h : Healed) → IsClean line → IsKind line kind → IsCleanState h
+    → IsCleanState (with_kind number line kind h)
+kind_clean number line Message h c k s = record { texts = s.texts; part = s.part }
+kind_clean number line OfStack h c k s = record { texts = s.texts; part = s.part }
+kind_clean number line (CutShort front) h c k s =
+    let b = k.broken in
+    let f = each_parts (isnt 10) front (codes "strace: Process " ++ (b.0 ++ b.1)) (subst IsClean b.5 c) in
+    record { texts = s.texts; part = on_clean h.part number front s.part f.0 }
+kind_clean number line LeftIn h c k s = by (is_gap h.part line)
+  where
+    by : (gap : Bool) → IsCleanState (if gap then h else record h { texts = h.texts ++ (goes_on h.part number line ∷ []); part = None })
+    by true = s
+    by false = record { texts = are_clean_more h.texts (goes_on h.part number line) s.texts (on_clean h.part number line s.part c); part = tt }
+
 -- texts of lines have none
-pub heals_clean : (number : ℕ) (part left : Option Numbered) (lines : List (List ℕ)) (texts : List Numbered) (counts : Counts) → IsCleanPart part
-    → EachLine IsClean lines → Heals number part lines texts left counts → AreClean texts
-heals_clean number part left lines texts counts hp hl all_healed = tt
-heals_clean number part left lines texts counts hp hl (heals_message {lines =
-    l} {counts = c} m more) = heals_clean (number + 1) part left l texts c hp hl.1 more
-heals_clean number part left lines texts counts hp hl (heals_stack {lines =
-    l} {counts = c} never m more) = heals_clean (number + 1) part left l texts c hp hl.1 more
-heals_clean number part left lines texts counts hp hl (heals_broken {line = line} {front = front} {lines = l} {counts = c} m more) =
-    let k = m.broken in
-    let f = each_parts (isnt 10) front (codes "strace: Process " ++ (k.0 ++ k.1)) (subst IsClean k.5 hl.0) in
-    heals_clean (number + 1) (Some (goes_on part number front)) left l texts c (on_clean part number front hp f.0) hl.1 more
-heals_clean number part left lines texts counts hp hl (heals_blank {lines = l} {counts = c} m e more) =
-    heals_clean (number + 1) None left l texts c tt hl.1 more
-heals_clean number part left lines texts counts hp hl (heals_line {line = line} {lines = l} {texts = t} {counts = c} m e more) =
-    (on_clean part number line hp hl.0, heals_clean (number + 1) None left l t c tt hl.1 more)
+pub healed_clean : (number : ℕ) (h : Healed) (lines : List (List ℕ)) (kinds : List LineKind) → EachLine IsClean lines → Each IsKind lines kinds
+    → IsCleanState h → AreClean (healed_from number h lines kinds).texts
+healed_clean number h [] kinds c k s = s.texts
+healed_clean number h (line ∷ lines) [] c k s = s.texts
+healed_clean number h (line ∷ lines) (kind ∷ kinds) c k s =
+    healed_clean (number + 1) (with_kind number line kind h) lines kinds c.1 k.1 (kind_clean number line kind h c.0 k.0 s)
+
+-- texts that change have none, where what each changes to has none
+pub changed_clean : (R : Changing) → ((line : Numbered) (text : List ℕ) → IsClean line.text → R line (Some text) → IsClean text)
+    → (lines : List Numbered) (changes : List (Option (List ℕ))) → AreClean lines → Each R lines changes → AreClean (changed lines changes)
+changed_clean R one [] changes h g = tt
+changed_clean R one (line ∷ lines) [] h g = tt
+changed_clean R one (line ∷ lines) (None ∷ changes) h g = (h.0, changed_clean R one lines changes h.1 g.1)
+changed_clean R one (line ∷ lines) (Some text ∷ changes) h g = (one line text h.0 g.0, changed_clean R one lines changes h.1 g.1)
 
 -- what is taken away leaves none
 pub plain_clean : (text plain : List ℕ) → IsClean text → IsPlain text plain → IsClean plain
@@ -102,13 +127,6 @@ plain_clean text plain h (inr g) =
     let b = each_parts (isnt 10) p.between (p.left ++ p.behind) a.1 in
     let c = each_parts (isnt 10) p.left p.behind b.1 in
     subst IsClean (sym p.same) (each_whole (isnt 10) p.front p.left a.0 c.0)
-
--- plain texts have none
-pub plains_clean : (lines plains : List Numbered) (counts : Counts) → AreClean lines → ArePlain lines plains counts → AreClean plains
-plains_clean lines plains counts h all_plain = tt
-plains_clean lines plains counts h (plain_stays {lines = l} {plains = p} g more) = (h.0, plains_clean l p counts h.1 more)
-plains_clean lines plains counts h (plain_changes {line = line} {plain = plain} {lines = l} {plains = p} {counts = c} g never more) =
-    (plain_clean line.text plain h.0 g, plains_clean l p c h.1 more)
 
 -- the two readings of a digit agree
 worth_is : (c : ℕ) → digit_value c < 16 → worth c ≡ digit_value c
@@ -164,14 +182,6 @@ changes_clean AsPrinted text line small h g = absurd g
 changes_clean (Plain None) text line small h g = loses_clean text line h g
 changes_clean (Plain (Some pid)) text line small h (inl g) = loses_clean text line h g
 changes_clean (Plain (Some pid)) text line small h (inr g) = subst IsClean (sym g.3) (number_clean pid text small h)
-
--- numbered texts have none
-pub numbered_clean : (numbering : Numbering) (texts lines : List Numbered) (counts : Counts) → IsSmall numbering → AreClean texts
-    → AreNumbered numbering texts lines counts → AreClean lines
-numbered_clean numbering texts lines counts small h all_numbered = tt
-numbered_clean numbering texts lines counts small h (number_stays {texts = t} {lines = l} g more) = (h.0, numbered_clean numbering t l counts small h.1 more)
-numbered_clean numbering texts lines counts small h (number_changes {text = text} {line = line} {texts = t} {lines = l} {counts = c} g more) =
-    (changes_clean numbering text.text line small h.0 g, numbered_clean numbering t l c small h.1 more)
 
 cut_small : (text : List ℕ) (pid : ℕ) (body : List ℕ) → IsCut text pid body → pid < 2 ^ 32
 cut_small text pid body (inl (rest, inl p, b)) = p.1.1
@@ -229,8 +239,11 @@ each_clean (line ∷ lines) h = (h.0, each_clean lines h.1)
 pub log_clean : (bytes : List ℕ) (whole : List Numbered) (counts : Counts) → IsNumberedLog bytes whole counts → AreClean whole
 log_clean bytes whole counts n =
     let lines = subst (EachLine IsClean) (sym n.log.are) (lines_clean n.log.whole) in
-    numbered_clean n.numbering n.plains whole n.renumbered (numbering_small n.lines (texts_of n.plains) n.numbering n.numbered)
-    (plains_clean n.texts n.plains n.stripped (heals_clean 1 None n.left n.lines n.texts n.healed tt lines n.heals) n.plain) n.numbers
+    let texts = healed_clean 1 nothing_healed n.lines n.kinds lines n.of_kinds (record { texts = tt; part = tt }) in
+    let plains = changed_clean IsStripped (λ line text h g. plain_clean line.text text h g.0) (healed n.lines n.kinds).texts n.stripped texts n.plain in
+    let small = numbering_small n.lines (texts_of (changed (healed n.lines n.kinds).texts n.stripped)) n.numbering n.numbered in
+    subst AreClean (sym n.is) (changed_clean (IsRenumbered n.numbering) (λ line text h g. changes_clean n.numbering line.text text small h g)
+    (changed (healed n.lines n.kinds).texts n.stripped) n.renumbered plains n.numbers)
 
 -- nor have those that are written
 pub texts_clean : (process : Option ℕ) (bytes : List ℕ) (chosen : List Numbered) (counts : Counts) → AreTexts process bytes chosen counts

@@ -1,7 +1,6 @@
 pub mod AttachedLines
 pub mod BufferFacts
 pub mod CleanLogs
-pub mod CountSums
 pub mod Decided
 pub mod FirstThreads
 pub mod Following

@@ -1,157 +1,117 @@
--- Lines that are made one by one, and counted where they change: what the rest makes, behind those that are made, is
--- made of all. Each step hands it on from the rest with a line more to the rest without it.
-use Rattle.std.proofs.Common.{◌≡◌, ◌≢◌, ℕ, ◌+◌, List, [], ◌∷◌, ◌++◌, length, Bool, true, false, not, eqb, refl, sym, ap, subst, ◌∙◌, append_assoc}
+-- Lists side by side; and texts that change or stay, one by one: with a text more, what is made has one more, and one
+-- more is counted where it changes.
+use Rattle.std.proofs.Common.{◌≡◌, ◌≢◌, ℕ, ◌+◌, List, [], ◌∷◌, ◌++◌, length, Bool, true, false, not, eqb, Option, Some, None, refl, sym, ap, subst, ◌∙◌}
 use Rattle.std.specs.Prelude.{if◌then◌else◌}
 use Rattle.std.proofs.lemmas.Bool.{eqb-true, eq-eqb}
-use Rattle.std.proofs.lemmas.List.{append-nil, length-append}
+use Rattle.std.proofs.lemmas.List.{length-append}
 use Rattle.raw_lines.specs.Plain.{IsPlain}
 use Rattle.raw_logs.specs.declared.counts.Counts.{Counts}
 use Rattle.raw_logs.specs.declared.counts.Sort.{Sort}
 use Rattle.raw_logs.specs.declared.counts.Sort.TheVariants.{Stripped, Numbered as OfNumbered}
 use Rattle.raw_logs.specs.declared.numbering.Numbering.{Numbering}
 use Rattle.raw_logs.specs.declared.numbering.Numbering.TheVariants.{AsPrinted}
-use Rattle.raw_logs.specs.Counting.{no_counts, one_more_of, both}
-use Rattle.raw_logs.specs.Log.{Numbered, line_of, ArePlain, all_plain, plain_stays, plain_changes}
-use Rattle.raw_logs.specs.Numbering.{ChangesNumber, AreNumbered, all_numbered, number_stays, number_changes}
-use Rattle.raw_logs.specs.Stages.{MakesSome}
-use Rattle.raw_logs.proofs.CountSums.{IsWithin, both_more, none_within, more_within, none_before}
+use Rattle.raw_logs.specs.Counting.{no_counts, one_more_of}
+use Rattle.raw_logs.specs.Log.{Numbered, line_of, Each, with_change, changed, with_counted, counted_from, IsStripped}
+use Rattle.raw_logs.specs.Numbering.{IsRenumbered}
+use Rattle.raw_logs.specs.Stages.{IsMade}
 use Rattle.raw_logs.proofs.Following.{not_both}
 use Rattle.raw_logs.proofs.PlainTexts.{plain_long}
 
--- what lines make
-abbrev pub Making : Type 1
-Making = List Numbered → List Numbered → Counts → Type 0
+-- ---- lists side by side
 
--- ---- any step
+-- a pair more
+pub each_more : {A B : Type 0} (R : A → B → Type 0) (xs : List A) (ys : List B) (x : A) (y : B) → Each R xs ys → R x y
+    → Each R (xs ++ (x ∷ [])) (ys ++ (y ∷ []))
+each_more R [] [] x y h r = (r, tt)
+each_more R [] (z ∷ ys) x y h r = absurd h
+each_more R (w ∷ xs) [] x y h r = absurd h
+each_more R (w ∷ xs) (z ∷ ys) x y h r = (h.0, each_more R xs ys x y h.1 r)
 
--- a line is made, and none counted
-pub made_as_is : (Makes : Making) (all rest done next : List Numbered) (line other : Numbered) (counts more_counts : Counts)
-    → MakesSome Makes all (line ∷ rest) done counts
-    → ((more : List Numbered) (c : Counts) → Makes rest more c → Makes (line ∷ rest) (other ∷ more) c)
-    → next ≡ done ++ (other ∷ []) → more_counts ≡ counts → MakesSome Makes all rest next more_counts
-made_as_is Makes all rest done next line other counts more_counts h step e f =
-    subst (λ (x : Counts). MakesSome Makes all rest next x) (sym f)
-    (subst (λ (x : List Numbered). MakesSome Makes all rest x counts) (sym e) (record {
-      completes = λ more c r. subst (λ (x : List Numbered). Makes all x (both counts c)) (sym (append_assoc done (other ∷ []) more))
-          (h.completes (other ∷ more) c (step more c r));
-      within = h.within;
-    }))
+-- where each has the relation to one thing, the list beside it is one
+pub each_one : {A B : Type 0} (R : A → B → Type 0) → ((x : A) (y z : B) → R x y → R x z → y ≡ z) → (xs : List A) (ys zs : List B)
+    → Each R xs ys → Each R xs zs → ys ≡ zs
+each_one R one [] [] [] h g = refl
+each_one R one [] [] (z ∷ zs) h g = absurd g
+each_one R one [] (y ∷ ys) zs h g = absurd h
+each_one R one (x ∷ xs) [] zs h g = absurd h
+each_one R one (x ∷ xs) (y ∷ ys) [] h g = absurd g
+each_one R one (x ∷ xs) (y ∷ ys) (z ∷ zs) h g =
+    let e = one x y z h.0 g.0 in
+    let r = each_one R one xs ys zs h.1 g.1 in
+    λ i. e i ∷ r i
 
--- a line is made, and counted
-pub made_counted : (Makes : Making) (all rest done next : List Numbered) (line other : Numbered) (sort : Sort) (counts more_counts : Counts)
-    → MakesSome Makes all (line ∷ rest) done counts
-    → ((more : List Numbered) (c : Counts) → Makes rest more c → Makes (line ∷ rest) (other ∷ more) (one_more_of sort c))
-    → next ≡ done ++ (other ∷ []) → more_counts ≡ one_more_of sort counts → MakesSome Makes all rest next more_counts
-made_counted Makes all rest done next line other sort counts more_counts h step e f =
-    subst (λ (x : Counts). MakesSome Makes all rest next x) (sym f)
-    (subst (λ (x : List Numbered). MakesSome Makes all rest x (one_more_of sort counts)) (sym e) (record {
-      completes = λ more c r. subst (λ (x : Counts). Makes all ((done ++ (other ∷ [])) ++ more) x) (both_more sort counts c)
-          (subst (λ (x : List Numbered). Makes all x (both counts (one_more_of sort c))) (sym (append_assoc done (other ∷ []) more))
-          (h.completes (other ∷ more) (one_more_of sort c) (step more c r)));
-      within = more_within sort counts h.within;
-    }))
+-- ---- texts that change or stay
 
--- what is left may be written otherwise
-pub made_turn : (Makes : Making) (all rest more done : List Numbered) (counts : Counts) → MakesSome Makes all rest done counts → rest ≡ more
-    → MakesSome Makes all more done counts
-made_turn Makes all rest more done counts h e = subst (λ (x : List Numbered). MakesSome Makes all x done counts) e h
+-- a text for each, so that it changes or stays
+abbrev pub Changing : Type 1
+Changing = Numbered → Option (List ℕ) → Type 0
 
--- nothing is left
-pub made_all : (Makes : Making) (all done : List Numbered) (counts : Counts) → MakesSome Makes all [] done counts
-    → Makes [] [] no_counts → Makes all done counts
-made_all Makes all done counts h none =
-    subst (λ (x : Counts). Makes all done x) h.within
-    (subst (λ (x : List Numbered). Makes all x (both counts no_counts)) (append-nil done) (h.completes [] no_counts none))
+changed_more : (R : Changing) (lines : List Numbered) (changes : List (Option (List ℕ))) (line : Numbered) (change : Option (List ℕ)) → Each R lines changes
+    → changed (lines ++ (line ∷ [])) (changes ++ (change ∷ [])) ≡ changed lines changes ++ (with_change line change ∷ [])
+changed_more R [] [] line change h = refl
+changed_more R [] (c ∷ changes) line change h = absurd h
+changed_more R (l ∷ lines) [] line change h = absurd h
+changed_more R (l ∷ lines) (c ∷ changes) line change h = ap (λ (x : List Numbered). with_change l c ∷ x) (changed_more R lines changes line change h.1)
 
--- ---- plain lines
+counted_more : (sort : Sort) (counts : Counts) (changes : List (Option (List ℕ))) (change : Option (List ℕ))
+    → counted_from sort counts (changes ++ (change ∷ [])) ≡ with_counted sort change (counted_from sort counts changes)
+counted_more sort counts [] change = refl
+counted_more sort counts (c ∷ changes) change = counted_more sort (with_counted sort c counts) changes change
 
-plain_within : (lines plains : List Numbered) (c : Counts) → ArePlain lines plains c → IsWithin c
-plain_within lines plains c all_plain = none_within
-plain_within lines plains c (plain_stays {counts = k} p h) = plain_within _ _ k h
-plain_within lines plains c (plain_changes {counts = k} p d h) = more_within Stripped k (plain_within _ _ k h)
+-- of no text none is made
+pub made_none : (R : Changing) (sort : Sort) (made : List Numbered) (counts : Counts) → made ≡ [] → counts ≡ no_counts → IsMade R sort [] made counts
+made_none R sort made counts e f = record { changes = []; each = tt; is = e; count = f }
 
--- nothing is made yet
-start : (Makes : Making) (all rest done : List Numbered) (counts : Counts) → ((more : List Numbered) (c : Counts) → Makes all more c → IsWithin c)
-    → rest ≡ all → done ≡ [] → counts ≡ no_counts → MakesSome Makes all rest done counts
-start Makes all rest done counts w g e f =
-    subst (λ (x : List Numbered). MakesSome Makes all x done counts) (sym g)
-    (subst (λ (x : Counts). MakesSome Makes all all done x) (sym f)
-    (subst (λ (x : List Numbered). MakesSome Makes all all x no_counts) (sym e) (record {
-      completes = λ more c r. subst (λ (x : Counts). Makes all more x) (sym (none_before c (w more c r))) r;
-      within = none_within;
-    })))
+-- a text more
+pub made_more : (R : Changing) (sort : Sort) (texts made next : List Numbered) (counts more : Counts) (line : Numbered) (change : Option (List ℕ))
+    → IsMade R sort texts made counts → R line change → next ≡ made ++ (with_change line change ∷ []) → more ≡ with_counted sort change counts
+    → IsMade R sort (texts ++ (line ∷ [])) next more
+made_more R sort texts made next counts more line change h r e f =
+    record {
+      changes = h.changes ++ (change ∷ []);
+      each = each_more R texts h.changes line change h.each r;
+      is = e ∙ ap (λ (x : List Numbered). x ++ (with_change line change ∷ [])) h.is ∙ sym (changed_more R texts h.changes line change h.each);
+      count = f ∙ ap (with_counted sort change) h.count ∙ sym (counted_more sort no_counts h.changes change);
+    }
 
--- no line is plain yet
-pub plain_start : (all rest done : List Numbered) (counts : Counts) → rest ≡ all → done ≡ [] → counts ≡ no_counts → MakesSome ArePlain all rest done counts
-plain_start all rest done counts g e f = start ArePlain all rest done counts (λ more c r. plain_within all more c r) g e f
+-- the texts may be written otherwise
+pub made_turn : (R : Changing) (sort : Sort) (texts other made : List Numbered) (counts : Counts) → IsMade R sort texts made counts → texts ≡ other
+    → IsMade R sort other made counts
+made_turn R sort texts other made counts h e = subst (λ (x : List Numbered). IsMade R sort x made counts) e h
 
 -- a text is made plain
-pub plain_added : (number : ℕ) (text front end : List ℕ) (changes : Bool) (all rest done next : List Numbered) (counts more_counts : Counts)
-    → MakesSome ArePlain all (line_of number text ∷ rest) done counts → IsPlain text (front ++ end)
-    → changes ≡ not (eqb (length front + length end) (length text)) → next ≡ done ++ (line_of number (front ++ end) ∷ [])
-    → more_counts ≡ (if changes then one_more_of Stripped counts else counts) → MakesSome ArePlain all rest next more_counts
-plain_added number text front end changes all rest done next counts more_counts h p c e f = by (eqb (length front + length end) (length text)) refl
+pub plain_added : (number : ℕ) (text front end : List ℕ) (changes : Bool) (texts made next : List Numbered) (counts more : Counts)
+    → IsMade IsStripped Stripped texts made counts → IsPlain text (front ++ end)
+    → changes ≡ not (eqb (length front + length end) (length text)) → next ≡ made ++ (line_of number (front ++ end) ∷ [])
+    → more ≡ (if changes then one_more_of Stripped counts else counts) → IsMade IsStripped Stripped (texts ++ (line_of number text ∷ [])) next more
+plain_added number text front end changes texts made next counts more h p c e f = by (eqb (length front + length end) (length text)) refl
   where
-    by : (same : Bool) → eqb (length front + length end) (length text) ≡ same → MakesSome ArePlain all rest next more_counts
+    by : (same : Bool) → eqb (length front + length end) (length text) ≡ same → IsMade IsStripped Stripped (texts ++ (line_of number text ∷ [])) next more
     by true same =
         let is : front ++ end ≡ text = plain_long text (front ++ end) p (length-append front end ∙ eqb-true _ _ same) in
         let stays : IsPlain text text = subst (IsPlain text) is p in
-        made_as_is ArePlain all rest done next (line_of number text) (line_of number text) counts more_counts h (λ more k r. plain_stays stays r)
-        (e ∙ ap (λ (x : List ℕ). done ++ (line_of number x ∷ [])) is)
+        made_more IsStripped Stripped texts made next counts more (line_of number text) None h stays
+        (e ∙ ap (λ (x : List ℕ). made ++ (line_of number x ∷ [])) is)
         (f ∙ ap (λ (b : Bool). if b then one_more_of Stripped counts else counts) (c ∙ ap not same))
     by false same =
         let other : front ++ end ≢ text = λ is. not_both _ (eq-eqb _ _ (sym (length-append front end) ∙ ap length is)) same in
-        made_counted ArePlain all rest done next (line_of number text) (line_of number (front ++ end)) Stripped counts more_counts h
-        (λ more k r. plain_changes p other r) e
+        made_more IsStripped Stripped texts made next counts more (line_of number text) (Some (front ++ end)) h (p, other) e
         (f ∙ ap (λ (b : Bool). if b then one_more_of Stripped counts else counts) (c ∙ ap not same))
 
--- all lines are plain
-pub plain_end : (all rest done : List Numbered) (counts : Counts) → MakesSome ArePlain all rest done counts → rest ≡ [] → ArePlain all done counts
-plain_end all rest done counts h e =
-    made_all ArePlain all done counts (subst (λ (x : List Numbered). MakesSome ArePlain all x done counts) e h) all_plain
-
--- ---- numbered lines
-
-numbered_within : (numbering : Numbering) (lines plains : List Numbered) (c : Counts) → AreNumbered numbering lines plains c → IsWithin c
-numbered_within numbering lines plains c all_numbered = none_within
-numbered_within numbering lines plains c (number_stays {counts = k} p h) = numbered_within numbering _ _ k h
-numbered_within numbering lines plains c (number_changes {counts = k} p h) = more_within OfNumbered k (numbered_within numbering _ _ k h)
-
--- no line has its number yet
-pub numbered_start : (numbering : Numbering) (all rest done : List Numbered) (counts : Counts) → rest ≡ all → done ≡ [] → counts ≡ no_counts
-    → MakesSome (AreNumbered numbering) all rest done counts
-numbered_start numbering all rest done counts g e f =
-    start (AreNumbered numbering) all rest done counts (λ more c r. numbered_within numbering all more c r) g e f
-
--- a text keeps its number
-pub number_kept : (numbering : Numbering) (number : ℕ) (text : List ℕ) (all rest done next : List Numbered) (counts more_counts : Counts)
-    → MakesSome (AreNumbered numbering) all (line_of number text ∷ rest) done counts → ((line : List ℕ) → ¬ ChangesNumber numbering text line)
-    → next ≡ done ++ (line_of number text ∷ []) → more_counts ≡ counts → MakesSome (AreNumbered numbering) all rest next more_counts
-number_kept numbering number text all rest done next counts more_counts h p e f =
-    made_as_is (AreNumbered numbering) all rest done next (line_of number text) (line_of number text) counts more_counts h
-    (λ more k r. number_stays p r) e f
-
--- a text gets another
-pub number_changed : (numbering : Numbering) (number : ℕ) (text line : List ℕ) (all rest done next : List Numbered) (counts more_counts : Counts)
-    → MakesSome (AreNumbered numbering) all (line_of number text ∷ rest) done counts → ChangesNumber numbering text line
-    → next ≡ done ++ (line_of number line ∷ []) → more_counts ≡ one_more_of OfNumbered counts → MakesSome (AreNumbered numbering) all rest next more_counts
-number_changed numbering number text line all rest done next counts more_counts h p e f =
-    made_counted (AreNumbered numbering) all rest done next (line_of number text) (line_of number line) OfNumbered counts more_counts h
-    (λ more k r. number_changes p r) e f
-
--- all lines have their numbers
-pub numbered_end : (numbering : Numbering) (all rest done : List Numbered) (counts : Counts) → MakesSome (AreNumbered numbering) all rest done counts
-    → rest ≡ [] → AreNumbered numbering all done counts
-numbered_end numbering all rest done counts h e =
-    made_all (AreNumbered numbering) all done counts (subst (λ (x : List Numbered). MakesSome (AreNumbered numbering) all x done counts) e h) all_numbered
-
--- a log in which no number changes
-pub numbers_stay : (all : List Numbered) → AreNumbered AsPrinted all all no_counts
-numbers_stay [] = all_numbered
-numbers_stay (line ∷ all) = number_stays (λ other never. never) (numbers_stay all)
+numbers_stay : (all : List Numbered) → IsMade (IsRenumbered AsPrinted) OfNumbered all all no_counts
+numbers_stay [] = made_none (IsRenumbered AsPrinted) OfNumbered [] no_counts refl refl
+numbers_stay (line ∷ all) =
+    let r = numbers_stay all in
+    record {
+      changes = None ∷ r.changes;
+      each = ((λ other never. never), r.each);
+      is = ap (λ (x : List Numbered). line ∷ x) r.is;
+      count = r.count;
+    }
 
 -- a log whose numbers stay
 pub numbers_as : (numbering : Numbering) (all : List Numbered) (counts : Counts) → numbering ≡ AsPrinted → counts ≡ no_counts
-    → AreNumbered numbering all all counts
+    → IsMade (IsRenumbered numbering) OfNumbered all all counts
 numbers_as numbering all counts e f =
-    subst (λ (x : Numbering). AreNumbered x all all counts) (sym e) (subst (λ (x : Counts). AreNumbered AsPrinted all all x) (sym f) (numbers_stay all))
+    subst (λ (x : Numbering). IsMade (IsRenumbered x) OfNumbered all all counts) (sym e)
+    (subst (λ (x : Counts). IsMade (IsRenumbered AsPrinted) OfNumbered all all x) (sym f) (numbers_stay all))

@@ -12,20 +12,20 @@ use Rattle.raw_lines.proofs.Searches.{isnt, not_true, each_at, last_place_same}
 use Rattle.raw_lines.proofs.MarkFacts.{broken_same}
 use Rattle.raw_lines.proofs.PlainFacts.{plain_same}
 use Rattle.raw_logs.specs.declared.counts.Counts.{Counts}
-use Rattle.raw_logs.specs.declared.counts.Sort.TheVariants.{Messages, Stack, Stripped, Numbered as OfNumbered}
+use Rattle.raw_logs.specs.declared.counts.Sort.TheVariants.{Stripped, Numbered as OfNumbered}
 use Rattle.raw_logs.specs.declared.numbering.Numbering.{Numbering}
 use Rattle.raw_logs.specs.declared.numbering.Numbering.TheVariants.{AsPrinted, Plain}
-use Rattle.raw_logs.specs.Counting.{one_more_of, both}
-use Rattle.raw_logs.specs.Log.{Numbered, IsLog, IsUnbroken, IsCutShort, goes_on, Heals, all_healed, heals_message, heals_stack, heals_broken, heals_blank, heals_line}
-use Rattle.raw_logs.specs.Log.{ArePlain, all_plain, plain_stays, plain_changes}
+use Rattle.raw_logs.specs.Counting.{both}
+use Rattle.raw_logs.specs.Log.{Numbered, IsLog, IsUnbroken, IsCutShort, LineKind, Message, OfStack, CutShort, LeftIn, IsKind, Each, Healed, healed, changed, count_changes, IsStripped}
 use Rattle.raw_logs.specs.Numbering.{IsLater, IsStart, StartsAt, IsFirstThread, IsRoot, IsNumbering, LosesBrackets, GetsNumber, ChangesNumber, with_number}
-use Rattle.raw_logs.specs.Numbering.{AreNumbered, all_numbered, number_stays, number_changes}
+use Rattle.raw_logs.specs.Numbering.{IsRenumbered}
 use Rattle.raw_logs.specs.Log.{texts_of}
 use Rattle.raw_logs.specs.declared.fault.LogFault.{LogFault}
 use Rattle.raw_logs.specs.declared.told.Told.{Told}
 use Rattle.raw_logs.specs.Choosing.{Picked, picked_of, fault_of}
 use Rattle.raw_logs.specs.Reading.{IsNumberedLog, IsRead, AreTexts, IsFirstUnknown, IsLogFault}
 use Rattle.raw_logs.specs.Told.{AreTold}
+use Rattle.raw_logs.proofs.MadeLines.{each_one}
 use Rattle.raw_logs.proofs.ToldFacts.{told_one}
 
 -- ---- the lines of a log
@@ -38,7 +38,8 @@ no_newline (b ∷ cut) none = (
 )
 
 -- the bytes up to the last newline, and those behind it
-whole_same : (a b c d : List ℕ) → ((a ≡ []) ⊎ EndsWith (10 ∷ []) a) → ((b ≡ []) ⊎ EndsWith (10 ∷ []) b) → EachIs (isnt 10) c → EachIs (isnt 10) d
+whole_same : (a b c d : List ℕ) → ((a ≡ []) ⊎ EndsWith (10 ∷ []) a) → ((b ≡ []) ⊎ EndsWith (10 ∷ []) b)
+    → EachIs (isnt 10) c → EachIs (isnt 10) d
     → a ++ c ≡ b ++ d → (a ≡ b) × (c ≡ d)
 whole_same a b c d (inl h) (inl g) nc nd e = (h ∙ sym g, ap (λ (x : List ℕ). x ++ c) (sym h) ∙ e ∙ ap (λ (x : List ℕ). x ++ d) g)
 whole_same a b c d (inl h) (inr g) nc nd e =
@@ -61,10 +62,6 @@ log_one bytes lines more cut over h g =
 
 -- ---- texts without messages
 
--- texts, what waits and counts are the same
-abbrev pub SameTexts : List Numbered → List Numbered → Option Numbered → Option Numbered → Counts → Counts → Type 0
-SameTexts a b x y m n = (a ≡ b) × (x ≡ y) × (m ≡ n)
-
 -- a line that no message broke wasn't broken by one
 whole_or_broken : (line front : List ℕ) → IsUnbroken line → IsCutShort line front → ⊥
 whole_or_broken line front h g = elim h.whole [
@@ -72,64 +69,31 @@ whole_or_broken line front h g = elim h.whole [
   | inr w ↦ w front g.broken
 ]
 
--- lines have one text each
-pub heals_one : (number : ℕ) (part : Option Numbered) (lines : List (List ℕ)) (a b : List Numbered) (x y : Option Numbered) (m n : Counts)
-    → Heals number part lines a x m → Heals number part lines b y n → SameTexts a b x y m n
-heals_one number part lines a b x y m n all_healed all_healed = (refl, refl, refl)
-heals_one number part lines a b x y m n (heals_message {lines = l} {counts = c} h more) (heals_message {counts = d} g other) =
-    let r = heals_one (number + 1) part l a b x y c d more other in (r.0, r.1, ap (one_more_of Messages) r.2)
-heals_one number part lines a b x y m n (heals_message h more) (heals_stack never g other) = absurd (never h)
-heals_one number part lines a b x y m n (heals_message h more) (heals_broken g other) = absurd (g.no_message h)
-heals_one number part lines a b x y m n (heals_message h more) (heals_blank g e other) = absurd (g.no_message h)
-heals_one number part lines a b x y m n (heals_message h more) (heals_line g e other) = absurd (g.no_message h)
-heals_one number part lines a b x y m n (heals_stack never h more) (heals_message g other) = absurd (never g)
-heals_one number part lines a b x y m n (heals_stack {lines = l} {counts = c} never h more) (heals_stack {counts = d} none g other) =
-    let r = heals_one (number + 1) part l a b x y c d more other in (r.0, r.1, ap (one_more_of Stack) r.2)
-heals_one number part lines a b x y m n (heals_stack never h more) (heals_broken g other) = absurd (g.no_stack h)
-heals_one number part lines a b x y m n (heals_stack never h more) (heals_blank g e other) = absurd (g.no_stack h)
-heals_one number part lines a b x y m n (heals_stack never h more) (heals_line g e other) = absurd (g.no_stack h)
-heals_one number part lines a b x y m n (heals_broken h more) (heals_message g other) = absurd (h.no_message g)
-heals_one number part lines a b x y m n (heals_broken h more) (heals_stack never g other) = absurd (h.no_stack g)
-heals_one number part lines a b x y m n (heals_broken {line =
-    line} {front = f} {lines = l} {counts = c} h more) (heals_broken {front = e} {counts = d} g other) =
-    let s : e ≡ f = broken_same line e f g.broken h.broken in
-    let r = heals_one (number + 1) (Some (goes_on part number f)) l a b x y c d more
-    (subst (λ (z : List ℕ). Heals (number + 1) (Some (goes_on part number z)) l b y d) s other) in
-    (r.0, r.1, ap (one_more_of Messages) r.2)
-heals_one number part lines a b x y m n (heals_broken {line = line} {front = f} h more) (heals_blank g e other) = absurd (whole_or_broken line f g h)
-heals_one number part lines a b x y m n (heals_broken {line = line} {front = f} h more) (heals_line g e other) = absurd (whole_or_broken line f g h)
-heals_one number part lines a b x y m n (heals_blank h e more) (heals_message g other) = absurd (h.no_message g)
-heals_one number part lines a b x y m n (heals_blank h e more) (heals_stack never g other) = absurd (h.no_stack g)
-heals_one number part lines a b x y m n (heals_blank {line = line} h e more) (heals_broken {front = f} g other) = absurd (whole_or_broken line f h g)
-heals_one number part lines a b x y m n (heals_blank {lines = l} {counts = c} h e more) (heals_blank {counts = d} g f other) =
-    heals_one (number + 1) None l a b x y c d more other
-heals_one number part lines a b x y m n (heals_blank h e more) (heals_line g f other) = absurd (f e)
-heals_one number part lines a b x y m n (heals_line h e more) (heals_message g other) = absurd (h.no_message g)
-heals_one number part lines a b x y m n (heals_line h e more) (heals_stack never g other) = absurd (h.no_stack g)
-heals_one number part lines a b x y m n (heals_line {line = line} h e more) (heals_broken {front = f} g other) = absurd (whole_or_broken line f h g)
-heals_one number part lines a b x y m n (heals_line h e more) (heals_blank g f other) = absurd (e f)
-heals_one number part lines a b x y m n (heals_line {line = line} {lines = l} {texts = t} h e more) (heals_line {texts = u} g f other) =
-    let r = heals_one (number + 1) None l t u x y m n more other in
-    (ap (λ (z : List Numbered). goes_on part number line ∷ z) r.0, r.1, r.2)
+-- a line is of one kind
+pub kind_one : (line : List ℕ) (a b : LineKind) → IsKind line a → IsKind line b → a ≡ b
+kind_one line Message Message h g = refl
+kind_one line Message OfStack h g = absurd (g.0 h)
+kind_one line Message (CutShort e) h g = absurd (g.no_message h)
+kind_one line Message LeftIn h g = absurd (g.no_message h)
+kind_one line OfStack Message h g = absurd (h.0 g)
+kind_one line OfStack OfStack h g = refl
+kind_one line OfStack (CutShort e) h g = absurd (g.no_stack h.1)
+kind_one line OfStack LeftIn h g = absurd (g.no_stack h.1)
+kind_one line (CutShort f) Message h g = absurd (h.no_message g)
+kind_one line (CutShort f) OfStack h g = absurd (h.no_stack g.1)
+kind_one line (CutShort f) (CutShort e) h g = ap (λ (x : List ℕ). CutShort x) (broken_same line f e h.broken g.broken)
+kind_one line (CutShort f) LeftIn h g = absurd (whole_or_broken line f g h)
+kind_one line LeftIn Message h g = absurd (h.no_message g)
+kind_one line LeftIn OfStack h g = absurd (h.no_stack g.1)
+kind_one line LeftIn (CutShort e) h g = absurd (whole_or_broken line e h g)
+kind_one line LeftIn LeftIn h g = refl
 
--- lists and counts are the same
-abbrev pub SameLines : List Numbered → List Numbered → Counts → Counts → Type 0
-SameLines a b m n = (a ≡ b) × (m ≡ n)
-
--- texts have one plain text each
-pub plains_one : (lines a b : List Numbered) (m n : Counts) → ArePlain lines a m → ArePlain lines b n → SameLines a b m n
-plains_one lines a b m n all_plain all_plain = (refl, refl)
-plains_one lines a b m n (plain_stays {line = line} {lines = l} {plains = p} h more) (plain_stays {plains = q} g other) =
-    let r = plains_one l p q m n more other in (ap (λ (z : List Numbered). line ∷ z) r.0, r.1)
-plains_one lines a b m n (plain_stays {line = line} h more) (plain_changes {plain = q} g never other) = absurd (never (plain_same line.text q line.text g h))
-plains_one lines a b m n (plain_changes {line = line} {plain = p} h never more) (plain_stays g other) = absurd (never (plain_same line.text p line.text h g))
-plains_one lines a b m n (plain_changes {line = line} {plain = p} {lines = l} {plains = ps} {counts = c} h never more)
-    (plain_changes {plain = q} {plains = qs} {counts = d} g none other) =
-    let e = plain_same line.text p q h g in
-    let r = plains_one l ps qs c d more other in (
-      ap (λ (z : List ℕ). record { number = line.number; text = z } ∷ ps) e ∙ ap (λ (z : List Numbered). record { number = line.number; text = q } ∷ z) r.0,
-      ap (one_more_of Stripped) r.1,
-    )
+-- a text is made plain in one way
+stripped_one : (line : Numbered) (a b : Option (List ℕ)) → IsStripped line a → IsStripped line b → a ≡ b
+stripped_one line None None h g = refl
+stripped_one line None (Some q) h g = absurd (g.1 (plain_same line.text q line.text g.0 h))
+stripped_one line (Some p) None h g = absurd (h.1 (plain_same line.text p line.text h.0 g))
+stripped_one line (Some p) (Some q) h g = ap (λ (x : List ℕ). Some x) (plain_same line.text p q h.0 g.0)
 
 -- ---- numbers
 
@@ -206,40 +170,48 @@ changes_same (Plain (Some pid)) text a b (inl h) (inr g) = absurd (loses_or_gets
 changes_same (Plain (Some pid)) text a b (inr h) (inl g) = absurd (loses_or_gets text b a pid g h)
 changes_same (Plain (Some pid)) text a b (inr h) (inr g) = h.3 ∙ sym g.3
 
--- texts are numbered in one way
-pub numbered_one : (numbering : Numbering) (texts a b : List Numbered) (m n : Counts) → AreNumbered numbering texts a m → AreNumbered numbering texts b n
-    → SameLines a b m n
-numbered_one numbering texts a b m n all_numbered all_numbered = (refl, refl)
-numbered_one numbering texts a b m n (number_stays {text = text} {texts = t} {lines = l} h more) (number_stays {lines = k} g other) =
-    let r = numbered_one numbering t l k m n more other in (ap (λ (z : List Numbered). text ∷ z) r.0, r.1)
-numbered_one numbering texts a b m n (number_stays h more) (number_changes {line = line} g other) = absurd (h line g)
-numbered_one numbering texts a b m n (number_changes {line = line} h more) (number_stays g other) = absurd (g line h)
-numbered_one numbering texts a b m n (number_changes {text = text} {line = p} {texts = t} {lines = l} {counts = c} h more)
-    (number_changes {line = q} {lines = k} {counts = d} g other) =
-    let e = changes_same numbering text.text p q h g in
-    let r = numbered_one numbering t l k c d more other in (
-      ap (λ (z : List ℕ). record { number = text.number; text = z } ∷ l) e ∙ ap (λ (z : List Numbered). record { number = text.number; text = q } ∷ z) r.0,
-      ap (one_more_of OfNumbered) r.1,
-    )
+-- and gets its number in one way
+renumbered_one : (numbering : Numbering) (line : Numbered) (a b : Option (List ℕ)) → IsRenumbered numbering line a → IsRenumbered numbering line b → a ≡ b
+renumbered_one numbering line None None h g = refl
+renumbered_one numbering line None (Some q) h g = absurd (h q g)
+renumbered_one numbering line (Some p) None h g = absurd (g p h)
+renumbered_one numbering line (Some p) (Some q) h g = ap (λ (x : List ℕ). Some x) (changes_same numbering line.text p q h g)
 
 -- ---- the whole
+
+-- lists and counts are the same
+abbrev pub SameLines : List Numbered → List Numbered → Counts → Counts → Type 0
+SameLines a b m n = (a ≡ b) × (m ≡ n)
+
+-- what the lines of a log come to is one thing
+pub healed_one : (lines more : List (List ℕ)) (a b : List LineKind) → lines ≡ more → Each IsKind lines a → Each IsKind more b → healed lines a ≡ healed more b
+healed_one lines more a b e h g =
+    ap (λ (x : List (List ℕ)). healed x a) e ∙ ap (healed more) (each_one IsKind kind_one more a b (subst (λ (x : List (List ℕ)). Each IsKind x a) e h) g)
 
 -- a log has the same numbered texts
 pub log_texts_one : (bytes : List ℕ) (a b : List Numbered) (m n : Counts) → IsNumberedLog bytes a m → IsNumberedLog bytes b n → SameLines a b m n
 log_texts_one bytes a b m n h g =
     let l = log_one bytes h.lines g.lines h.cut g.cut h.log g.log in
-    let t = heals_one 1 None g.lines h.texts g.texts h.left g.left h.healed g.healed
-    (subst (λ (x : List (List ℕ)). Heals 1 None x h.texts h.left h.healed) l.0 h.heals) g.heals in
-    let p = plains_one g.texts h.plains g.plains h.stripped g.stripped (subst (λ (x : List Numbered). ArePlain x h.plains h.stripped) t.0 h.plain) g.plain in
-    let is : IsNumbering g.lines (texts_of g.plains) h.numbering = subst (λ (x : List Numbered). IsNumbering g.lines (texts_of x) h.numbering) p.0
-    (subst (λ (x : List (List ℕ)). IsNumbering x (texts_of h.plains) h.numbering) l.0 h.numbered) in
-    let k = numbering_one g.lines (texts_of g.plains) h.numbering g.numbering is g.numbered in
-    let numbers : AreNumbered g.numbering g.plains a h.renumbered = subst (λ (x : Numbering). AreNumbered x g.plains a h.renumbered) k
-    (subst (λ (x : List Numbered). AreNumbered h.numbering x a h.renumbered) p.0 h.numbers) in
-    let r = numbered_one g.numbering g.plains a b h.renumbered g.renumbered numbers g.numbers in (
-      r.0,
-      h.sum ∙ ap (λ (x : Counts). both x (both h.stripped h.renumbered)) t.2 ∙ ap (λ (x : Counts). both g.healed (both x h.renumbered)) p.1
-          ∙ ap (λ (x : Counts). both g.healed (both g.stripped x)) r.1 ∙ sym g.sum,
+    let t : healed h.lines h.kinds ≡ healed g.lines g.kinds = healed_one h.lines g.lines h.kinds g.kinds l.0 h.of_kinds g.of_kinds in
+    let texts = (healed g.lines g.kinds).texts in
+    let s : h.stripped ≡ g.stripped = each_one IsStripped stripped_one texts h.stripped g.stripped
+    (subst (λ (x : Healed). Each IsStripped x.texts h.stripped) t h.plain) g.plain in
+    let p : changed (healed h.lines h.kinds).texts h.stripped ≡ changed texts g.stripped =
+    ap (λ (x : Healed). changed x.texts h.stripped) t ∙ ap (changed texts) s in
+    let is : IsNumbering g.lines (texts_of (changed texts g.stripped)) h.numbering =
+    subst (λ (x : List Numbered). IsNumbering g.lines (texts_of x) h.numbering) p
+    (subst (λ (x : List (List ℕ)). IsNumbering x (texts_of (changed (healed h.lines h.kinds).texts h.stripped)) h.numbering) l.0 h.numbered) in
+    let k = numbering_one g.lines (texts_of (changed texts g.stripped)) h.numbering g.numbering is g.numbered in
+    let r : h.renumbered ≡ g.renumbered = each_one (IsRenumbered g.numbering) (renumbered_one g.numbering) (changed texts g.stripped) h.renumbered g.renumbered
+    (subst (λ (x : Numbering). Each (IsRenumbered x) (changed texts g.stripped) h.renumbered) k
+    (subst (λ (x : List Numbered). Each (IsRenumbered h.numbering) x h.renumbered) p h.numbers)) g.numbers in (
+      h.is ∙ ap (λ (x : List Numbered). changed x h.renumbered) p ∙ ap (changed (changed texts g.stripped)) r ∙ sym g.is,
+      h.sum ∙ ap (λ (x : Healed). both x.counts (both (count_changes Stripped h.stripped) (count_changes OfNumbered h.renumbered))) t
+          ∙ ap (λ (x : List (Option (List ℕ))).
+          both (healed g.lines g.kinds).counts (both (count_changes Stripped x) (count_changes OfNumbered h.renumbered))) s
+          ∙ ap (λ (x : List (Option (List ℕ))). both (healed g.lines g.kinds).counts (both (count_changes Stripped g.stripped)
+          (count_changes OfNumbered x))) r
+          ∙ sym g.sum,
     )
 
 -- a log is read in one way

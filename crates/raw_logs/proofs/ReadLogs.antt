@@ -1,67 +1,71 @@
 -- A whole log: it is read in the stages that the code has.
-use Rattle.std.proofs.Common.{◌≡◌, ℕ, Bool, false, List, [], length, Option, Some, None, sym, ap}
+use Rattle.std.proofs.Common.{◌≡◌, ℕ, Bool, false, List, [], length, Option, Some, None, sym, ap, subst}
 use Rattle.std.proofs.Common.{◌∙◌}
 use Rattle.std.specs.Prelude.{if◌then◌else◌}
 use Rattle.raw_logs.specs.declared.spaces.Made.{Made}
 use Rattle.line_parts.specs.Lines.{lines_of}
 use Rattle.raw_logs.specs.declared.choosing.Picker.{Picker}
 use Rattle.raw_logs.specs.declared.counts.Counts.{Counts}
+use Rattle.raw_logs.specs.declared.counts.Sort.TheVariants.{Stripped, Numbered as OfNumbered}
+use Rattle.raw_logs.specs.declared.healing.Healer.{Healer}
 use Rattle.raw_logs.specs.declared.fault.LogFault.{LogFault}
 use Rattle.raw_logs.specs.declared.fault.LogFault.TheVariants.{NoProcess}
 use Rattle.raw_logs.specs.declared.numbering.Numbering.{Numbering}
 use Rattle.raw_logs.specs.declared.told.Told.{Told}
 use Rattle.raw_logs.specs.Choosing.{Picked, picked, with_silent, picked_of, fault_of, long_fault}
 use Rattle.raw_logs.specs.Counting.{within_32_bits, both}
-use Rattle.raw_logs.specs.Log.{Numbered, texts_of, IsLog, Heals, ArePlain}
-use Rattle.raw_logs.specs.Numbering.{IsNumbering, AreNumbered}
+use Rattle.raw_logs.specs.Log.{Numbered, texts_of, IsLog, Each, Healed, healed, changed, count_changes, IsStripped}
+use Rattle.raw_logs.specs.Numbering.{IsNumbering, IsRenumbered}
 use Rattle.raw_logs.specs.Reading.{IsNumberedLog, IsRead, EndsCut}
-use Rattle.raw_logs.specs.Stages.{seen}
+use Rattle.raw_logs.specs.Stages.{part_of, IsMade, Takes, seen}
 use Rattle.raw_logs.specs.Spaces.{made_from, has_line, silent}
 use Rattle.raw_logs.specs.Told.{AreTold}
 use Rattle.raw_logs.proofs.ToldFacts.{told_length}
 
 -- ---- the stages of the reading
 
--- what the stages make of a log
-abbrev pub numbered_log : (bytes whole cut : List ℕ) (left : Option Numbered) (healed stripped renumbered counts : Counts)
-    (numbering : Numbering) (plains lines : List Numbered) → IsLog bytes (lines_of whole) cut
-    → (texts : List Numbered) × Heals 1 None (lines_of whole) texts left healed × ArePlain texts plains stripped
-    → IsNumbering (lines_of whole) (texts_of plains) numbering → AreNumbered numbering plains lines renumbered
-    → counts ≡ both healed (both stripped renumbered) → IsNumberedLog bytes lines counts
-numbered_log bytes whole cut left healed stripped renumbered counts numbering plains lines log heals numbered numbers sum =
+-- what a log ends with
+pub ends_cut : (bytes whole cut : List ℕ) (healer : Healer) (ends : Bool) → IsLog bytes (lines_of whole) cut → Takes healer (lines_of whole)
+    → (ends ≡ false → (cut ≡ []) × (part_of healer ≡ None)) → ((cut ≡ []) → part_of healer ≡ None → ends ≡ false) → EndsCut bytes ends
+ends_cut bytes whole cut healer ends log t none some_left =
+    let left : (healed (lines_of whole) t.kinds).part ≡ part_of healer = ap (λ (x : Healed). x.part) t.is in
     record {
       lines = lines_of whole;
       cut = cut;
       log = log;
-      texts = heals.0;
-      left = left;
-      healed = healed;
-      heals = heals.1;
-      plains = plains;
-      stripped = stripped;
-      plain = heals.2;
-      numbering = numbering;
-      numbered = numbered;
-      renumbered = renumbered;
-      numbers = numbers;
-      sum = sum;
+      kinds = t.kinds;
+      of_kinds = t.of_kinds;
+      none_left = λ e. let n = none e in (n.0, left ∙ n.1);
+      some_left = λ e f. some_left e (sym left ∙ f);
     }
 
--- what a log ends with
-pub ends_cut : (bytes whole cut : List ℕ) (healed_texts : List Numbered) (left : Option Numbered) (healed : Counts) (ends : Bool)
-    → IsLog bytes (lines_of whole) cut → Heals 1 None (lines_of whole) healed_texts left healed → (ends ≡ false → (cut ≡ []) × (left ≡ None))
-    → ((cut ≡ []) → left ≡ None → ends ≡ false) → EndsCut bytes ends
-ends_cut bytes whole cut healed_texts left healed ends log heals none some_left =
+-- what the stages make of a log
+pub numbered_log : (bytes whole cut : List ℕ) (healer : Healer) (renumbered counts : Counts) (numbering : Numbering) (lines : List Numbered)
+    → IsLog bytes (lines_of whole) cut → Takes healer (lines_of whole) → IsNumbering (lines_of whole) (texts_of healer.plain.lines) numbering
+    → IsMade (IsRenumbered numbering) OfNumbered healer.plain.lines lines renumbered
+    → counts ≡ both healer.counts (both healer.plain.counts renumbered) → IsNumberedLog bytes lines counts
+numbered_log bytes whole cut healer renumbered counts numbering lines log t numbered n sum =
+    let h = healed (lines_of whole) t.kinds in
+    let texts : h.texts ≡ t.texts = ap (λ (x : Healed). x.texts) t.is in
+    let left : h.counts ≡ healer.counts = ap (λ (x : Healed). x.counts) t.is in
+    let plains : healer.plain.lines ≡ changed h.texts t.plain.changes =
+    t.plain.is ∙ ap (λ (x : List Numbered). changed x t.plain.changes) (sym texts) in
     record {
       lines = lines_of whole;
       cut = cut;
       log = log;
-      texts = healed_texts;
-      left = left;
-      counts = healed;
-      heals = heals;
-      none_left = none;
-      some_left = some_left;
+      kinds = t.kinds;
+      of_kinds = t.of_kinds;
+      stripped = t.plain.changes;
+      plain = subst (λ (x : List Numbered). Each IsStripped x t.plain.changes) (sym texts) t.plain.each;
+      numbering = numbering;
+      numbered = subst (λ (x : List Numbered). IsNumbering (lines_of whole) (texts_of x) numbering) plains numbered;
+      renumbered = n.changes;
+      numbers = subst (λ (x : List Numbered). Each (IsRenumbered numbering) x n.changes) plains n.each;
+      is = n.is ∙ ap (λ (x : List Numbered). changed x n.changes) plains;
+      sum = sum ∙ ap (λ (x : Counts). both x (both healer.plain.counts renumbered)) (sym left)
+          ∙ ap (λ (x : Counts). both h.counts (both x renumbered)) t.plain.count
+          ∙ ap (λ (x : Counts). both h.counts (both (count_changes Stripped t.plain.changes) x)) n.count;
     }
 
 -- what was picked, with the counts of the stages before

@@ -1,14 +1,13 @@
 -- What is counted before the writing: none of the stages before it counts a line as unread. So with the sum of all
 -- counts no line is unread where the writing left none.
-use Rattle.std.proofs.Common.{◌≡◌, ℕ, ◌+◌, List, [], ◌∷◌, length, Option, Bool, true, false, refl, ap, ◌∙◌, arith}
+use Rattle.std.proofs.Common.{◌≡◌, ℕ, ◌+◌, List, [], ◌∷◌, ◌++◌, length, Option, Some, None, Bool, true, false, refl, ap, ◌∙◌, arith}
 use Rattle.std.specs.Prelude.{if◌then◌else◌}
 use Rattle.raw_logs.specs.declared.counts.Counts.{Counts}
-use Rattle.raw_logs.specs.declared.numbering.Numbering.{Numbering}
-use Rattle.raw_logs.specs.Counting.{both, one_more_of}
-use Rattle.raw_logs.specs.Log.{Numbered, Heals, all_healed, heals_message, heals_stack, heals_broken, heals_blank, heals_line}
-use Rattle.raw_logs.specs.Log.{ArePlain, all_plain, plain_stays, plain_changes}
-use Rattle.raw_logs.specs.Numbering.{AreNumbered, all_numbered, number_stays, number_changes}
-use Rattle.raw_logs.specs.declared.counts.Sort.TheVariants.{Elsewhere, Earlier, Untold}
+use Rattle.raw_logs.specs.declared.counts.Sort.{Sort}
+use Rattle.raw_logs.specs.declared.counts.Sort.TheVariants.{Stripped, Numbered as OfNumbered, Elsewhere, Earlier, Untold}
+use Rattle.raw_logs.specs.Counting.{no_counts, both, one_more_of}
+use Rattle.raw_logs.specs.Log.{Numbered, goes_on, LineKind, Message, OfStack, CutShort, LeftIn, Healed, nothing_healed, is_gap, with_kind, healed_from, healed}
+use Rattle.raw_logs.specs.Log.{counted_from, count_changes}
 use Rattle.raw_logs.specs.declared.told.Form.{Form}
 use Rattle.raw_logs.specs.declared.told.Form.TheVariants.{Blank, Unknown, Long, TooLong, Whole}
 use Rattle.raw_logs.specs.declared.told.Told.{Told}
@@ -16,27 +15,30 @@ use Rattle.raw_logs.specs.Choosing.{Picked, hides, with_own, is_blank, with_line
 use Rattle.raw_logs.specs.Spaces.{made_from, has_line}
 use Rattle.raw_logs.specs.Reading.{IsNumberedLog, AreTexts}
 
+kind_unread : (number : ℕ) (line : List ℕ) (kind : LineKind) (h : Healed) → h.counts.unread ≡ 0 → (with_kind number line kind h).counts.unread ≡ 0
+kind_unread number line Message h e = e
+kind_unread number line OfStack h e = e
+kind_unread number line (CutShort front) h e = e
+kind_unread number line LeftIn h e = by (is_gap h.part line)
+  where
+    by : (gap : Bool) → (if gap then h else record h { texts = h.texts ++ (goes_on h.part number line ∷ []); part = None }).counts.unread ≡ 0
+    by true = e
+    by false = e
+
 -- the lines of a log are read with none
-pub heals_unread : (number : ℕ) (part : Option Numbered) (lines : List (List ℕ)) (texts : List Numbered) (left : Option Numbered) (c : Counts)
-    → Heals number part lines texts left c → c.unread ≡ 0
-heals_unread number part lines texts left c all_healed = refl
-heals_unread number part lines texts left c (heals_message {counts = k} m h) = heals_unread _ _ _ _ _ k h
-heals_unread number part lines texts left c (heals_stack {counts = k} never m h) = heals_unread _ _ _ _ _ k h
-heals_unread number part lines texts left c (heals_broken {counts = k} m h) = heals_unread _ _ _ _ _ k h
-heals_unread number part lines texts left c (heals_blank {counts = k} m e h) = heals_unread _ _ _ _ _ k h
-heals_unread number part lines texts left c (heals_line {counts = k} m e h) = heals_unread _ _ _ _ _ k h
+pub healed_unread : (number : ℕ) (h : Healed) (lines : List (List ℕ)) (kinds : List LineKind) → h.counts.unread ≡ 0
+    → (healed_from number h lines kinds).counts.unread ≡ 0
+healed_unread number h [] kinds e = e
+healed_unread number h (line ∷ lines) [] e = e
+healed_unread number h (line ∷ lines) (kind ∷ kinds) e =
+    healed_unread (number + 1) (with_kind number line kind h) lines kinds (kind_unread number line kind h e)
 
--- texts are made plain with none
-pub plain_unread : (lines plains : List Numbered) (c : Counts) → ArePlain lines plains c → c.unread ≡ 0
-plain_unread lines plains c all_plain = refl
-plain_unread lines plains c (plain_stays {counts = k} p h) = plain_unread _ _ k h
-plain_unread lines plains c (plain_changes {counts = k} p d h) = plain_unread _ _ k h
-
--- they get their numbers with none
-pub numbered_unread : (numbering : Numbering) (lines plains : List Numbered) (c : Counts) → AreNumbered numbering lines plains c → c.unread ≡ 0
-numbered_unread numbering lines plains c all_numbered = refl
-numbered_unread numbering lines plains c (number_stays {counts = k} p h) = numbered_unread numbering _ _ k h
-numbered_unread numbering lines plains c (number_changes {counts = k} p h) = numbered_unread numbering _ _ k h
+-- texts change with none
+pub changes_unread : (sort : Sort) → ((c : Counts) → (one_more_of sort c).unread ≡ c.unread) → (counts : Counts) (changes : List (Option (List ℕ)))
+    → counts.unread ≡ 0 → (counted_from sort counts changes).unread ≡ 0
+changes_unread sort other counts [] e = e
+changes_unread sort other counts (None ∷ changes) e = changes_unread sort other counts changes e
+changes_unread sort other counts (Some text ∷ changes) e = changes_unread sort other (one_more_of sort counts) changes (other counts ∙ e)
 
 -- nor has a sum any unread line where neither of two counts has
 pub both_unread : (a b : Counts) → a.unread ≡ 0 → b.unread ≡ 0 → (both a b).unread ≡ 0
@@ -46,9 +48,10 @@ both_unread a b e f = omega (arith, e, f)
 pub log_unread : (bytes : List ℕ) (whole : List Numbered) (c : Counts) → IsNumberedLog bytes whole c → c.unread ≡ 0
 log_unread bytes whole c n =
     ap (λ (x : Counts). x.unread) n.sum
-    ∙ both_unread n.healed (both n.stripped n.renumbered) (heals_unread 1 _ n.lines n.texts n.left n.healed n.heals)
-    (both_unread n.stripped n.renumbered (plain_unread n.texts n.plains n.stripped n.plain)
-    (numbered_unread n.numbering n.plains whole n.renumbered n.numbers))
+    ∙ both_unread (healed n.lines n.kinds).counts (both (count_changes Stripped n.stripped) (count_changes OfNumbered n.renumbered))
+    (healed_unread 1 nothing_healed n.lines n.kinds refl)
+    (both_unread (count_changes Stripped n.stripped) (count_changes OfNumbered n.renumbered)
+    (changes_unread Stripped (λ k. refl) no_counts n.stripped refl) (changes_unread OfNumbered (λ k. refl) no_counts n.renumbered refl))
 
 with_line_unread : (here : Bool) (line : Numbered) (told : Told) (p : Picked) → p.counts.unread ≡ 0 → (with_line here line told p).counts.unread ≡ 0
 with_line_unread here line told p h = by (is_blank told.form) here p.ended told.form

@@ -2,13 +2,14 @@
 -- was cut off and is no line. Messages of strace's own, lines of stacks and empty lines are left out. A message that
 -- broke into a line is taken out of it: the line goes on with the next one that is left in. Each text is then its plain
 -- text.
-use Rattle.std.specs.Prelude.{◌≡◌, ◌≢◌, ◌⊎◌, ℕ, ◌+◌, List, [], ◌∷◌, ◌++◌, map, Option, Some, None, Contains}
+use Rattle.std.specs.Prelude.{◌≡◌, ◌≢◌, ◌⊎◌, ℕ, ◌+◌, List, [], ◌∷◌, ◌++◌, map, Option, Some, None, Contains, Bool, true, false, if◌then◌else◌}
 use Rattle.line_parts.specs.Lines.{lines_of}
 use Rattle.strace_reader.specs.Grammar.{EndsWith}
 use Rattle.raw_lines.specs.Marks.{IsMessage, IsStackLine, IsBroken, IsUnread}
 use Rattle.raw_lines.specs.Plain.{IsPlain}
 use Rattle.raw_logs.specs.declared.counts.Counts.{Counts}
-use Rattle.raw_logs.specs.declared.counts.Sort.TheVariants.{Messages, Stack, Stripped}
+use Rattle.raw_logs.specs.declared.counts.Sort.{Sort}
+use Rattle.raw_logs.specs.declared.counts.Sort.TheVariants.{Messages, Stack}
 use Rattle.raw_logs.specs.Counting.{no_counts, one_more_of}
 
 -- the lines of a log, and what was cut off behind them
@@ -36,9 +37,7 @@ abbrev pub goes_on : Option Numbered → ℕ → List ℕ → Numbered
 goes_on None number line = line_of number line
 goes_on (Some part) number line = line_of part.number (part.text ++ line)
 
--- an empty line where no part waits
-abbrev pub IsBlank : Option Numbered → List ℕ → Type 0
-IsBlank part line = (part ≡ None) × (line ≡ [])
+-- ---- lines that are left in
 
 -- the line is left in, and is no line that a message broke
 pub record IsUnbroken (line : List ℕ) : Type 0 where
@@ -53,31 +52,87 @@ pub record IsCutShort (line front : List ℕ) : Type 0 where
   pub no_mark : ¬ IsUnread line
   pub broken : IsBroken line front
 
--- These lines, from the one of this number on and behind a part that was broken off, are these texts. What is left at
--- the end is a part without its rest.
-pub data Heals : ℕ → Option Numbered → List (List ℕ) → List Numbered → Option Numbered → Counts → Type 0 where
-  all_healed : {number : ℕ} {part : Option Numbered} → Heals number part [] [] part no_counts
-  heals_message : {number : ℕ} {part left : Option Numbered} {line : List ℕ} {lines : List (List ℕ)} {texts : List Numbered} {counts : Counts}
-      → IsMessage line → Heals (number + 1) part lines texts left counts
-      → Heals number part (line ∷ lines) texts left (one_more_of Messages counts)
-  heals_stack : {number : ℕ} {part left : Option Numbered} {line : List ℕ} {lines : List (List ℕ)} {texts : List Numbered} {counts : Counts}
-      → (¬ IsMessage line) → IsStackLine line → Heals (number + 1) part lines texts left counts
-      → Heals number part (line ∷ lines) texts left (one_more_of Stack counts)
-  heals_broken : {number : ℕ} {part left : Option Numbered} {line front : List ℕ} {lines : List (List ℕ)} {texts : List Numbered} {counts : Counts}
-      → IsCutShort line front → Heals (number + 1) (Some (goes_on part number front)) lines texts left counts
-      → Heals number part (line ∷ lines) texts left (one_more_of Messages counts)
-  heals_blank : {number : ℕ} {part left : Option Numbered} {line : List ℕ} {lines : List (List ℕ)} {texts : List Numbered} {counts : Counts}
-      → IsUnbroken line → IsBlank part line → Heals (number + 1) None lines texts left counts
-      → Heals number part (line ∷ lines) texts left counts
-  heals_line : {number : ℕ} {part left : Option Numbered} {line : List ℕ} {lines : List (List ℕ)} {texts : List Numbered} {counts : Counts}
-      → IsUnbroken line → (¬ IsBlank part line) → Heals (number + 1) None lines texts left counts
-      → Heals number part (line ∷ lines) (goes_on part number line ∷ texts) left counts
+-- what a line is: a message, a line of a stack, one that a message broke behind these bytes, or one that is left in
+pub data LineKind : Type 0 where
+  Message : LineKind
+  OfStack : LineKind
+  CutShort : List ℕ → LineKind
+  LeftIn : LineKind
 
--- each text is the plain text of its like, and those that changed are counted
-pub data ArePlain : List Numbered → List Numbered → Counts → Type 0 where
-  all_plain : ArePlain [] [] no_counts
-  plain_stays : {line : Numbered} {lines plains : List Numbered} {counts : Counts} → IsPlain line.text line.text →
-      ArePlain lines plains counts → ArePlain (line ∷ lines) (line ∷ plains) counts
-  plain_changes : {line : Numbered} {plain : List ℕ} {lines plains : List Numbered} {counts : Counts} → IsPlain line.text plain → plain ≢ line.text →
-      ArePlain lines plains counts →
-      ArePlain (line ∷ lines) (record { number = line.number; text = plain } ∷ plains) (one_more_of Stripped counts)
+-- the line is this
+abbrev pub IsKind : List ℕ → LineKind → Type 0
+IsKind line Message = IsMessage line
+IsKind line OfStack = (¬ IsMessage line) × IsStackLine line
+IsKind line (CutShort front) = IsCutShort line front
+IsKind line LeftIn = IsUnbroken line
+
+-- each of some has the relation to its like among others
+abbrev pub Each : {A B : Type 0} → (A → B → Type 0) → List A → List B → Type 0
+Each R [] [] = Unit {0}
+Each R [] (y ∷ ys) = ⊥
+Each R (x ∷ xs) [] = ⊥
+Each R (x ∷ xs) (y ∷ ys) = R x y × Each R xs ys
+
+-- What lines come to: texts; the part of a line that a message broke off and that waits for its rest; and how many
+-- lines are left out.
+pub record Healed : Type 0 where
+  pub texts : List Numbered
+  pub part : Option Numbered
+  pub counts : Counts
+
+abbrev pub nothing_healed : Healed
+nothing_healed = record { texts = []; part = None; counts = no_counts }
+
+-- an empty line where no part waits
+abbrev pub is_gap : Option Numbered → List ℕ → Bool
+is_gap None [] = true
+is_gap None (byte ∷ line) = false
+is_gap (Some part) line = false
+
+-- with a line more, which has this number
+abbrev pub with_kind : ℕ → List ℕ → LineKind → Healed → Healed
+with_kind number line Message h = record h { counts = one_more_of Messages h.counts }
+with_kind number line OfStack h = record h { counts = one_more_of Stack h.counts }
+with_kind number line (CutShort front) h = record h { part = Some (goes_on h.part number front); counts = one_more_of Messages h.counts }
+with_kind number line LeftIn h = if is_gap h.part line then h else record h { texts = h.texts ++ (goes_on h.part number line ∷ []); part = None }
+
+-- with these lines, the first of which has this number
+abbrev pub healed_from : ℕ → Healed → List (List ℕ) → List LineKind → Healed
+healed_from number h [] kinds = h
+healed_from number h (line ∷ lines) [] = h
+healed_from number h (line ∷ lines) (kind ∷ kinds) = healed_from (number + 1) (with_kind number line kind h) lines kinds
+
+-- what the lines of a log come to
+abbrev pub healed : List (List ℕ) → List LineKind → Healed
+healed lines kinds = healed_from 1 nothing_healed lines kinds
+
+-- ---- texts that change
+
+-- the text with its number, where it stays, or another with that number
+abbrev pub with_change : Numbered → Option (List ℕ) → Numbered
+with_change line None = line
+with_change line (Some text) = line_of line.number text
+
+-- each text so
+abbrev pub changed : List Numbered → List (Option (List ℕ)) → List Numbered
+changed [] changes = []
+changed (line ∷ lines) [] = []
+changed (line ∷ lines) (change ∷ changes) = with_change line change ∷ changed lines changes
+
+-- a text more, counted where it changes
+abbrev pub with_counted : Sort → Option (List ℕ) → Counts → Counts
+with_counted sort None counts = counts
+with_counted sort (Some text) counts = one_more_of sort counts
+
+-- so many texts of this sort changed
+abbrev pub counted_from : Sort → Counts → List (Option (List ℕ)) → Counts
+counted_from sort counts [] = counts
+counted_from sort counts (change ∷ changes) = counted_from sort (with_counted sort change counts) changes
+
+abbrev pub count_changes : Sort → List (Option (List ℕ)) → Counts
+count_changes sort changes = counted_from sort no_counts changes
+
+-- the plain text of a text, where it is another
+abbrev pub IsStripped : Numbered → Option (List ℕ) → Type 0
+IsStripped line None = IsPlain line.text line.text
+IsStripped line (Some plain) = IsPlain line.text plain × (plain ≢ line.text)

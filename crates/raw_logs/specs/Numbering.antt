@@ -3,18 +3,15 @@
 -- number: the first thread's where none stands. Its number is the one with which strace began (-p), or the first in
 -- brackets that no message says was attached and no call gave as its result. In every other log, but one that begins
 -- with such a message, the numbers stay as they are.
-use Rattle.std.specs.Prelude.{◌≡◌, ◌≢◌, ◌⊎◌, ℕ, List, [], ◌∷◌, ◌++◌, Some, None, Contains, decimal, codes}
+use Rattle.std.specs.Prelude.{◌≡◌, ◌≢◌, ◌⊎◌, ℕ, List, [], ◌∷◌, ◌++◌, Option, Some, None, Contains, decimal, codes}
 use Rattle.strace_reader.specs.Grammar.{BeginsWith, EndsWith, IsPid, IsBracketed, IsPrefixed, IsBehindSpaces, IsCut}
 use Rattle.raw_lines.specs.declared.makers.MadeAs.{MadeAs}
 use Rattle.raw_lines.specs.declared.makers.Making.TheVariants.{Makes, Ends}
 use Rattle.raw_lines.specs.Beginnings.{IsOfProfile}
 use Rattle.raw_lines.specs.Makers.{IsMaking}
 use Rattle.raw_lines.specs.Marks.{IsUnread}
-use Rattle.raw_logs.specs.declared.counts.Counts.{Counts}
-use Rattle.raw_logs.specs.declared.counts.Sort.TheVariants.{Numbered as OfNumbered}
 use Rattle.raw_logs.specs.declared.numbering.Numbering.{Numbering}
 use Rattle.raw_logs.specs.declared.numbering.Numbering.TheVariants.{AsPrinted, Plain}
-use Rattle.raw_logs.specs.Counting.{no_counts, one_more_of}
 use Rattle.raw_logs.specs.Log.{Numbered}
 
 -- the text begins with the number of a process in brackets
@@ -99,11 +96,7 @@ ChangesNumber AsPrinted text line = ⊥
 ChangesNumber (Plain None) text line = LosesBrackets text line
 ChangesNumber (Plain (Some pid)) text line = LosesBrackets text line ⊎ GetsNumber pid text line
 
--- each text has its number, and those that changed are counted
-pub data AreNumbered (numbering : Numbering) : List Numbered → List Numbered → Counts → Type 0 where
-  all_numbered : AreNumbered numbering [] [] no_counts
-  number_stays : {text : Numbered} {texts lines : List Numbered} {counts : Counts} → ((line : List ℕ) → ¬ ChangesNumber numbering text.text line) →
-      AreNumbered numbering texts lines counts → AreNumbered numbering (text ∷ texts) (text ∷ lines) counts
-  number_changes : {text : Numbered} {line : List ℕ} {texts lines : List Numbered} {counts : Counts} → ChangesNumber numbering text.text line →
-      AreNumbered numbering texts lines counts →
-      AreNumbered numbering (text ∷ texts) (record { number = text.number; text = line } ∷ lines) (one_more_of OfNumbered counts)
+-- the text with another number, where it changes
+abbrev pub IsRenumbered : Numbering → Numbered → Option (List ℕ) → Type 0
+IsRenumbered numbering text None = (line : List ℕ) → ¬ ChangesNumber numbering text.text line
+IsRenumbered numbering text (Some line) = ChangesNumber numbering text.text line

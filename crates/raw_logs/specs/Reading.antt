@@ -2,13 +2,14 @@
 -- the lines of the log (Log.antt), their numbers (Numbering.antt), and whose they are (Spaces.antt).
 use Rattle.std.specs.Prelude.{◌≡◌, ℕ, List, [], Bool, false, Option, Some, None}
 use Rattle.raw_logs.specs.declared.counts.Counts.{Counts}
+use Rattle.raw_logs.specs.declared.counts.Sort.TheVariants.{Stripped, Numbered as OfNumbered}
 use Rattle.raw_logs.specs.declared.fault.LogFault.{LogFault}
 use Rattle.raw_logs.specs.declared.numbering.Numbering.{Numbering}
 use Rattle.raw_logs.specs.declared.told.Told.{Told}
 use Rattle.raw_logs.specs.Choosing.{Picked, picked_of, fault_of}
 use Rattle.raw_logs.specs.Counting.{both}
-use Rattle.raw_logs.specs.Log.{Numbered, texts_of, IsLog, Heals, ArePlain}
-use Rattle.raw_logs.specs.Numbering.{IsNumbering, AreNumbered}
+use Rattle.raw_logs.specs.Log.{Numbered, texts_of, IsLog, LineKind, IsKind, Each, healed, changed, count_changes, IsStripped}
+use Rattle.raw_logs.specs.Numbering.{IsNumbering, IsRenumbered}
 use Rattle.raw_logs.specs.Told.{AreTold}
 
 -- the texts of a log, plain and with their numbers, with how many lines were changed or left out on the way
@@ -16,18 +17,16 @@ pub record IsNumberedLog (bytes : List ℕ) (whole : List Numbered) (counts : Co
   pub lines : List (List ℕ)
   pub cut : List ℕ
   pub log : IsLog bytes lines cut
-  pub texts : List Numbered
-  pub left : Option Numbered
-  pub healed : Counts
-  pub heals : Heals 1 None lines texts left healed
-  pub plains : List Numbered
-  pub stripped : Counts
-  pub plain : ArePlain texts plains stripped
+  pub kinds : List LineKind
+  pub of_kinds : Each IsKind lines kinds
+  pub stripped : List (Option (List ℕ))
+  pub plain : Each IsStripped (healed lines kinds).texts stripped
   pub numbering : Numbering
-  pub numbered : IsNumbering lines (texts_of plains) numbering
-  pub renumbered : Counts
-  pub numbers : AreNumbered numbering plains whole renumbered
-  pub sum : counts ≡ both healed (both stripped renumbered)
+  pub numbered : IsNumbering lines (texts_of (changed (healed lines kinds).texts stripped)) numbering
+  pub renumbered : List (Option (List ℕ))
+  pub numbers : Each (IsRenumbered numbering) (changed (healed lines kinds).texts stripped) renumbered
+  pub is : whole ≡ changed (changed (healed lines kinds).texts stripped) renumbered
+  pub sum : counts ≡ both (healed lines kinds).counts (both (count_changes Stripped stripped) (count_changes OfNumbered renumbered))
 
 -- a log is read so: this is picked of its lines, with how many were changed or left out on the way, and this fault
 pub record IsRead (process : Option ℕ) (bytes : List ℕ) (found : Picked) (fault : Option LogFault) : Type 0 where
@@ -57,9 +56,7 @@ pub record EndsCut (bytes : List ℕ) (ends : Bool) : Type 0 where
   pub lines : List (List ℕ)
   pub cut : List ℕ
   pub log : IsLog bytes lines cut
-  pub texts : List Numbered
-  pub left : Option Numbered
-  pub counts : Counts
-  pub heals : Heals 1 None lines texts left counts
-  pub none_left : ends ≡ false → (cut ≡ []) × (left ≡ None)
-  pub some_left : (cut ≡ []) → (left ≡ None) → ends ≡ false
+  pub kinds : List LineKind
+  pub of_kinds : Each IsKind lines kinds
+  pub none_left : ends ≡ false → (cut ≡ []) × ((healed lines kinds).part ≡ None)
+  pub some_left : (cut ≡ []) → (healed lines kinds).part ≡ None → ends ≡ false

@@ -7,6 +7,8 @@ use Rattle.std.specs.Ordering.{nat_cmp}
 use Rattle.strace_reader.specs.Grammar.{IsBracketed}
 use Rattle.raw_logs.specs.declared.choosing.Picker.{Picker}
 use Rattle.raw_logs.specs.declared.counts.Counts.{Counts}
+use Rattle.raw_logs.specs.declared.counts.Sort.{Sort}
+use Rattle.raw_logs.specs.declared.counts.Sort.TheVariants.{Stripped}
 use Rattle.raw_logs.specs.declared.healing.Healer.{Healer}
 use Rattle.raw_logs.specs.declared.healing.Part.{Part}
 use Rattle.raw_logs.specs.declared.spaces.Chooser.{Chooser}
@@ -17,8 +19,7 @@ use Rattle.raw_logs.specs.declared.told.Form.{Form}
 use Rattle.raw_logs.specs.declared.told.Form.TheVariants.{Blank, Unknown, Long, TooLong, Whole}
 use Rattle.raw_logs.specs.declared.told.Told.{Told}
 use Rattle.raw_logs.specs.Choosing.{Picked, picked}
-use Rattle.raw_logs.specs.Counting.{no_counts, both}
-use Rattle.raw_logs.specs.Log.{Numbered, line_of, Heals, ArePlain}
+use Rattle.raw_logs.specs.Log.{Numbered, line_of, LineKind, IsKind, Each, healed, changed, count_changes, IsStripped}
 use Rattle.raw_logs.specs.Spaces.{made_from, ended_by, space_of, before_in, speaks}
 use Rattle.raw_logs.specs.Told.{AreTold}
 
@@ -36,19 +37,20 @@ part_of healer = option_map part_line healer.part
 
 -- ---- lines that are made one by one
 
--- These of all lines are made so far, and so many changed: what the rest makes, behind them, is made of all.
-pub record MakesSome (Makes : List Numbered → List Numbered → Counts → Type 0) (all rest done : List Numbered) (counts : Counts) : Type 0 where
-  pub completes : (more : List Numbered) (others : Counts) → Makes rest more others → Makes all (done ++ more) (both counts others)
-  pub within : both counts no_counts ≡ counts
+-- of these texts, each of which changes so or stays, these are made, and so many changed
+pub record IsMade (R : Numbered → Option (List ℕ) → Type 0) (sort : Sort) (texts made : List Numbered) (counts : Counts) : Type 0 where
+  pub changes : List (Option (List ℕ))
+  pub each : Each R texts changes
+  pub is : made ≡ changed texts changes
+  pub count : counts ≡ count_changes sort changes
 
--- These lines were read, and make the texts so far, which are made plain; what comes behind them is read on from there,
--- and its counts are added.
-pub record Takes (healer : Healer) (before : List (List ℕ)) : Type 0 where
-  pub within : both healer.counts no_counts ≡ healer.counts
-  pub completes : (later : List (List ℕ)) (more : List Numbered) (left : Option Numbered) (counts : Counts)
-      → Heals (length before + 1) (part_of healer) later more left counts
-      → (texts : List Numbered) × Heals 1 None (before ++ later) texts left (both healer.counts counts)
-      × MakesSome ArePlain texts more healer.plain.lines healer.plain.counts
+-- these lines were read, and their texts made plain
+pub record Takes (healer : Healer) (lines : List (List ℕ)) : Type 0 where
+  pub kinds : List LineKind
+  pub of_kinds : Each IsKind lines kinds
+  pub texts : List Numbered
+  pub is : healed lines kinds ≡ record { texts = texts; part = part_of healer; counts = healer.counts }
+  pub plain : IsMade IsStripped Stripped texts healer.plain.lines healer.plain.counts
 
 -- ---- numbers
 

@@ -1,12 +1,12 @@
 //! The texts of a log: its lines without messages of strace's own and lines of stacks, where a line that a message
-//! broke goes on with the next one. `Heals` in `specs/Log.antt` says it line by line. Each text is made plain as it
+//! broke goes on with the next one. `healed` in `specs/Log.antt` says it line by line. Each text is made plain as it
 //! comes, so that no text is kept twice.
 
 ghost use Rattle.std.specs.Prelude.{◌≡◌, ◌≤◌, ◌<◌, ◌+◌, ◌-◌, ◌^◌, ◌++◌, ◌∷◌, [], ℕ, List, length, Option, None, IfOk, OnOk};
 ghost use Rattle.line_parts.specs.Lines.{lines_of};
-ghost use Rattle.raw_logs.specs.Log.{Numbered, line_of, goes_on, IsBlank, Heals, ArePlain, IsLog};
-ghost use Rattle.std.specs.Bool.{Decides};
-ghost use Rattle.raw_logs.specs.Stages.{part_of, Takes, MakesSome};
+ghost use Rattle.raw_logs.specs.declared.counts.Sort.TheVariants.{Stripped};
+ghost use Rattle.raw_logs.specs.Log.{Numbered, line_of, goes_on, is_gap, IsStripped, IsLog};
+ghost use Rattle.raw_logs.specs.Stages.{part_of, Takes, IsMade};
 
 use crate::counts::{Counts, Sort};
 use crate::lines::Lines;
@@ -62,8 +62,8 @@ impl Changed {
 
     /// Adds the plain text of a text.
     fn add_plain(&mut self, number: u32, text: &[u8]) -> Result<(), AllocError>
-        ensures made { OnOk result ((all rest : List Numbered) → MakesSome ArePlain all (line_of number text.now ∷ rest) self.old.lines self.old.counts
-            → MakesSome ArePlain all rest self.new.lines self.new.counts) }
+        ensures made { OnOk result ((texts : List Numbered) → IsMade IsStripped Stripped texts self.old.lines self.old.counts
+            → IsMade IsStripped Stripped (texts ++ (line_of number text.now ∷ [])) self.new.lines self.new.counts) }
         ensures one { OnOk result (length self.new.lines ≡ length self.old.lines + 1) }
     {
         let (front, end) = plain_parts(text);
@@ -113,7 +113,7 @@ impl Healer {
 
     /// Whether a line is empty, and no part waits for it.
     fn is_blank(&self, text: &[u8]) -> bool
-        ensures { Decides result (IsBlank (part_of self.now) text.now) }
+        ensures { result ≡ is_gap (part_of self.now) text.now }
     {
         if text.is_empty() {
             return self.part.is_none();
@@ -123,9 +123,8 @@ impl Healer {
 
     /// Keeps a line of this number, behind the part that waits.
     fn keep(&mut self, number: u32, text: &[u8]) -> Result<(), AllocError>
-        ensures made { OnOk result ((all rest : List Numbered)
-            → MakesSome ArePlain all (goes_on (part_of self.old) number text.now ∷ rest) self.old.plain.lines self.old.plain.counts
-            → MakesSome ArePlain all rest self.new.plain.lines self.new.plain.counts) }
+        ensures made { OnOk result ((texts : List Numbered) → IsMade IsStripped Stripped texts self.old.plain.lines self.old.plain.counts
+            → IsMade IsStripped Stripped (texts ++ (goes_on (part_of self.old) number text.now ∷ [])) self.new.plain.lines self.new.plain.counts) }
         ensures one { OnOk result (length self.new.plain.lines ≡ length self.old.plain.lines + 1) }
         ensures none { OnOk result (part_of self.new ≡ None) }
         ensures counts { self.new.counts ≡ self.old.counts }
@@ -199,8 +198,7 @@ impl Healer {
 /// The texts of the lines of a log, made plain.
 pub(crate) fn heal(alloc: Global, whole: &[u8]) -> Result<Healer, AllocError>
     requires { length whole.now < 2 ^ 32 - 1 }
-    ensures heals { IfOk result (λ healer. (texts : List Numbered) × Heals 1 None (lines_of whole.now) texts (part_of healer) healer.counts
-        × ArePlain texts healer.plain.lines healer.plain.counts) }
+    ensures takes { IfOk result (λ healer. Takes healer (lines_of whole.now)) }
     ensures few { IfOk result (λ healer. length healer.plain.lines ≤ length whole.now) }
 {
     let mut healer = Healer::new(alloc);

@@ -6,13 +6,14 @@ ghost use Rattle.std.specs.Prelude.{◌≡◌, ◌≢◌, ◌⊎◌, ◌↔◌, 
 ghost use Rattle.std.specs.Prelude.{OnOk};
 ghost use Rattle.raw_lines.specs.Marks.{IsUnread};
 ghost use Rattle.raw_logs.specs.Log.{Numbered, line_of, texts_of};
+ghost use Rattle.raw_logs.specs.declared.counts.Sort.TheVariants.{Numbered as OfNumbered};
 ghost use Rattle.std.specs.Bool.{Decides};
 ghost use Rattle.line_parts.specs.Lines.{lines_of};
 ghost use Rattle.strace_reader.specs.Grammar.{IsBracketed};
 ghost use Rattle.raw_logs.specs.Numbering.{HasBrackets, HasNoNumber, IsBareCall, IsAttached, Gives, IsLater, IsStart, StartsAt, IsMixed, IsFirstThread};
 ghost use Rattle.raw_logs.specs.Numbering.{IsNumbering};
-ghost use Rattle.raw_logs.specs.Numbering.{AreNumbered, ChangesNumber, with_number};
-ghost use Rattle.raw_logs.specs.Stages.{Has, EachLater, MakesSome};
+ghost use Rattle.raw_logs.specs.Numbering.{IsRenumbered, ChangesNumber, with_number};
+ghost use Rattle.raw_logs.specs.Stages.{Has, EachLater, IsMade};
 
 use crate::counts::{Counts, Sort};
 use crate::healing::Changed;
@@ -294,9 +295,9 @@ fn add_numbered(
     text: &[u8],
     first: Option<u32>,
 ) -> Result<(), AllocError>
-    ensures made { OnOk result ((all rest : List Numbered)
-        → MakesSome (AreNumbered (Numbering.Plain first)) all (line_of number text.now ∷ rest) changed.old.lines changed.old.counts
-        → MakesSome (AreNumbered (Numbering.Plain first)) all rest changed.new.lines changed.new.counts) }
+    ensures made { OnOk result ((texts : List Numbered)
+        → IsMade (IsRenumbered (Numbering.Plain first)) OfNumbered texts changed.old.lines changed.old.counts
+        → IsMade (IsRenumbered (Numbering.Plain first)) OfNumbered (texts ++ (line_of number text.now ∷ [])) changed.new.lines changed.new.counts) }
     ensures one { OnOk result (length changed.new.lines ≡ length changed.old.lines + 1) }
 {
     let Some((pid, body)) = renumbered(first, text) else {
@@ -310,7 +311,7 @@ fn add_numbered(
 
 /// The texts with plain numbers.
 fn number_all(alloc: Global, lines: &Lines, first: Option<u32>) -> Result<Changed, AllocError>
-    ensures numbers { IfOk result (λ changed. AreNumbered (Numbering.Plain first) lines.now changed.lines changed.counts) }
+    ensures numbers { IfOk result (λ changed. IsMade (IsRenumbered (Numbering.Plain first)) OfNumbered lines.now changed.lines changed.counts) }
     ensures few { IfOk result (λ changed. length changed.lines ≡ length lines.now) }
 {
     let mut changed = Changed::new(alloc);
@@ -327,7 +328,7 @@ pub(crate) fn renumber(
     lines: Lines,
     numbering: Numbering,
 ) -> Result<Changed, AllocError>
-    ensures numbers { IfOk result (λ changed. AreNumbered numbering lines changed.lines changed.counts) }
+    ensures numbers { IfOk result (λ changed. IsMade (IsRenumbered numbering) OfNumbered lines changed.lines changed.counts) }
     ensures few { IfOk result (λ changed. length changed.lines ≡ length lines) }
 {
     match numbering {

@@ -22,8 +22,7 @@ use Rattle.raw_trace.specs.declared.halves.Role.{Role}
 use Rattle.raw_trace.specs.declared.halves.Role.TheVariants.{Alone, First, Second}
 use Rattle.raw_trace.specs.declared.halves.Waiting.{Waiting}
 use Rattle.raw_trace.specs.Places.{IsQuiet, IsFirst, IsSecond, IsPaired}
-use Rattle.raw_trace.specs.Stages.{IsRole, AreRoles, all_roles, IsWaiting, Finds, FindsRole}
-use Rattle.raw_trace.proofs.RoleLists.{roles_from, roles_at, roles_length}
+use Rattle.raw_trace.specs.Stages.{IsRole, AreRoles, IsWaiting, Finds, FindsRole}
 use Rattle.raw_logs.proofs.Splits.{SplitsMore, split_more, splits_before, splits_there}
 
 -- ---- quiet texts
@@ -290,26 +289,24 @@ at_last (r ∷ roles) role zero e = absurd (omega arith)
 at_last (r ∷ roles) role (suc n) e = at_last roles role n (omega arith)
 
 -- the text stands alone, and the roles stay
-pub roles_stay : (log : List (List ℕ)) (last : List ℕ) (roles : List Role) → IsUnmet log last → AreRoles [] log roles
-    → AreRoles [] (log ++ (last ∷ [])) (roles ++ (Alone ∷ []))
+pub roles_stay : (log : List (List ℕ)) (last : List ℕ) (roles : List Role) → IsUnmet log last → AreRoles log roles
+    → AreRoles (log ++ (last ∷ [])) (roles ++ (Alone ∷ []))
 roles_stay log last roles never h =
-    let l = roles_length [] log roles h in
-    roles_from [] (log ++ (last ∷ [])) (roles ++ (Alone ∷ [])) (one_longer log last roles Alone l)
-    (λ before text after e. by before text after (split_more log before text after last e))
+    record { count = one_longer log last roles Alone h.count; at = λ before text after e. by before text after (split_more log before text after last e) }
   where
     by : (before : List (List ℕ)) (text : List ℕ) (after : List (List ℕ)) → SplitsMore log before after text last
         → IsRole before text after (get_or (roles ++ (Alone ∷ [])) (length before) Alone)
     by before text after (splits_before rest e f) =
-        let l = roles_length [] log roles h in
+        let l = h.count in
         let k = within log before rest text e in
         let same : get_or (roles ++ (Alone ∷ [])) (length before) Alone ≡ get_or roles (length before) Alone =
         get_or_append_left roles (Alone ∷ []) Alone (length before) (omega arith) in
         subst (λ (x : Role). IsRole before text after x) (sym same)
         (subst (λ (x : List (List ℕ)). IsRole before text x (get_or roles (length before) Alone)) (sym f)
         (role_more before text rest last (get_or roles (length before) Alone) (met_waits log before rest text last e never)
-        (roles_at [] log roles h before text rest e)))
+        (h.at before text rest e)))
     by before text after (splits_there e f g) =
-        let l = roles_length [] log roles h in
+        let l = h.count in
         let same : get_or (roles ++ (Alone ∷ [])) (length before) Alone ≡ Alone = at_last roles Alone (length before) (l ∙ ap length (sym e)) in
         subst (λ (x : Role). IsRole before text after x) (sym same)
         (subst (λ (x : List (List ℕ)). IsRole x text after Alone) (sym e)
@@ -353,12 +350,13 @@ joined_second text p q n m f b h g =
 
 -- the two texts are the halves of one call, and the other roles stay
 pub roles_joined : (log : List (List ℕ)) (last : List ℕ) (roles : List Role) (p behind place : ℕ) (w : Waiting) → place ≡ length log
-    → IsWaiting log p w → ((v : Waiting) → IsWaiting log p v → v ≡ w) → Spells last (Resumed p w.name behind) → AreRoles [] log roles
-    → AreRoles [] (log ++ (last ∷ [])) (set roles w.place (First place w.to behind w.name) ++ (Second w.place w.to behind w.name ∷ []))
+    → IsWaiting log p w → ((v : Waiting) → IsWaiting log p v → v ≡ w) → Spells last (Resumed p w.name behind) → AreRoles log roles
+    → AreRoles (log ++ (last ∷ [])) (set roles w.place (First place w.to behind w.name) ++ (Second w.place w.to behind w.name ∷ []))
 roles_joined log last roles p behind place w pl wait one s h =
-    let l = roles_length [] log roles h in
-    roles_from [] (log ++ (last ∷ [])) (new ++ (role ∷ [])) (one_longer log last new role (length-set roles w.place first ∙ l))
-    (λ before text after e. by before text after (split_more log before text after last e))
+    record {
+      count = one_longer log last new role (length-set roles w.place first ∙ h.count);
+      at = λ before text after e. by before text after (split_more log before text after last e);
+    }
   where
     first : Role
     first = First place w.to behind w.name
@@ -445,7 +443,7 @@ roles_joined log last roles p behind place w pl wait one s h =
         let at : length before ≡ w.place = eqb-true (length before) w.place d in
         let same = same_split before rest wait.before wait.after text wait.text (sym e ∙ wait.parts) (at ∙ sym wait.place) in
         let k = within log before rest text e in
-        let l = roles_length [] log roles h in
+        let l = h.count in
         let is : get_or new (length before) Alone ≡ first = ap (λ (x : ℕ). get_or new x Alone) at
         ∙ get_or-set_same roles w.place first Alone (omega arith) in
         subst (λ (x : Role). IsRole before text (rest ++ (last ∷ [])) x) (sym is)
@@ -457,12 +455,12 @@ roles_joined log last roles p behind place w pl wait one s h =
         let is : get_or new (length before) Alone ≡ get_or roles (length before) Alone = get_or-set_other roles w.place (length before) first Alone ne in
         subst (λ (x : Role). IsRole before text (rest ++ (last ∷ [])) x) (sym is)
         (role_more before text rest last (get_or roles (length before) Alone) (other_place before rest text e ne)
-        (roles_at [] log roles h before text rest e))
+        (h.at before text rest e))
 
     by : (before : List (List ℕ)) (text : List ℕ) (after : List (List ℕ)) → SplitsMore log before after text last
         → IsRole before text after (get_or (new ++ (role ∷ [])) (length before) Alone)
     by before text after (splits_before rest e f) =
-        let l = roles_length [] log roles h in
+        let l = h.count in
         let j = length-set roles w.place first in
         let k = within log before rest text e in
         let same : get_or (new ++ (role ∷ [])) (length before) Alone ≡ get_or new (length before) Alone =
@@ -471,7 +469,7 @@ roles_joined log last roles p behind place w pl wait one s h =
         (subst (λ (x : List (List ℕ)). IsRole before text x (get_or new (length before) Alone)) (sym f)
         (stays before rest text e (eqb (length before) w.place) refl))
     by before text after (splits_there e f g) =
-        let l = roles_length [] log roles h in
+        let l = h.count in
         let j = length-set roles w.place first in
         let same : get_or (new ++ (role ∷ [])) (length before) Alone ≡ role = at_last new role (length before) (j ∙ l ∙ ap length (sym e)) in
         subst (λ (x : Role). IsRole before text after x) (sym same)
@@ -481,12 +479,11 @@ roles_joined log last roles p behind place w pl wait one s h =
 
 -- ---- what a finder holds behind a text
 
-found_alone : (old new : Finder) (log : List (List ℕ)) (last : List ℕ) → Finds old log → new.roles.items ≡ old.roles.items → IsUnmet log last
+found_alone : (old new : Finder) (log : List (List ℕ)) (last : List ℕ) → Finds old log → new.roles ≡ old.roles → IsUnmet log last
     → ((q : ℕ) (w : Waiting) → get nat_cmp new.waiting q ≡ Some w ↔ IsWaiting (log ++ (last ∷ [])) q w) → FindsRole new log last Alone
 found_alone old new log last f e never waits =
     record {
-      roles = subst (λ (x : List Role). AreRoles [] (log ++ (last ∷ [])) (x ++ (Alone ∷ []))) (sym e) (roles_stay log last old.roles.items never f.roles);
-      count = ap (λ (x : List Role). length x) e ∙ f.count;
+      roles = subst (λ (x : List Role). AreRoles (log ++ (last ∷ [])) (x ++ (Alone ∷ []))) (sym e) (roles_stay log last old.roles never f.roles);
       waits = waits;
     }
 
@@ -530,7 +527,7 @@ role_ended : (old new : Finder) (log : List (List ℕ)) (last : List ℕ) (p : �
     → (IsQuiet p (last ∷ []) → ⊥) → ((q : ℕ) (n : Name) (a t : ℕ) → Spells last (Unfinished q n a t) → ⊥)
     → ((q : ℕ) (n : Name) (b : ℕ) → Spells last (Resumed q n b) → ⊥) → FindsRole new log last Alone
 role_ended old new log last p f e gone others quiet loud never none =
-    found_alone old new log last f (ap (λ x. x.items) e) (λ q n b w r iw. absurd (none q n b r))
+    found_alone old new log last f e (λ q n b w r iw. absurd (none q n b r))
     (λ q w. ended_waits old new log last p f gone others quiet loud never q w (eqb q p) refl)
 
 -- a whole call does
@@ -580,21 +577,21 @@ begun_waits old new log last p place n a t f pl s put others q w false d =
 
 -- a first half waits
 pub role_begins : (old new : Finder) (log : List (List ℕ)) (last : List ℕ) (p place : ℕ) (n : Name) (a t : ℕ) → Finds old log
-    → place ≡ length old.roles.items → new.roles ≡ old.roles
+    → place ≡ length old.roles → new.roles ≡ old.roles
     → Spells last (Unfinished p n a t) → get nat_cmp new.waiting p ≡ Some (record { place = place; to = t; name = n })
     → ((q : ℕ) → q ≢ p → get nat_cmp new.waiting q ≡ get nat_cmp old.waiting q) → FindsRole new log last Alone
 role_begins old new log last p place n a t f pl e s put others =
-    found_alone old new log last f (ap (λ x. x.items) e)
+    found_alone old new log last f e
     (λ q m b w r iw. let i = (one_outcome last).item (Resumed q m b) (Unfinished p n a t) r s in absurd cc)
-    (λ q w. begun_waits old new log last p place n a t f (pl ∙ f.count) s put others q w (eqb q p) refl)
+    (λ q w. begun_waits old new log last p place n a t f (pl ∙ f.roles.count) s put others q w (eqb q p) refl)
 
 -- what is found of a second half: no first half of its name waits, or one does
 abbrev pub IsResumedSo : Finder → Finder → ℕ → Name → ℕ → ℕ → Role → Type 0
 IsResumedSo old new p n place behind role =
-    (((first : Waiting) → get nat_cmp old.waiting p ≡ Some first → first.name ≢ n) × (role ≡ Alone) × (new.roles.items ≡ old.roles.items))
+    (((first : Waiting) → get nat_cmp old.waiting p ≡ Some first → first.name ≢ n) × (role ≡ Alone) × (new.roles ≡ old.roles))
     ⊎ ((first : Waiting) × (get nat_cmp old.waiting p ≡ Some first) × (first.name ≡ n)
     × (role ≡ Second first.place first.to behind n)
-    × (new.roles.items ≡ set old.roles.items first.place (First place first.to behind n)))
+    × (new.roles ≡ set old.roles first.place (First place first.to behind n)))
 
 -- the parts of two second halves that are one text
 record SameBack (p q : ℕ) (n m : Name) : Type 0 where
@@ -609,7 +606,7 @@ same_back text p q n m f b h g =
 
 -- a second half has its role, and its first half too
 pub role_resumed : (old new : Finder) (log : List (List ℕ)) (last : List ℕ) (p place : ℕ) (n : Name) (behind : ℕ) (role : Role) → Finds old log
-    → place ≡ length old.roles.items → Spells last (Resumed p n behind) → IsResumedSo old new p n place behind role
+    → place ≡ length old.roles → Spells last (Resumed p n behind) → IsResumedSo old new p n place behind role
     → get nat_cmp new.waiting p ≡ None
     → ((q : ℕ) → q ≢ p → get nat_cmp new.waiting q ≡ get nat_cmp old.waiting q) → FindsRole new log last role
 role_resumed old new log last p place n behind role f pl s so gone others = by so
@@ -630,34 +627,32 @@ role_resumed old new log last p place n behind role f pl s so gone others = by s
     by (inr h) =
         let first = h.0 in
         let named : Spells last (Resumed p first.name behind) = subst (λ (x : Name). Spells last (Resumed p x behind)) (sym h.2) s in
-        let roles = roles_joined log last old.roles.items p behind place first (pl ∙ f.count) ((f.waits p first).0 h.1)
+        let roles = roles_joined log last old.roles p behind place first (pl ∙ f.roles.count) ((f.waits p first).0 h.1)
         (λ v iv. some_one (get nat_cmp old.waiting p) v first ((f.waits p v).1 iv) h.1) named f.roles in
         record {
-          roles = subst (λ (x : Role). AreRoles [] (log ++ (last ∷ [])) (new.roles.items ++ (x ∷ []))) (sym h.3)
-              (subst (λ (x : List Role). AreRoles [] (log ++ (last ∷ [])) (x ++ (Second first.place first.to behind n ∷ []))) (sym h.4)
-              (subst (λ (x : Name). AreRoles [] (log ++ (last ∷ []))
-              (set old.roles.items first.place (First place first.to behind x) ++ (Second first.place first.to behind x ∷ []))) h.2 roles));
-          count = ap (λ (x : List Role). length x) h.4 ∙ length-set old.roles.items first.place (First place first.to behind n) ∙ f.count;
+          roles = subst (λ (x : Role). AreRoles (log ++ (last ∷ [])) (new.roles ++ (x ∷ []))) (sym h.3)
+              (subst (λ (x : List Role). AreRoles (log ++ (last ∷ [])) (x ++ (Second first.place first.to behind n ∷ []))) (sym h.4)
+              (subst (λ (x : Name). AreRoles (log ++ (last ∷ []))
+              (set old.roles first.place (First place first.to behind x) ++ (Second first.place first.to behind x ∷ []))) h.2 roles));
           waits = waits;
         }
 
 -- a first half that waits stands among the texts
 pub waits_within : (old : Finder) (log : List (List ℕ)) (p : ℕ) (first : Waiting) → Finds old log → get nat_cmp old.waiting p ≡ Some first
-    → first.place < length old.roles.items
+    → first.place < length old.roles
 waits_within old log p first f e =
     let iw = (f.waits p first).0 e in
     let k = within log iw.before iw.after iw.text iw.parts in
     let j = iw.place in
-    let l = f.count in
+    let l = f.roles.count in
     omega arith
 
 -- the text has its role now
 pub finds_more : (middle new : Finder) (log : List (List ℕ)) (last : List ℕ) (role : Role) → FindsRole middle log last role
-    → new.roles.items ≡ middle.roles.items ++ (role ∷ []) → new.waiting ≡ middle.waiting → Finds new (log ++ (last ∷ []))
+    → new.roles ≡ middle.roles ++ (role ∷ []) → new.waiting ≡ middle.waiting → Finds new (log ++ (last ∷ []))
 finds_more middle new log last role f e g =
     record {
-      roles = subst (λ (x : List Role). AreRoles [] (log ++ (last ∷ [])) x) (sym e) f.roles;
-      count = ap (λ (x : List Role). length x) e ∙ one_longer log last middle.roles.items role f.count;
+      roles = subst (λ (x : List Role). AreRoles (log ++ (last ∷ [])) x) (sym e) f.roles;
       waits = λ q w. (
         (λ h. (f.waits q w).0 (ap (λ x. get nat_cmp x q) (sym g) ∙ h)),
         (λ iw. ap (λ x. get nat_cmp x q) g ∙ (f.waits q w).1 iw),
@@ -665,11 +660,10 @@ finds_more middle new log last role f e g =
     }
 
 -- nothing was looked at
-pub finds_none : (f : Finder) → f.roles.items ≡ [] → ((q : ℕ) → get nat_cmp f.waiting q ≡ None) → Finds f []
+pub finds_none : (f : Finder) → f.roles ≡ [] → ((q : ℕ) → get nat_cmp f.waiting q ≡ None) → Finds f []
 finds_none f e none =
     record {
-      roles = subst (AreRoles [] []) (sym e) all_roles;
-      count = ap (λ (x : List Role). length x) e;
+      roles = subst (AreRoles []) (sym e) (record { count = refl; at = λ before text after parts. absurd (none_behind before after text parts) });
       waits = λ q w. ((λ g. absurd (none_some (get nat_cmp f.waiting q) w (none q) g)), (λ iw. absurd (none_behind iw.before iw.after iw.text iw.parts)));
     }
 

@@ -7,6 +7,7 @@ use Rattle.raw_logs.specs.Log.{Numbered, texts_of}
 use Rattle.raw_trace.specs.declared.fault.Fault.{Fault}
 use Rattle.raw_trace.specs.declared.fault.Fault.TheVariants.{Memory}
 use Rattle.raw_trace.specs.declared.halves.Role.{Role}
+use Rattle.raw_trace.specs.declared.halves.Role.TheVariants.{Alone}
 use Rattle.raw_trace.specs.declared.order.Ordering.{Ordering}
 use Rattle.raw_trace.specs.declared.writing.Written.{Written}
 use Rattle.raw_trace.specs.Faults.{IsFirstFault, Stops}
@@ -118,9 +119,9 @@ did_end strict lines place counts old d line rest fault e (inr h) =
 
 -- the role of a place that wasn't looked at yet
 pub step_role : (strict : Bool) (lines : List Numbered) (place : ℕ) (counts : Counts) (roles : List Role) (role : Role) (old : Ordering)
-    → DidSome strict lines place counts old → AreRoles [] (texts_of lines) roles → role ≡ get_or roles place role → place < length roles → place < length lines
+    → DidSome strict lines place counts old → AreRoles (texts_of lines) roles → role ≡ get_or roles place Alone → place < length lines
     → (text : List ℕ) × IsRoleAt (texts_of lines) place text role
-step_role strict lines place counts roles role old w h is l k =
+step_role strict lines place counts roles role old w h is k =
     let left = left_at lines w.fed w.later place w.parts w.count k in
     let parts = split_texts lines w.fed left.rest left.line (w.parts ∙ ap (λ (x : List Numbered). w.fed ++ x) left.is) in (
       left.line.text,
@@ -129,17 +130,17 @@ step_role strict lines place counts roles role old w h is l k =
         after = texts_of left.rest;
         parts = parts;
         count = length-map w.fed (λ (x : Numbered). x.text) ∙ w.count;
-        has = role_here lines w.fed left.rest left.line place roles role parts w.count h is l;
+        has = role_here lines w.fed left.rest left.line place roles role parts w.count h is;
       },
     )
 
 -- what its text does was done
 pub step_did : (strict : Bool) (lines : List Numbered) (place : ℕ) (counts : Counts) (roles : List Role) (role : Role) (old new : Ordering)
-    → DidSome strict lines place counts old → AreRoles [] (texts_of lines) roles → role ≡ get_or roles place role → place < length roles → place < length lines
+    → DidSome strict lines place counts old → AreRoles (texts_of lines) roles → role ≡ get_or roles place Alone → place < length lines
     → ((text : Numbered) (at : IsRoleAt (texts_of lines) place text.text role) → slice_get lines place ≡ Some text
     → TookText strict (reverse at.before) text at.after old new)
     → DidSome strict lines (place + 1) counts new
-step_did strict lines place counts roles role old new w h is l k did =
+step_did strict lines place counts roles role old new w h is k did =
     let left = left_at lines w.fed w.later place w.parts w.count k in
     let whole = w.parts ∙ ap (λ (x : List Numbered). w.fed ++ x) left.is in
     let parts = split_texts lines w.fed left.rest left.line whole in
@@ -148,17 +149,17 @@ step_did strict lines place counts roles role old new w h is l k did =
       after = texts_of left.rest;
       parts = parts;
       count = length-map w.fed (λ (x : Numbered). x.text) ∙ w.count;
-      has = role_here lines w.fed left.rest left.line place roles role parts w.count h is l;
+      has = role_here lines w.fed left.rest left.line place roles role parts w.count h is;
     }) (subst (λ (x : List Numbered). slice_get x place ≡ Some left.line) (sym whole)
     (number_there w.fed left.rest left.line place w.count)))
 
 -- the writing ended at it
 pub step_ends : (strict : Bool) (lines : List Numbered) (place : ℕ) (counts : Counts) (roles : List Role) (role : Role) (old : Ordering) (fault : Fault)
-    → DidSome strict lines place counts old → AreRoles [] (texts_of lines) roles → role ≡ get_or roles place role → place < length roles → place < length lines
+    → DidSome strict lines place counts old → AreRoles (texts_of lines) roles → role ≡ get_or roles place Alone → place < length lines
     → ((text : Numbered) (at : IsRoleAt (texts_of lines) place text.text role) → slice_get lines place ≡ Some text
     → EndsText strict (reverse at.before) text at.after old fault)
     → EndsAll strict lines fault
-step_ends strict lines place counts roles role old fault w h is l k ends =
+step_ends strict lines place counts roles role old fault w h is k ends =
     let left = left_at lines w.fed w.later place w.parts w.count k in
     let whole = w.parts ∙ ap (λ (x : List Numbered). w.fed ++ x) left.is in
     let parts = split_texts lines w.fed left.rest left.line whole in
@@ -167,7 +168,7 @@ step_ends strict lines place counts roles role old fault w h is l k ends =
       after = texts_of left.rest;
       parts = parts;
       count = length-map w.fed (λ (x : Numbered). x.text) ∙ w.count;
-      has = role_here lines w.fed left.rest left.line place roles role parts w.count h is l;
+      has = role_here lines w.fed left.rest left.line place roles role parts w.count h is;
     }) (subst (λ (x : List Numbered). slice_get x place ≡ Some left.line) (sym whole)
     (number_there w.fed left.rest left.line place w.count)))
 

@@ -12,7 +12,7 @@ pub mod OneWay
 pub mod OwnCalls
 pub mod Pairs
 pub mod Prefixes
-pub mod RoleLists
+pub mod RoleMaps
 pub mod StepFacts
 pub mod StepOrders
 pub mod TakenTexts

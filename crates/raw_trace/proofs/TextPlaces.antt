@@ -11,7 +11,6 @@ use Rattle.raw_trace.specs.declared.halves.Role.TheVariants.{Alone, First, Secon
 use Rattle.raw_logs.specs.Log.{Numbered, texts_of}
 use Rattle.raw_trace.specs.Places.{IsFirst, IsSecond, IsPaired}
 use Rattle.raw_trace.specs.Stages.{IsRole, AreRoles, IsRoleAt}
-use Rattle.raw_trace.proofs.RoleLists.{roles_at, roles_length}
 
 -- ---- halves within their texts
 
@@ -155,21 +154,14 @@ pub left_at : (lines fed later : List Numbered) (place : ℕ) → lines ≡ fed 
 left_at lines fed [] place e c l = let k = ap length e in let m = ap length (append-nil fed) in absurd (omega arith)
 left_at lines fed (line ∷ rest) place e c l = record { line = line; rest = rest; is = refl }
 
-pub get_other : (roles : List Role) (i : ℕ) (d e : Role) → i < length roles → get_or roles i d ≡ get_or roles i e
-get_other [] i d e l = absurd (omega arith)
-get_other (r ∷ roles) zero d e l = refl
-get_other (r ∷ roles) (suc i) d e l = get_other roles i d e (omega arith)
-
 -- the role of a line, behind those before it
 pub role_here : (lines fed rest : List Numbered) (line : Numbered) (place : ℕ) (roles : List Role) (role : Role)
     → texts_of lines ≡ texts_of fed ++ (line.text ∷ texts_of rest)
-    → length fed ≡ place → AreRoles [] (texts_of lines) roles → role ≡ get_or roles place role → place < length roles
-    → IsRole (texts_of fed) line.text (texts_of rest) role
-role_here lines fed rest line place roles role parts c h is l =
+    → length fed ≡ place → AreRoles (texts_of lines) roles → role ≡ get_or roles place Alone → IsRole (texts_of fed) line.text (texts_of rest) role
+role_here lines fed rest line place roles role parts c h is =
     let many : length (texts_of fed) ≡ place = length-map fed (λ (x : Numbered). x.text) ∙ c in
-    let same : get_or roles (length (texts_of fed)) Alone ≡ role = ap (λ (x : ℕ). get_or roles x Alone) many ∙ get_other roles place Alone role l ∙ sym is in
-    subst (λ (x : Role). IsRole (texts_of fed) line.text (texts_of rest) x) same
-    (roles_at [] (texts_of lines) roles h (texts_of fed) line.text (texts_of rest) parts)
+    subst (λ (x : Role). IsRole (texts_of fed) line.text (texts_of rest) x) (ap (λ (x : ℕ). get_or roles x Alone) many ∙ sym is)
+    (h.at (texts_of fed) line.text (texts_of rest) parts)
 
 pub split_texts : (lines fed rest : List Numbered) (line : Numbered) → lines ≡ fed ++ (line ∷ rest)
     → texts_of lines ≡ texts_of fed ++ (line.text ∷ texts_of rest)
@@ -186,11 +178,3 @@ number_there (x ∷ fed) rest line (suc place) e = number_there fed rest line pl
 pub none_later : (lines fed later : List Numbered) (place : ℕ) → lines ≡ fed ++ later → length fed ≡ place → length lines ≤ place → later ≡ []
 none_later lines fed [] place e c l = refl
 none_later lines fed (x ∷ later) place e c l = let k = ap length e in let m = length-append fed (x ∷ later) in absurd (omega arith)
-
--- there are as many roles as lines
-pub roles_many : (lines : List Numbered) (roles : List Role) → AreRoles [] (texts_of lines) roles → length roles ≡ length lines
-roles_many lines roles h = roles_length [] (texts_of lines) roles h ∙ length-map lines (λ (x : Numbered). x.text)
-
--- the role at an index, whatever stands for a missing one
-pub get_self : (roles : List Role) (i j : ℕ) (d : Role) → i ≡ j → j < length roles → get_or roles j d ≡ get_or roles i (get_or roles j d)
-get_self roles i j d e l = get_other roles j d (get_or roles j d) l ∙ ap (λ (x : ℕ). get_or roles x (get_or roles j d)) (sym e)

@@ -3,4 +3,5 @@ pub mod Places
 pub mod Rewriting
 pub mod Laws
 pub mod Faults
+pub mod Roles
 pub mod Stages

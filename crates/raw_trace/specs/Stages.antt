@@ -1,6 +1,6 @@
 -- What the private functions of this crate say of what they hold: what is found of halves, lines in their order, and
 -- what was written. It ties the code to the other definitions, which speak of texts and of entries.
-use Rattle.std.specs.Prelude.{◌≡◌, ◌⊎◌, ◌↔◌, ℕ, List, [], ◌∷◌, ◌++◌, length, map, take, drop, reverse, Option, Some, None, Bool, slice_get}
+use Rattle.std.specs.Prelude.{◌≡◌, ◌⊎◌, ◌↔◌, ℕ, List, [], ◌∷◌, ◌++◌, length, map, take, drop, reverse, Option, Some, None, Bool, get_or, slice_get}
 use Rattle.std.specs.BTreeMap.{get}
 use Rattle.std.specs.Ordering.{nat_cmp}
 use Rattle.strace_reader.specs.Grammar.{Spells}
@@ -35,11 +35,11 @@ IsRole fed text later (Second other to behind name) = (first : List ℕ) × (pro
     × Spells first (Unfinished process name from to) × Spells text (Resumed process name behind)
     × IsSecond (reverse fed) text name (take to first ++ drop behind text)
 
--- each text has its role
-pub data AreRoles : List (List ℕ) → List (List ℕ) → List Role → Type 0 where
-  all_roles : {fed : List (List ℕ)} → AreRoles fed [] []
-  a_role : {fed later : List (List ℕ)} {text : List ℕ} {role : Role} {roles : List Role} → IsRole fed text later role →
-      AreRoles (fed ++ (text ∷ [])) later roles → AreRoles fed (text ∷ later) (role ∷ roles)
+-- each text has its role, at its place
+pub record AreRoles (log : List (List ℕ)) (roles : List Role) : Type 0 where
+  pub count : length roles ≡ length log
+  pub at : (before : List (List ℕ)) (text : List ℕ) (after : List (List ℕ)) → log ≡ before ++ (text ∷ after)
+      → IsRole before text after (get_or roles (length before) Alone)
 
 -- the text at this place of the log is this one, and has this role
 pub record IsRoleAt (log : List (List ℕ)) (place : ℕ) (text : List ℕ) (role : Role) : Type 0 where
@@ -62,14 +62,12 @@ pub record IsWaiting (log : List (List ℕ)) (process : ℕ) (waiting : Waiting)
 
 -- these texts were looked at: what each is among them, and which first halves wait
 pub record Finds (finder : Finder) (log : List (List ℕ)) : Type 0 where
-  pub roles : AreRoles [] log finder.roles.items
-  pub count : length finder.roles.items ≡ length log
+  pub roles : AreRoles log finder.roles
   pub waits : (process : ℕ) (waiting : Waiting) → get nat_cmp finder.waiting process ≡ Some waiting ↔ IsWaiting log process waiting
 
 -- the texts before a further one were looked at: what it is among them, and which first halves wait behind it
 pub record FindsRole (finder : Finder) (log : List (List ℕ)) (text : List ℕ) (role : Role) : Type 0 where
-  pub roles : AreRoles [] (log ++ (text ∷ [])) (finder.roles.items ++ (role ∷ []))
-  pub count : length finder.roles.items ≡ length log
+  pub roles : AreRoles (log ++ (text ∷ [])) (finder.roles ++ (role ∷ []))
   pub waits : (process : ℕ) (waiting : Waiting) → get nat_cmp finder.waiting process ≡ Some waiting ↔ IsWaiting (log ++ (text ∷ [])) process waiting
 
 -- ---- lines in their order

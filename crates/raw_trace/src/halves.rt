@@ -2,7 +2,7 @@
 //! half of that process, and a line of it that is refused, ends the waiting. `IsFirst` and `IsSecond` in
 //! `specs/Places.antt` say it of the texts before and behind.
 
-ghost use Rattle.std.specs.Prelude.{◌≡◌, ◌≤◌, ◌<◌, ◌^◌, ℕ, [], length, IfOk};
+ghost use Rattle.std.specs.Prelude.{◌≡◌, ◌≤◌, ◌<◌, ◌-◌, ◌^◌, ℕ, [], length, IfOk};
 ghost use Rattle.std.specs.Prelude.{◌≢◌, ◌⊎◌, ◌+◌, ◌++◌, ◌∷◌, List, Some, None, OnOk, slice_set};
 ghost use Rattle.std.specs.BTreeMap.{get};
 ghost use Rattle.std.specs.Ordering.{nat_cmp};
@@ -10,6 +10,7 @@ ghost use Rattle.raw_trace.specs.Stages.{AreRoles};
 ghost use Rattle.raw_logs.specs.Log.{texts_of};
 ghost use Rattle.raw_logs.specs.Stages.{AreShort};
 
+use crate::roles::Roles;
 use raw_logs::Lines;
 use std::alloc::{AllocError, Global};
 use std::collections::BTreeMap;
@@ -58,7 +59,7 @@ struct Finder {
     /// The first half that waits, by process.
     waiting: BTreeMap<u32, Waiting>,
     /// What each text so far is to its other half.
-    roles: Vec<Role>,
+    roles: Roles,
 }
 
 impl Finder {
@@ -79,39 +80,40 @@ impl Finder {
     }
 
     /// What a second half at this place is, and what its first half is then.
-    fn resume(&mut self, pid: u32, name: Name, place: u32, behind: u32) -> Role
-        requires { (first : WaitingOf) → get nat_cmp self.old.waiting pid ≡ Some first → first.place < length self.old.roles.items }
-        ensures found { (((first : WaitingOf) → get nat_cmp self.old.waiting pid ≡ Some first → first.name ≢ name)
-            × (result ≡ Alone) × (self.new.roles.items ≡ self.old.roles.items))
+    fn resume(&mut self, pid: u32, name: Name, place: u32, behind: u32) -> Result<Role, AllocError>
+        requires { (first : WaitingOf) → get nat_cmp self.old.waiting pid ≡ Some first → first.place < length self.old.roles }
+        ensures found { IfOk result (λ role. (((first : WaitingOf) → get nat_cmp self.old.waiting pid ≡ Some first → first.name ≢ name)
+            × (role ≡ Alone) × (self.new.roles ≡ self.old.roles))
             ⊎ ((first : WaitingOf) × (get nat_cmp self.old.waiting pid ≡ Some first) × (first.name ≡ name)
-            × (result ≡ Second first.place first.to behind name)
-            × (self.new.roles.items ≡ slice_set self.old.roles.items first.place (First place first.to behind name))) }
-        ensures gone { get nat_cmp self.new.waiting pid ≡ None }
-        ensures others { (q : ℕ) → q ≢ pid → get nat_cmp self.new.waiting q ≡ get nat_cmp self.old.waiting q }
+            × (role ≡ Second first.place first.to behind name)
+            × (self.new.roles ≡ slice_set self.old.roles first.place (First place first.to behind name)))) }
+        ensures gone { OnOk result (get nat_cmp self.new.waiting pid ≡ None) }
+        ensures others { OnOk result ((q : ℕ) → q ≢ pid → get nat_cmp self.new.waiting q ≡ get nat_cmp self.old.waiting q) }
     {
         let Some(first) = self.waiting.remove(&pid) else {
-            return Role::Alone;
+            return Ok(Role::Alone);
         };
         if first.name != name {
-            return Role::Alone;
+            return Ok(Role::Alone);
         }
         let Waiting {
             place: other,
             to,
             ..
         } = first;
-        self.roles[other as usize] = Role::First {
+        let half = Role::First {
             other: place,
             to,
             behind,
             name,
         };
-        Role::Second {
+        self.roles.set(other, half)?;
+        Ok(Role::Second {
             other,
             to,
             behind,
             name,
-        }
+        })
     }
 
     /// No first half of the process waits from here on.
@@ -126,7 +128,7 @@ impl Finder {
     /// What the next text is, which stands at this place, and what waits behind it.
     fn role_of(&mut self, text: &[u8], place: u32) -> Result<Role, AllocError>
         requires short { length text.now ≤ 65535 }
-        requires place { place ≡ length self.old.roles.items }
+        requires place { place ≡ length self.old.roles }
         requires known { (before : List (List ℕ)) × Finds self.old before }
         ensures { IfOk result (λ role. (before : List (List ℕ)) → Finds self.old before → FindsRole self.new before text.now role) }
     {
@@ -141,7 +143,10 @@ impl Finder {
                 self.wait(pid, Waiting { place, to, name })?;
                 Ok(Role::Alone)
             }
-            Ok(Item::Resumed { pid, name, from }) => Ok(self.resume(pid, name, place, from)),
+            Ok(Item::Resumed { pid, name, from }) => {
+                let role = self.resume(pid, name, place, from)?;
+                Ok(role)
+            }
             Err(_) => {
                 let (pid, _) = cut(text);
                 self.forget(pid);
@@ -153,26 +158,27 @@ impl Finder {
     /// Takes the next text, which stands at this place.
     fn take(&mut self, text: &[u8], place: u32) -> Result<(), AllocError>
         requires short { length text.now ≤ 65535 }
-        requires place { place ≡ length self.old.roles.items }
+        requires place { place ≡ length self.old.roles }
+        requires few { place < 2 ^ 32 - 1 }
         requires known { (before : List (List ℕ)) × Finds self.old before }
         ensures finds { OnOk result ((before : List (List ℕ)) → Finds self.old before → Finds self.new (before ++ (text.now ∷ []))) }
-        ensures one { OnOk result (length self.new.roles.items ≡ length self.old.roles.items + 1) }
+        ensures one { OnOk result (length self.new.roles ≡ length self.old.roles + 1) }
     {
         let role = self.role_of(text, place)?;
-        self.roles.push(role)?;
+        self.roles.push(place, role)?;
         Ok(())
     }
 }
 
 /// What each text is to its other half.
-pub(crate) fn roles_of(alloc: Global, lines: &Lines) -> Result<Vec<Role>, AllocError>
+pub(crate) fn roles_of(alloc: Global, lines: &Lines) -> Result<Roles, AllocError>
     requires few { length lines.now < 2 ^ 32 }
     requires short { AreShort lines.now }
-    ensures { IfOk result (λ roles. AreRoles [] (texts_of lines.now) roles.items) }
+    ensures { IfOk result (λ roles. AreRoles (texts_of lines.now) roles) }
 {
     let mut finder = Finder {
         waiting: BTreeMap::new(alloc),
-        roles: Vec::new(alloc),
+        roles: Roles::new(alloc),
     };
     'lines: for place in 0..lines.len() {
         let (_, text) = lines.at(place);

@@ -9,6 +9,7 @@ mod halves;
 mod laws;
 mod order;
 mod rewriting;
+mod roles;
 mod settling;
 mod writing;
 

@@ -16,6 +16,7 @@ use crate::calls::{ReadCall, call_of};
 use crate::fault::{Cause, Fault, Trouble};
 use crate::halves::Role;
 use crate::order::{Ordering, Piece};
+use crate::roles::Roles;
 use crate::settling::{Ending, cause_of, joined, settle};
 use raw_lines::changes_space;
 use raw_logs::{Counts, LINE_LIMIT, Lines, Sort};
@@ -303,12 +304,12 @@ fn take_text(
 pub(crate) fn write_lines(
     alloc: Global,
     lines: &Lines,
-    roles: &[Role],
+    roles: &Roles,
     counts: Counts,
     strict: bool,
 ) -> Result<Written, Fault>
     requires few { length lines.now < 2 ^ 32 - 1 }
-    requires roles { AreRoles [] (texts_of lines.now) roles.now }
+    requires roles { AreRoles (texts_of lines.now) roles.now }
     ensures wrote { IfOk result (WroteAll strict lines.now counts) }
     ensures fault { IfErr result (EndsAll strict lines.now) }
 {
@@ -320,10 +321,9 @@ pub(crate) fn write_lines(
             calls: 0,
         },
     };
-    let mut place = 0;
-    'places: for role in roles {
-        take_text(&mut ordering, alloc, lines, place, *role, strict)?;
-        place += 1;
+    'places: for place in 0..lines.len() {
+        let role = roles.at(place as u32);
+        take_text(&mut ordering, alloc, lines, place, role, strict)?;
     }
     Ok(ordering.written)
 }

@@ -11,7 +11,7 @@ use Rattle.raw_trace.proofs.halves.roles_of.Goals as goal
 -- nothing was looked at
 pub lines-init : goal.lines-init
 lines-init c =
-    let vec = c.new-2.ensures.items in
+    let vec = c.new-2.ensures in
     (finds_none _ vec (λ q. ap (λ (es : List (ℕ × Waiting)). lookup (is_at (nat_cmp q)) es) c.new.ensures.empty), ap (λ x. length x) vec)
 
 -- a text more was looked at
@@ -24,3 +24,7 @@ lines-preserved c =
           (texts_more c.args.lines.now c.lines.place (line_of c.at.result.0 c.at.result.1.now) (omega arith) c.at.ensures),
       omega arith,
     )
+
+-- there are few texts
+pub take-requires-clause-few : goal.take-requires-clause-few
+take-requires-clause-few c = omega (arith, c.requires.few, c.lines-test.true, c.len-place-end.ensures)

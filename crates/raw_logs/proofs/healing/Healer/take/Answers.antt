@@ -1,18 +1,18 @@
-use Rattle.std.proofs.Common.{◌⊎◌, ℕ, List, refl, inl, inr, rules}
+use Rattle.std.proofs.Common.{◌⊎◌, ℕ, List, refl, sym, ◌∙◌, inl, inr, rules}
 use Rattle.raw_lines.specs.Marks.{IsMessage, IsStackLine, IsUnread, IsBroken}
 use Rattle.raw_logs.proofs.Decided.{is_so, is_not}
-use Rattle.raw_logs.proofs.HealedLines.{takes_message, takes_stack, takes_broken, takes_blank, takes_line, unread_filled}
+use Rattle.raw_logs.proofs.HealedLines.{takes_message, takes_stack, takes_broken, takes_gap, takes_line, unread_filled}
 use Rattle.raw_logs.proofs.healing.Healer.take.Goals as goal
 
 -- a message
 pub returns-then-is_message-clause-takes : goal.returns-then-is_message-clause-takes
 returns-then-is_message-clause-takes c = λ before t n.
-    takes_message c.args.self.now _ before _ t (is_so c.is_message.result c.is_message.ensures c.if-is_message.true) refl refl c.add.ensures
+    takes_message c.args.self.now _ before _ c.args.text.now t n (is_so c.is_message.result c.is_message.ensures c.if-is_message.true) refl refl c.add.ensures
 
 -- a line of a stack
 pub returns-then-is_stack_line-clause-takes : goal.returns-then-is_stack_line-clause-takes
 returns-then-is_stack_line-clause-takes c = λ before t n.
-    takes_stack c.args.self.now _ before _ t (is_not c.is_message.result c.is_message.ensures c.if-is_message.false)
+    takes_stack c.args.self.now _ before _ c.args.text.now t n (is_not c.is_message.result c.is_message.ensures c.if-is_message.false)
     (is_so c.is_stack_line.result c.is_stack_line.ensures c.if-is_stack_line.true) refl refl c.add-then-is_stack_line.ensures
 
 -- a line with the mark
@@ -39,7 +39,7 @@ returns-then-is_blank-clause-takes c = λ before t n.
     let a : ¬ IsMessage c.args.text.now = is_not c.is_message.result c.is_message.ensures c.if-is_message.false in
     let b : ¬ IsStackLine c.args.text.now = is_not c.is_stack_line.result c.is_stack_line.ensures c.if-is_stack_line.false in
     let none : (front : List ℕ) → ¬ IsBroken c.args.text.now front = search rules in
-    takes_blank c.args.self.now before c.args.text.now t a b none (is_so c.is_blank.result c.is_blank.ensures c.if-is_blank.true)
+    takes_gap c.args.self.now before _ c.args.text.now t n a b none (sym c.is_blank.ensures ∙ c.if-is_blank.true)
 
 -- every other line
 pub returns-clause-takes : goal.returns-clause-takes
@@ -48,5 +48,5 @@ returns-clause-takes c = λ before t n.
     let b : ¬ IsStackLine c.args.text.now = is_not c.is_stack_line.result c.is_stack_line.ensures c.if-is_stack_line.false in
     let none : (front : List ℕ) → ¬ IsBroken c.args.text.now front = search rules in
     let d : IsUnread c.args.text.now ⊎ ((front : List ℕ) → ¬ IsBroken c.args.text.now front) = inr none in
-    takes_line c.args.self.now _ before _ c.args.text.now t n a b d (is_not c.is_blank.result c.is_blank.ensures c.if-is_blank.false)
+    takes_line c.args.self.now _ before _ c.args.text.now t n a b d (sym c.is_blank.ensures ∙ c.if-is_blank.false)
     c.in_ok-keep-2.ensures.made c.in_ok-keep-2.ensures.none c.in_ok-keep-2.ensures.counts

@@ -32,11 +32,11 @@ pub resume-requires : goal.resume-requires
 resume-requires c = λ first e. waits_within c.args.self.now c.requires.known.0 _ first c.requires.known.1 e
 
 -- a second half
-pub returns-in-Ok-Resumed : goal.returns-in-Ok-Resumed
-returns-in-Ok-Resumed c = λ before f.
-    role_resumed c.args.self.now c.resume.new.self before c.args.text.now _ c.args.place _ _ c.resume.result f c.requires.place
-    (subst (Spells c.args.text.now) c.in-Ok-Resumed.field-0-is c.in-Ok-Resumed.ensures.found)
-    c.resume.ensures.found c.resume.ensures.gone c.resume.ensures.others
+pub returns-in_ok-role-in-Ok-Resumed : goal.returns-in_ok-role-in-Ok-Resumed
+returns-in_ok-role-in-Ok-Resumed c = λ before f.
+    let resume = c.in_ok-role-in-Ok-Resumed.ensures in
+    role_resumed c.args.self.now c.resume.new.self before c.args.text.now _ c.args.place _ _ c.in_ok-role-in-Ok-Resumed.role f c.requires.place
+    (subst (Spells c.args.text.now) c.in-Ok-Resumed.field-0-is c.in-Ok-Resumed.ensures.found) resume.found resume.gone resume.others
 
 -- a refused line
 pub returns-in-Err : goal.returns-in-Err
