@@ -1,17 +1,18 @@
 //! What a page fault costs: by one caller that nobody hinders, beside a lookup of the page in a `BTreeMap` of areas
 //! under an `RwLock` of std in the same run, and by callers on threads that fault on the same four pages. And what a
 //! map, an unmap and a protect under everything cost, beside the same change of a `BTreeMap` under a `Mutex`. And what
-//! protects over one area and faults cost that callers make on areas of their own, beside the same on a map. Each
-//! figure is the least of many rounds, so that other work on the machine counts little. Beside that of a fault is that
-//! of the first round.
+//! protects over one area and faults cost that callers make on areas of their own, also in regions, beside the same on
+//! maps. Each figure is the least of many rounds, so that other work on the machine counts little. Beside that of a
+//! fault is that of the first round.
 use crate::alone::{least_of_lookups, times_of_faults};
 use crate::changes::{Sums, least_of_clock, least_of_map, least_of_space};
 use crate::crowd::times_of_crowd;
 use crate::plans::least_of_plans;
-use crate::protects::{least_of_map_own, least_of_own, own_areas};
+use crate::protects::{BLOCK_BITS, least_of_map_kept, least_of_map_own, least_of_own, own_areas};
 use crate::size::{Size, percent};
 use crate::starts::{single_pages, space_of, spaced_areas};
 use anyhow::{Result, bail, ensure};
+use list_cuts::Cut;
 use page_types::PAGE;
 use space_model::PlainSpace;
 use std::alloc::Global;
@@ -115,7 +116,9 @@ fn measure_crowds<R: Threads + Wait + Sync + Clock + Eprint>(
     Ok(())
 }
 
-/// Protects and ten times as many faults of callers on threads, each on an area of its own, and the same on a map.
+/// Protects and ten times as many faults of callers on threads, each on an area of its own: on the space with one list
+/// and with a list for each of seven regions, in small blocks, and on a map that numbers and keeps the calls and one
+/// that doesn't.
 fn measure_own<R: Threads + Wait + Sync + Clock + Eprint>(
     rt: &R,
     alloc: Global,
@@ -124,13 +127,26 @@ fn measure_own<R: Threads + Wait + Sync + Clock + Eprint>(
     let list = own_areas(alloc)?;
     let start = space_of(alloc, &list)?;
     let map = RwLock::new(map_of(alloc, &list)?);
-    let space = least_of_own(rt, size, alloc, &start)?;
+    let Ok(cut) = Cut::of(7, BLOCK_BITS) else {
+        bail!("no cut");
+    };
+    let space = least_of_own(rt, size, alloc, Cut::one(), &start)?;
+    let kept = least_of_map_kept(rt, size, alloc, &list)?;
     let locked = least_of_map_own(rt, size, &map)?;
     eprintln!(rt;
-        "4 callers on areas of their own: a protect and ten faults of each take {} ns, {} percent of the same with a BTreeMap under an RwLock ({} ns)",
+        "4 callers on areas of their own: a protect and ten faults of each take {} ns, {} percent of a map with entries ({} ns), {} of one without ({} ns)",
         size.each(space),
+        percent(space, kept),
+        size.each(kept),
         percent(space, locked),
         size.each(locked)
+    )?;
+    let regions = least_of_own(rt, size, alloc, cut, &start)?;
+    eprintln!(rt;
+        "4 callers on areas of their own, in 7 regions: a protect and ten faults of each take {} ns, {} percent of that with one list ({} ns)",
+        size.each(regions),
+        percent(regions, space),
+        size.each(space)
     )?;
     Ok(())
 }

@@ -7,8 +7,9 @@
 //! calls of `load` and `pager` a round, the word `areas` as many on 300 to 600 areas. The word `faults` measures single
 //! faults, changes and plans, `rows` changes and plans over 4000 rows, and `history` how long `legal` takes to judge as
 //! many entries. The word `tables` measures faults and unmaps over as many rows as there may be, `openings` what
-//! opening and closing a space takes, and `hold` is a run whose memory is looked at from outside. Without a word each
-//! is measured with a few thousand calls.
+//! opening and closing a space takes, and `hold` is a run whose memory is looked at from outside. The words `load` and
+//! `pager` play that workload once on the space, on one thread, for who counts instructions. Without a word each is
+//! measured with a few thousand calls.
 #![tactic(auto)]
 
 ghost use Rattle.std.specs.Prelude.{◌≤◌};
@@ -35,7 +36,7 @@ use faults::{measure_faults, measure_rows};
 use history::measure_history;
 use list_cuts::Cut;
 use openings::{hold_open, measure_openings};
-use rounds::{Times, least_in_regions, least_of_plain, times_of};
+use rounds::{Times, least_in_regions, least_of_plain, round_of_space, times_of};
 use size::{Size, percent};
 use std::alloc::Global;
 use std::env;
@@ -56,7 +57,11 @@ fn main(rt: HostRuntime) -> Result<()> {
         Some(word) if word.as_str() == "tables" => measure_tables(&rt, rt.alloc(), Size::TURNS),
         Some(word) if word.as_str() == "openings" => measure_openings(&rt, rt.alloc(), Size::TURNS),
         Some(word) if word.as_str() == "hold" => hold_open(&rt, rt.alloc()),
-        Some(_) => bail!("usage: space_cost [full|areas|faults|rows|history|tables|openings|hold]"),
+        Some(word) if word.as_str() == "load" => play_once(&rt, rt.alloc(), Workload::Load),
+        Some(word) if word.as_str() == "pager" => play_once(&rt, rt.alloc(), Workload::Pager),
+        Some(_) => bail!(
+            "usage: space_cost [full|areas|faults|rows|history|tables|openings|hold|load|pager]"
+        ),
         None => {
             measure_threads(&rt, rt.alloc(), Size::SMALL)?;
             measure_areas(&rt, rt.alloc(), Size::SMALL)?;
@@ -67,6 +72,22 @@ fn main(rt: HostRuntime) -> Result<()> {
             measure_openings(&rt, rt.alloc(), Size::FEW_TURNS)
         }
     }
+}
+
+/// A workload once on the space with one list, on one thread.
+fn play_once<R: Threads + Wait + Sync + Clock + Print>(
+    rt: &R,
+    alloc: Global,
+    workload: Workload,
+) -> Result<()> {
+    let played = round_of_space(rt, alloc, Cut::one(), workload, 1, Size::ONCE)?;
+    println!(rt;
+        "{}: played {} refused {}",
+        workload.name(),
+        played.calls,
+        played.refused
+    )?;
+    Ok(())
 }
 
 /// `load` and `pager` on 1, 2 and 4 threads, and each once more on the space with a list for each of seven regions.

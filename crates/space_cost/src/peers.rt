@@ -2,7 +2,7 @@
 //! entry is kept, in room that is taken and touched before the clock starts, as that of a space is.
 
 use crate::rounds::{Played, count_refused};
-use crate::watch::Watch;
+use crate::watch::{Watch, since};
 use anyhow::Result;
 use page_types::{Call, Reply};
 use space_model::{Entry, Under};
@@ -10,8 +10,8 @@ use std::alloc::{AllocError, Global};
 use std::sync::Wait;
 use std::thread;
 use std::thread::Threads;
-use std::time::Clock;
-use trace_threads::{Gate, Line};
+use std::time::{Clock, Instant};
+use trace_threads::{Gate, Line, OpenGate};
 use workloads::SharedAreas;
 
 /// In how many threads at most workers play.
@@ -101,7 +101,33 @@ fn play_workers<R: Threads + Wait + Sync, S: SharedAreas, G: Gate>(
     thread::for_each_mut(rt, workers, MOST_THREADS, &turn);
 }
 
-/// A round of these workers on a map of areas.
+/// What came of a round of that time.
+fn played_by(time: u64, workers: &[MapWorker]) -> Played {
+    let mut played = Played {
+        time,
+        calls: 0,
+        refused: 0,
+    };
+    for worker in workers {
+        played.calls = played.calls.saturating_add(worker.entries.len());
+        let refused = count_refused(worker.entries.as_slice());
+        played.refused = played.refused.saturating_add(refused);
+    }
+    played
+}
+
+/// A round of these workers on a map of areas, with the start and the end of their threads in its time.
+pub fn round_of_workers<R: Threads + Wait + Sync + Clock, S: SharedAreas>(
+    rt: &R,
+    areas: &S,
+    mut workers: Vec<MapWorker>,
+) -> Result<Played> {
+    let begin = Instant::now(rt)?;
+    play_workers(rt, areas, workers.as_mut_slice(), &OpenGate);
+    Ok(played_by(since(rt, &begin)?, workers.as_slice()))
+}
+
+/// A round of these workers on a map of areas, from the first call to the end of the last.
 pub fn round_of_map<R: Threads + Wait + Sync + Clock, S: SharedAreas>(
     rt: &R,
     areas: &S,
@@ -111,15 +137,5 @@ pub fn round_of_map<R: Threads + Wait + Sync + Clock, S: SharedAreas>(
 ) -> Result<Played> {
     let watch = Watch::new(rt, threads, calls)?;
     play_workers(rt, areas, workers.as_mut_slice(), &watch);
-    let mut played = Played {
-        time: watch.time(),
-        calls: 0,
-        refused: 0,
-    };
-    for worker in workers.as_slice() {
-        played.calls = played.calls.saturating_add(worker.entries.len());
-        let refused = count_refused(worker.entries.as_slice());
-        played.refused = played.refused.saturating_add(refused);
-    }
-    Ok(played)
+    Ok(played_by(watch.time(), workers.as_slice()))
 }

@@ -1,19 +1,22 @@
 //! Rounds in which four callers work beside each other, each on a thread and on an area of its own: at each turn a
 //! caller changes the protection of its whole area, which holds the area and a page on each side, and reads its pages
 //! ten times. Beside them the same work is done on a map of the areas under one `RwLock` of std, where a change holds
-//! the lock alone. A round's time has the start and the end of its threads in it.
+//! the lock alone: once as the space does it, where each call draws a number and keeps its entry, and once without
+//! either. A round's time has the start and the end of its threads in it.
 ghost use Rattle.std.specs.Prelude.{◌<◌, ◌≤◌, ◌^◌, length};
 ghost use Rattle.page_types.specs.Sets.{IsNamedProt};
 ghost use Rattle.crews.specs.Crews.{IsCrew};
 ghost use Rattle.space_cost.specs.Ready.{IsReady};
 
+use crate::peers::{map_workers, round_of_workers};
 use crate::size::Size;
 use crate::watch::since;
-use anyhow::{Result, bail};
+use anyhow::{Result, bail, ensure};
 use area_protect::protect;
 use area_rows::{Caller, Space};
 use bitflags::Flags;
-use crews::open_crew;
+use crews::open_cut_crew;
+use list_cuts::Cut;
 use page_fault::fault;
 use page_types::{Access, Call, Kind, PAGE, Prot, Reply};
 use space_model::{Area, PlainSpace};
@@ -22,7 +25,8 @@ use std::sync::{RwLock, Wait};
 use std::thread;
 use std::thread::Threads;
 use std::time::{Clock, Instant};
-use workloads::{AreaMap, NoRoom, answered, found};
+use trace_threads::Line;
+use workloads::{AreaMap, NoRoom, UnderRwLock, answered, found, map_of};
 
 /// How many callers work beside each other.
 const CALLERS: u32 = 4;
@@ -36,11 +40,14 @@ const READS: u64 = 10;
 /// How many calls of a caller a turn has.
 const CALLS: u32 = 11;
 
-/// The first page of the area of a caller.
+/// Of how many pages a small block is, as the exponent of a power of two: of twice as many as an area.
+pub const BLOCK_BITS: u32 = 3;
+
+/// The first page of the area of a caller. The area and a page on each side of it lie in one small block.
 fn first_page(caller: u32) -> u64
     ensures { result < 2 ^ 40 }
 {
-    16 + 2 * WIDE * u64::from(caller)
+    18 + 2 * WIDE * u64::from(caller)
 }
 
 /// An area for each caller, with gaps between them.
@@ -125,25 +132,85 @@ fn time_of_own<R: Threads + Wait + Sync + Clock>(
     rt: &R,
     size: Size,
     alloc: Global,
+    cut: Cut,
     start: &PlainSpace,
 ) -> Result<u64> {
     let calls = [u32::saturating_mul(size.calls, CALLS); CALLERS as usize];
-    let Ok((space, mut crew)) = open_crew(alloc, &calls, start) else {
+    let Ok((space, mut crew)) = open_cut_crew(alloc, &calls, cut, start) else {
         bail!("no memory for a space");
     };
     time_of_crew(rt, &space, crew.as_mut_slice(), size.calls)
 }
 
-/// The least that a round takes, over a space that starts with the callers' areas.
+/// The least that a round takes, over a space that starts with the callers' areas, with a list for each region of the
+/// cut.
 pub fn least_of_own<R: Threads + Wait + Sync + Clock>(
     rt: &R,
     size: Size,
     alloc: Global,
+    cut: Cut,
     start: &PlainSpace,
 ) -> Result<u64> {
     let mut least = u64::MAX;
     for _ in 0..size.rounds {
-        least = least.min(time_of_own(rt, size, alloc, start)?);
+        least = least.min(time_of_own(rt, size, alloc, cut, start)?);
+    }
+    Ok(least)
+}
+
+/// The calls of one caller, in so many turns.
+fn own_lines(alloc: Global, caller: u32, turns: u32) -> Result<Vec<Line>, AllocError> {
+    let lo = first_page(caller);
+    let mut lines = Vec::new(alloc);
+    for turn in 0..turns {
+        let change = Call::Protect {
+            addr: lo * PAGE,
+            len: WIDE * PAGE,
+            prot: prot_of(turn),
+        };
+        lines.push(Line {
+            line: 1,
+            call: change,
+        })?;
+        for i in 0..READS {
+            let read = Call::Fault {
+                addr: (lo + i % WIDE) * PAGE,
+                access: Access::Read,
+            };
+            lines.push(Line {
+                line: 1,
+                call: read,
+            })?;
+        }
+    }
+    Ok(lines)
+}
+
+/// The least that a round takes on a map of these areas on which each call draws a number and keeps its entry. It is
+/// refused where a page could not be read.
+pub fn least_of_map_kept<R: Threads + Wait + Sync + Clock>(
+    rt: &R,
+    size: Size,
+    alloc: Global,
+    list: &[Area],
+) -> Result<u64> {
+    let mut least = u64::MAX;
+    for _ in 0..size.rounds {
+        let mut lines = Vec::new(alloc);
+        for caller in 0..CALLERS {
+            lines.push(own_lines(alloc, caller, size.calls)?)?;
+        }
+        let workers = map_workers(alloc, lines)?;
+        let areas = UnderRwLock::new(map_of(alloc, list)?);
+        let played = round_of_workers(rt, &areas, workers)?;
+        ensure!(
+            played.refused == 0
+                && played.calls as u64 == u64::from(size.calls) * u64::from(CALLERS * CALLS),
+            "{} calls on a map, of which {} were refused",
+            played.calls,
+            played.refused
+        );
+        least = least.min(played.time);
     }
     Ok(least)
 }

@@ -53,7 +53,7 @@ pub fn count_refused(entries: &[Entry]) -> usize {
 }
 
 /// A round on the space that threads share, with a list for each region of the cut.
-fn round_of_space<R: Threads + Wait + Sync + Clock>(
+pub fn round_of_space<R: Threads + Wait + Sync + Clock>(
     rt: &R,
     alloc: Global,
     cut: Cut,

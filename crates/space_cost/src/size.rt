@@ -32,6 +32,9 @@ impl Size {
         calls: 1_048_576,
     };
 
+    /// How many calls are played where instructions are counted.
+    pub const ONCE: u32 = 16_384;
+
     /// Few turns of faults and changes.
     pub const FEW_TURNS: Size = Size {
         rounds: 2,

@@ -84,6 +84,11 @@ other_answer before l (Given e) after other is =
     )
 other_answer before l Spent after other is = is
 
+-- its entry
+pub other_entry : (before : CallerView) (l : Line) (e : Entry) (after : CallerView) → (IsProtect l.call → ⊥)
+    → IsAnswered before l.line l.call (Given e) after → IsPlayedAs before l e after
+other_entry before l e after other is = (other_answer before l (Given e) after other is).1
+
 area_of_protect : (A : List Area) (addr len : ℕ) (prot : Prot) (call : Call) (under : Under) → call ≡ Protect addr len prot
     → FitsUnder A call under → (plain_reply (Protect addr len prot) ≡ None
     → HoldsSomeArea under ↔ IsSimple A (Protect addr len prot))

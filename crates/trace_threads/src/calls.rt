@@ -35,7 +35,9 @@ pub(crate) fn make_call<R: Wait>(wait: &R, space: &Space, caller: &mut Caller, l
     }
 }
 
-/// A caller with a number left makes the call of a line, which then has an entry.
+/// A caller with a number left makes the call of a line, which then has an entry. The answer to a fault has a place of
+/// its own, so that an entry which nobody looks at is not written there.
+#[inline(always)]
 pub(crate) fn answer_line<R: Wait>(
     wait: &R,
     space: &Space,
@@ -48,6 +50,12 @@ pub(crate) fn answer_line<R: Wait>(
     requires named { IsNamedCall line.call }
     ensures played { IsPlayedAs caller.old line result caller.new }
 {
+    if let Call::Fault { .. } = line.call {
+        return match make_fault(space, wait, caller, line.line, line.call) {
+            Answer::Given(entry) => entry,
+            Answer::Spent => unreachable!(),
+        };
+    }
     match make_call(wait, space, caller, line) {
         Answer::Given(entry) => entry,
         Answer::Spent => unreachable!(),
