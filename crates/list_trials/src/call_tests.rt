@@ -33,6 +33,13 @@ const LINKS_BEHIND: Call = Call::QuickTake {
     mode: Mode::Writer,
 };
 
+/// The same with a range of three lists.
+const LINKS_WIDE: Call = Call::QuickTake {
+    lo: 0,
+    hi: 12_288,
+    mode: Mode::Writer,
+};
+
 /// A call that comes to what was asked for.
 fn made(which: Call) -> Move {
     Move::Call(which, Answer::Made)
@@ -442,14 +449,94 @@ fn lists_of_one_table_have_their_own_links_and_nodes(rt: HostRuntime) {
     play_on_new(&rt, rt.alloc(), 2, cut, &home_in_one);
 }
 
+/// What `range_rw` does with a narrow range, which is linked in list 1, and a wide one, which is linked in list 0: each
+/// hand looks at the other list behind its link, finds it not empty, sweeps it and links its range there too. The first
+/// that does so meets the other one and gives way; the other goes on, and at the end each has held its range.
 #[test]
-fn two_threads_hold_two_thousand_overlapping_ranges_each(rt: HostRuntime) {
-    let (most, _) = hold_by_two(&rt, rt.alloc(), 0);
-    assert_eq!(rt; most, 0);
+fn a_wide_and_a_narrow_hand_meet_in_both_lists(rt: HostRuntime) {
+    let cut = Cut::of(3, 12).expect(&rt, "a cut");
+    let narrow_gives_way = [
+        (0, Move::To(1)),
+        (0, made(LINKS)),
+        (1, made(LINKS_WIDE)),
+        (0, Move::To(0)),
+        (0, Move::Sees(35)),
+        (1, Move::To(1)),
+        (1, Move::Sees(3)),
+        (0, made(Call::Sweep)),
+        (0, Move::Sees(34)),
+        (0, lost(LINKS, 0, 0, 34)),
+        (0, made(Call::Begin)),
+        (0, meets(Call::Walk, 1, 0, 12_288, Mode::Writer)),
+        (0, made(Call::End)),
+        (0, Move::Ready(16)),
+        (0, Move::To(1)),
+        (0, made(Call::QuickGive)),
+        (1, made(Call::Sweep)),
+        (1, Move::Sees(0)),
+        (1, Move::To(2)),
+        (1, Move::Sees(0)),
+        (1, Move::To(3)),
+        (1, Move::Sees(0)),
+        (0, made(LINKS)),
+        (0, Move::To(0)),
+        (0, Move::Sees(34)),
+        (0, lost(LINKS, 0, 0, 34)),
+        (0, made(Call::Begin)),
+        (0, meets(Call::Walk, 1, 0, 12_288, Mode::Writer)),
+        (0, made(Call::End)),
+        (1, Move::To(0)),
+        (1, Move::Call(Call::QuickGive, Answer::NotAlone)),
+        (1, made(Call::Mark)),
+        (0, made(Call::Sweep)),
+        (0, Move::Sees(0)),
+        (0, Move::To(1)),
+        (0, made(Call::QuickGive)),
+    ];
+    play_on_new(&rt, rt.alloc(), 2, cut, &narrow_gives_way);
+    let wide_gives_way = [
+        (1, made(LINKS_WIDE)),
+        (0, Move::To(1)),
+        (0, made(LINKS)),
+        (1, Move::To(1)),
+        (1, Move::Sees(3)),
+        (0, Move::To(0)),
+        (0, Move::Sees(35)),
+        (1, made(Call::Sweep)),
+        (1, Move::Sees(2)),
+        (1, lost(LINKS_WIDE, 0, 0, 2)),
+        (1, made(Call::Begin)),
+        (1, meets(Call::Walk, 0, 0, 1, Mode::Writer)),
+        (1, made(Call::End)),
+        (1, Move::Ready(16)),
+        (1, Move::To(0)),
+        (1, made(Call::Mark)),
+        (0, Move::Sees(35)),
+        (0, made(Call::Sweep)),
+        (0, Move::Sees(0)),
+        (0, Move::To(1)),
+        (0, Move::Call(Call::QuickGive, Answer::NotAlone)),
+        (0, made(Call::Mark)),
+        (1, made(LINKS_WIDE)),
+        (1, Move::To(1)),
+        (1, Move::Sees(2)),
+        (1, made(Call::Sweep)),
+        (1, Move::Sees(0)),
+        (1, Move::To(2)),
+        (1, Move::Sees(0)),
+        (1, Move::To(3)),
+        (1, Move::Sees(0)),
+        (1, Move::To(0)),
+        (1, made(Call::QuickGive)),
+        (1, Move::Sees(0)),
+    ];
+    play_on_new(&rt, rt.alloc(), 2, cut, &wide_gives_way);
 }
 
 #[test]
-fn two_threads_hold_two_thousand_disjoint_ranges_each(rt: HostRuntime) {
+fn two_threads_hold_two_thousand_ranges_each(rt: HostRuntime) {
+    let (most, _) = hold_by_two(&rt, rt.alloc(), 0);
+    assert_eq!(rt; most, 0, "other owners, of ranges that overlap");
     let (_, met) = hold_by_two(&rt, rt.alloc(), 100);
-    assert_eq!(rt; met, 0);
+    assert_eq!(rt; met, 0, "conflicts, of ranges apart");
 }

@@ -5,8 +5,9 @@
 //! tries, on one thread and on four. The times are the least of many rounds, so that other work on the machine counts
 //! little. They go to standard error, since they differ from run to run; standard output says only that all turns were
 //! made. With the word `full` more is measured: the steps by themselves and the sets in as many rounds as the rest, and
-//! longer rounds of threads. The word `touches` measures first touches of pages, on the set of `page_touch` beside sets
-//! of std, and without a word a few thousand.
+//! longer rounds of threads. The word `waiters` measures who gets how many turns where one thread wants everything. The
+//! word `touches` measures first touches of pages, on the set of `page_touch` beside sets of std, and without a word a
+//! few thousand.
 #![tactic(auto)]
 
 ghost use Rattle.std.specs.Prelude.{◌<◌, ◌≤◌};
@@ -22,6 +23,7 @@ mod singles;
 mod touch_sets;
 mod touches;
 mod turns;
+mod waiters;
 mod watch;
 
 use anyhow::{Result, bail};
@@ -41,6 +43,7 @@ use std::thread::Threads;
 use std::time::Clock;
 use touches::{Size, measure_touches};
 use turns::TURNS;
+use waiters::{Turns, round_of_waiters};
 
 /// How many turns each thread has in a round.
 const CROWD_TURNS: u32 = 1_000;
@@ -48,13 +51,17 @@ const CROWD_TURNS: u32 = 1_000;
 /// The same in a round of a full measurement, in which the start of the threads counts little.
 const LONG_CROWD_TURNS: u32 = 20_000;
 
+/// How long a round of waiters takes, in nanoseconds.
+const WAITERS: u64 = 500_000_000;
+
 fn main(rt: HostRuntime) -> Result<()> {
     match env::args(&rt)?.nth(1) {
         Some(word) if word.as_str() == "full" => {
             measure_lock(&rt, rt.alloc(), ROUNDS, LONG_CROWD_TURNS)
         }
         Some(word) if word.as_str() == "touches" => measure_touches(&rt, rt.alloc(), Size::FULL),
-        Some(_) => bail!("usage: lock_cost [full|touches]"),
+        Some(word) if word.as_str() == "waiters" => measure_waiters(&rt, rt.alloc(), WAITERS),
+        Some(_) => bail!("usage: lock_cost [full|touches|waiters]"),
         None => {
             measure_lock(&rt, rt.alloc(), 1, CROWD_TURNS)?;
             measure_touches(&rt, rt.alloc(), Size::SMALL)
@@ -211,5 +218,42 @@ fn measure_crews<R: Threads + Wait + Sync + Clock + Eprint>(
         "4 threads with sets of {count} apart: {} ns for each set, {percent} percent of as many single tries ({} ns); refused {} and {} of 1000",
         sets.each, singles.each, sets.refused, singles.refused
     )?;
+    Ok(())
+}
+
+/// What a round of waiters came to: turns of so many nanoseconds.
+fn print_waiters<R: Eprint>(rt: &R, kind: &str, turns: &Turns, time: u64) -> Result<()> {
+    eprintln!(rt;
+        "{kind}: {} turns a second, longest wait {} us",
+        turns.made().saturating_mul(1_000_000_000) / time.max(1),
+        turns.longest()
+    )?;
+    Ok(())
+}
+
+/// Turns beside a reader that holds one number for long, in one list and in those of seven regions, without a writer
+/// that wants everything and with one. Each round takes so many nanoseconds.
+fn measure_waiters<R: Threads + Wait + Sync + Clock + Eprint>(
+    rt: &R,
+    alloc: Global,
+    time: u64,
+) -> Result<()> {
+    for (name, cut) in [
+        ("in one list", Cut::one()),
+        ("in 7 regions", seven_regions()),
+    ] {
+        for all in [false, true] {
+            let round = round_of_waiters(rt, alloc, cut, time, all)?;
+            eprintln!(rt; "waiters {name}, with a wide one: {all}")?;
+            print_waiters(
+                rt,
+                "a reader that holds a number for 1 ms",
+                &round.reader,
+                time,
+            )?;
+            print_waiters(rt, "a writer of everything", &round.wide, time)?;
+            print_waiters(rt, "two writers of a number each", &round.narrow, time)?;
+        }
+    }
     Ok(())
 }

@@ -4,7 +4,7 @@ ghost use Rattle.std.specs.Prelude.{◌≡◌, length, IsSome, None};
 ghost use Rattle.list_cuts.specs.Cut.{list_count};
 ghost use Rattle.range_rw.specs.Contract.{AreNewSeatsIn};
 
-use crate::holds::{hold, refuse};
+use crate::holds::{give, hold, refuse};
 use list_cuts::Cut;
 use lock_core::{FreeGuard, Mode, Range};
 use range_rw::{NotHeld, RangeTable, Scan, Scanned, Seat};
@@ -88,6 +88,54 @@ fn try_beside(rt: &impl Abort, alloc: Global, row: (Held, Held, bool)) {
     let (table, seats) = RangeTable::<FreeGuard>::open_cut(alloc, 2, cut, &[]).expect(rt, "memory");
     let (mut a, mut b) = both_in(&table, seats);
     try_both(rt, &table, &mut a, &mut b, row);
+}
+
+/// A refusal that names a writer's range.
+fn busy(owner: u32, range: Range) -> NotHeld {
+    NotHeld::Busy {
+        owner,
+        range,
+        mode: WRITES,
+    }
+}
+
+/// A wide seat and two narrow ones of one region, until each has held its range. The wide one is refused in the
+/// region's list, twice, and leaves marked nodes in list 0, which narrow ones sweep away; then it holds all, and a
+/// narrow one is refused in list 0.
+fn meet_in_both(
+    rt: &impl Abort,
+    table: &RangeTable<FreeGuard>,
+    wide: &mut Seat<FreeGuard>,
+    near: &mut Seat<FreeGuard>,
+    far: &mut Seat<FreeGuard>,
+)
+    requires wide { (wide.old.table ≡ table.now.table) × (wide.old.held ≡ None) }
+    requires near { (near.old.table ≡ table.now.table) × (near.old.held ≡ None) }
+    requires far { (far.old.table ≡ table.now.table) × (far.old.held ≡ None) }
+{
+    let all = Range::of(0, 2 * BLOCK).expect(rt, "a range");
+    let first = Range::of(5, 6).expect(rt, "a range");
+    let second = Range::of(7, 8).expect(rt, "a range");
+    hold(rt, table, near, first, WRITES);
+    refuse(rt, table, wide, all, WRITES, busy(1, first));
+    hold(rt, table, far, second, WRITES);
+    give(table, near);
+    refuse(rt, table, wide, all, WRITES, busy(2, second));
+    give(table, far);
+    hold(rt, table, wide, all, WRITES);
+    refuse(rt, table, near, first, WRITES, busy(0, all));
+    give(table, wide);
+    hold(rt, table, near, first, WRITES);
+}
+
+#[test]
+fn a_wide_and_two_narrow_seats_meet_in_both_lists(rt: HostRuntime) {
+    let cut = Cut::of(7, 16).expect(&rt, "a cut");
+    let (table, seats) = RangeTable::<FreeGuard>::open_cut(rt.alloc(), 3, cut, &[]).expect(
+        &rt, "memory",
+    );
+    let (mut wide, mut near, mut far) = three_in(&table, seats);
+    meet_in_both(&rt, &table, &mut wide, &mut near, &mut far);
 }
 
 /// What a scan gives at a node of that seat.
