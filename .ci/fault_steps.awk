@@ -1,4 +1,4 @@
-# Reads what objdump prints of the program of crates/fault_steps, and behind it valgrind's trace: the instructions that
+# Reads what objdump prints of the program of crates/bench_fault_steps, and behind it valgrind's trace: the instructions that
 # ran (I), and what each loaded (L), stored (S) or changed (M). An instruction that touches a word of the space's table is
 # a step. Counted are those that only load, those that objdump calls locked, and others, which there should be none of. A
 # program is loaded at the beginning of a page, so the last three digits of an instruction's address are the same in

@@ -1,4 +1,4 @@
-# Reads what objdump prints of .ci/steps.c, and behind it valgrind's trace of the instructions that ran. Each call of
+# Reads what objdump prints of tests/steps.c, and behind it valgrind's trace of the instructions that ran. Each call of
 # `mark` ends a try or a release; the locked instructions between two of them are counted, those of a try and of its
 # release on one line.
 function bare(address) { sub(/^0+/, "", address); sub(/[:,].*/, "", address); return address }

@@ -1,4 +1,4 @@
-# Gives the list .ci/refused_at anew, of three files: what rt printed, the list as it stands, and the names of the
+# Gives the list tests/refused_at anew, of three files: what rt printed, the list as it stands, and the names of the
 # edits. An edit that rt didn't name keeps its line, and so does one that was refused where the list says.
 
 # The function at this line of a source. An edit changes lines, and moves none.

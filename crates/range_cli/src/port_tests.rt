@@ -1,6 +1,6 @@
 //! Runs over ports that fail or that move single bytes: tables of what such a run says and leaves. What a test expects
 //! is worked by hand from docs/FORMATS.md. Inputs that are cut off, and inputs that pass a limit, the gate gives to the
-//! built program: `.ci/cuts` and `.ci/cases`.
+//! built program: `tests/cuts` and `tests/cases`.
 use crate::trial::{Status, ended};
 use byte_ports::{DripSink, DripSource, MemorySink, MemorySource, Sink, Source};
 use std::alloc::{AllocError, Global};
@@ -12,7 +12,8 @@ use std::thread::Threads;
 use strace_reader::What;
 use trace_threads::Gate;
 
-/// The lines of a program's start, with its maps before an empty line. `.ci/cuts` says what comes where it is cut off.
+/// The lines of a program's start, with its maps before an empty line. `tests/cuts` says what comes where it is cut
+/// off.
 const START: &str = "00400000-00401000 r-xp 00000000 08:01 131 /bin/true\n\
     7ffc10000000-7ffc10021000 rw-p 00000000 00:00 0 [stack]\n\
     ffffffffff600000-ffffffffff601000 --xp 00000000 00:00 0 [vsyscall]\n\

@@ -1,5 +1,5 @@
 //! A load by sixteen workers whose history is printed as a log and checked. A load has no log of its own, so this can't
-//! be a case of .ci/cases.
+//! be a case of tests/cases.
 use crate::run::run;
 use crate::status::Status;
 use byte_ports::{MemorySink, MemorySource};

@@ -1,0 +1,6 @@
+use Rattle.bench_space.specs.Ready.{IsReady}
+use Rattle.bench_space.proofs.alone.fault_turns.Given as goal
+
+-- after each fault the caller may make its next call
+abbrev pub invariant-loop-turn : goal.invariant-loop-turn
+invariant-loop-turn g l = IsReady l.space l.caller

@@ -1,6 +1,0 @@
-use Rattle.crews.specs.Crews.{IsCrew}
-use Rattle.fault_trials.proofs.map_tests.plays.Given as goal
-
--- after each case the callers are a crew
-abbrev pub invariant-loop-case : goal.invariant-loop-case
-invariant-loop-case g l = IsCrew l.space.table l.space.seats l.callers.items

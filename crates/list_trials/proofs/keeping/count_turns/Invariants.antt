@@ -1,6 +1,0 @@
-use Rattle.list_trials.specs.Trials.{IsSameHand}
-use Rattle.list_trials.proofs.keeping.count_turns.Given as goal
-
--- after each turn the hand is of the same list and number
-abbrev pub invariant-turns : goal.invariant-turns
-invariant-turns g l = IsSameHand l.initial.hand l.hand

@@ -1,5 +1,0 @@
-use Rattle.lock_cost.proofs.quick.quick_turns.Given as goal
-
--- the steps are counted under the name and parts of a new blank
-abbrev pub ghosts-turns_counting : goal.ghosts-turns_counting
-ghosts-turns_counting a = record { name = a.blank.name; parts = a.blank.parts }

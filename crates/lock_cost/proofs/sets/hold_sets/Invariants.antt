@@ -1,5 +1,0 @@
-use Rattle.lock_cost.proofs.sets.hold_sets.Given as goal
-
--- the ledger of the steps is that of the blank
-abbrev pub ghosts-set_turns : goal.ghosts-set_turns
-ghosts-set_turns a = record { name = a.blank.name; parts = a.blank.parts }

@@ -1,8 +1,0 @@
-use Rattle.lock_cost.specs.Measured.{AreIdle}
-use Rattle.lock_cost.proofs.singles.least_of_singles.Given as goal
-
--- between two rounds the seats hold nothing
-abbrev pub invariant-rounds : goal.invariant-rounds
-invariant-rounds g l = record {
-  idle : AreIdle l.table.table l.singles;
-}

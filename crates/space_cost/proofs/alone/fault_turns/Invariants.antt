@@ -1,6 +1,0 @@
-use Rattle.space_cost.specs.Ready.{IsReady}
-use Rattle.space_cost.proofs.alone.fault_turns.Given as goal
-
--- after each fault the caller may make its next call
-abbrev pub invariant-loop-turn : goal.invariant-loop-turn
-invariant-loop-turn g l = IsReady l.space l.caller

@@ -1,0 +1,26 @@
+use Rattle.std.proofs.Common.{◌*◌, rules}
+use Rattle.atomic_table.proofs.Lists.{at_index}
+use Rattle.range_rw.proofs.SeatLists.{seats_back, seats_each}
+use Rattle.test_lock.specs.Turns.{HasMade, HasVisited, mode_at}
+use Rattle.test_lock.proofs.SeatLists.{outside_after}
+use Rattle.test_lock.proofs.crowd.visit_all.Goals as goal
+
+-- each seat is of the table, holds nothing and is outside, and the table has the word
+pub for_each_mut-requires-clause-accepts : goal.for_each_mut-requires-clause-accepts
+for_each_mut-requires-clause-accepts g c = λ _ _ i p lt e. let at = at_index _ i p.now lt e in
+    let r = c.requires.idle.0 i p.now at in (r.0, r.2, c.requires.idle.1 i p.now at, c.requires.word)
+
+-- each seat is back and outside, has made its steps and its visits
+pub returns : goal.returns
+returns g c = record {
+  idle = (
+    seats_back c.args.table.now.table c.args.seats.now c.for_each_mut.new.s (search rules) c.requires.idle.0
+        (λ k d lt. let r = c.for_each_mut.ensures k d lt in (r.1.argument.now, r.1.after_call.now, r.1.argument_is, r.1.call.0, r.1.left)),
+    outside_after c.args.seats.now c.for_each_mut.new.s (search rules)
+        (λ k d lt. let r = c.for_each_mut.ensures k d lt in (r.1.after_call.now, r.1.call.3, r.1.left)),
+  );
+  made = seats_each (λ k. HasMade (2 * c.args.turns)) c.args.seats.now c.for_each_mut.new.s
+      (λ k d lt. let r = c.for_each_mut.ensures k d lt in (r.1.argument.now, r.1.after_call.now, r.1.argument_is, r.1.call.1, r.1.left));
+  visited = seats_each (λ k. HasVisited (mode_at k) c.args.turns) c.args.seats.now c.for_each_mut.new.s
+      (λ k d lt. let r = c.for_each_mut.ensures k d lt in (r.1.argument.now, r.1.after_call.now, r.1.argument_is, r.1.call.2, r.1.left));
+}

@@ -1,0 +1,119 @@
+//! Threads that move the boundaries of areas that touch, beside threads that fault on both sides. Whatever their order,
+//! the history is legal by the one-thread model, and each way that `protect` told is true of this history.
+use crate::claims::{closed_right, is_true, play};
+use crate::trials::{Trial, change_all};
+use crate::ways::Ways;
+use area_protect::Path;
+use page_types::{Call, Kind, Prot};
+use space_model::{Area, Entry, PlainSpace, have_named_kinds};
+use std::alloc::Global;
+use std::process::Abort;
+use std::sync::Wait;
+use std::test::Fail;
+use std::thread::Threads;
+use test_crews::open_crew;
+
+/// How many turns each caller takes.
+const TURNS: u32 = 500;
+
+/// How many ways there were of each kind.
+#[derive(Clone, Copy)]
+struct Counts {
+    over_areas: u64,
+    under_everything: u64,
+}
+
+fn area(lo: u64, hi: u64, prot: Prot) -> Area {
+    Area {
+        lo,
+        hi,
+        kind: Kind {
+            prot,
+            shared: false,
+            sealed: false,
+        },
+    }
+}
+
+/// The way of each change is true. A caller had seen the entries up to its last one when it made a call.
+fn ways_are_true(
+    rt: &impl Abort,
+    alloc: Global,
+    start: &PlainSpace,
+    entries: &[Entry],
+    ways: &Ways,
+) -> Result<Counts, Fail> {
+    let played = play(rt, alloc, start, entries)?;
+    let mut seen = [0u64; 16];
+    let mut counts = Counts {
+        over_areas: 0,
+        under_everything: 0,
+    };
+    for entry in entries {
+        let Some(last) = seen.get_mut(entry.worker as usize) else {
+            panic!(rt; "no such caller");
+        };
+        let seen_before = *last;
+        *last = u64::wrapping_add(entry.number, 1);
+        let Call::Protect { .. } = entry.call else {
+            continue;
+        };
+        let Some(path) = ways.of(entry.worker, u32::wrapping_sub(entry.line, 1)) else {
+            panic!(rt; "a way is missing");
+        };
+        assert!(rt; entry.call.is_named());
+        assert!(rt; is_true(alloc, &played, entry, seen_before, path)?);
+        match path {
+            Path::Area { .. } => counts.over_areas = u64::wrapping_add(counts.over_areas, 1),
+            Path::Whole(_) => {
+                counts.under_everything = u64::wrapping_add(counts.under_everything, 1)
+            }
+            Path::Free => panic!(rt; "the arguments decide no call here"),
+        }
+    }
+    Ok(counts)
+}
+
+/// Four callers change protections and two fault; how many changes were over their areas, and how many under
+/// everything.
+fn runs<R: Abort + Threads + Wait + Sync>(
+    rt: &R,
+    alloc: Global,
+    trial: Trial,
+) -> Result<Counts, Fail> {
+    let areas = [
+        area(16, 20, Prot::READ),
+        area(20, 24, Prot::WRITE),
+        area(24, 28, Prot::READ),
+        area(28, 32, Prot::WRITE),
+        area(32, 36, Prot::READ),
+    ];
+    assert!(rt; have_named_kinds(&areas));
+    let start = PlainSpace::of_areas(alloc, &areas)?;
+    let Ok((space, mut callers)) = open_crew(alloc, &[TURNS; 6], &start) else {
+        panic!(rt; "no space");
+    };
+    let ways = Ways::open(alloc, 4, TURNS)?;
+    change_all(rt, &space, callers.as_mut_slice(), trial, TURNS, &ways);
+    let closed = closed_right(rt, alloc, space, callers, &start)?;
+    assert_eq!(rt; closed.entries().len(), 3000);
+    ways_are_true(rt, alloc, &start, closed.entries(), &ways)
+}
+
+#[test]
+fn boundaries_move_back_and_forth_over_areas_alone(rt: HostRuntime) -> Result<(), Fail> {
+    let counts = runs(&rt, rt.alloc(), Trial::Boundaries)?;
+    assert_eq!(rt; (counts.over_areas, counts.under_everything), (2000, 0));
+    Ok(())
+}
+
+#[test]
+fn splits_beside_moving_boundaries_have_true_causes(rt: HostRuntime) -> Result<(), Fail> {
+    let counts = runs(&rt, rt.alloc(), Trial::Splits)?;
+    assert!(rt; counts.under_everything >= 62);
+    assert_eq!(rt;
+        u64::wrapping_add(counts.over_areas, counts.under_everything),
+        2000
+    );
+    Ok(())
+}

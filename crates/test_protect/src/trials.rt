@@ -1,0 +1,135 @@
+//! All callers of a crew take their turns, each on a thread of its own: the first four change protections at the
+//! boundaries between their areas, and the others read.
+ghost use Rattle.std.specs.Prelude.{◌≡◌, ◌<◌, ◌+◌, ◌^◌, None};
+ghost use Rattle.page_types.specs.Named.{IsNamedCall};
+ghost use Rattle.page_types.specs.Sets.{IsNamedProt};
+ghost use Rattle.area_rows.specs.Called.{IsAnswered};
+ghost use Rattle.test_crews.specs.Crews.{HasCalled, HaveCalled, IsCrew, IsIdleAgain};
+
+use crate::ways::Ways;
+use area_protect::{Protected, make_protect};
+use area_rows::{Answer, Caller, Space};
+use page_types::{Access, Call, PAGE, Prot};
+use std::sync::Wait;
+use std::thread;
+use std::thread::Threads;
+use test_crews::make_call;
+
+/// The first page that is worked on.
+const FIRST: u64 = 16;
+
+/// How many pages each of the areas has at the start.
+const WIDE: u64 = 4;
+
+/// How many callers of a crew change protections; the others fault.
+const CHANGING: u32 = 4;
+
+/// What the callers of a crew do that change protections.
+#[derive(Clone, Copy, Debug, PartialEq, Eq)]
+pub enum Trial {
+    /// Each moves the boundary between its area and the next one back and forth.
+    Boundaries,
+    /// The same, but at each eighth turn the last of them gives a page in the middle of its area another protection, or
+    /// its old one, which holds everything.
+    Splits,
+}
+
+/// The protection of the areas, one and the other in turn.
+fn prot_of(one: bool) -> Prot
+    ensures { IsNamedProt result }
+{
+    if one { Prot::READ } else { Prot::WRITE }
+}
+
+/// A change of the protection of one page.
+fn one_page(page: u64, prot: Prot) -> Call
+    requires page { page < 2 ^ 32 }
+    requires named { IsNamedProt prot }
+    ensures { IsNamedCall result }
+{
+    Call::Protect {
+        addr: page * PAGE,
+        len: PAGE,
+        prot,
+    }
+}
+
+/// The call of a caller's turn, both counted from 0: of one that changes protections the last page of its area, which
+/// goes to the next area and comes back, and of another a read of one of the areas' pages.
+pub fn call_of(trial: Trial, worker: u32, turn: u32) -> Call
+    ensures { IsNamedCall result }
+{
+    if worker >= CHANGING {
+        let page = FIRST + u64::from(turn) % (5 * WIDE);
+        return Call::Fault {
+            addr: page * PAGE,
+            access: Access::Read,
+        };
+    }
+    let first = FIRST + WIDE * u64::from(worker);
+    if trial == Trial::Splits && worker == CHANGING - 1 && turn % 8 == 7 {
+        return one_page(first + 1, prot_of(turn % 16 == 7));
+    }
+    let own = worker % 2 == 0;
+    one_page(first + WIDE - 1, prot_of(own == (turn % 2 == 1)))
+}
+
+/// One call of a caller, whose way is kept where it changes a protection. The line is that of the turn, counted from 1.
+fn take_turn<R: Wait>(
+    rt: &R,
+    space: &Space,
+    caller: &mut Caller,
+    turn: u32,
+    call: Call,
+    ways: &Ways,
+) -> Answer
+    requires turn { turn + 1 < 2 ^ 32 }
+    requires table { caller.old.seat.table ≡ space.now.table }
+    requires free { caller.old.seat.held ≡ None }
+    requires named { IsNamedCall call }
+    ensures answer { IsAnswered caller.old (turn + 1) call result caller.new }
+{
+    match call {
+        Call::Protect { .. } => match make_protect(space, rt, caller, turn + 1, call) {
+            Protected::Given { entry, path } => {
+                ways.keep(entry.worker, turn, path);
+                Answer::Given(entry)
+            }
+            Protected::Spent => Answer::Spent,
+        },
+        _ => make_call(rt, space, caller, turn + 1, call),
+    }
+}
+
+/// So many turns of a caller, for the lines from 1 on.
+fn turns<R: Wait>(rt: &R, space: &Space, caller: &mut Caller, trial: Trial, turns: u32, ways: &Ways)
+    requires table { caller.old.seat.table ≡ space.now.table }
+    requires free { caller.old.seat.held ≡ None }
+    ensures back { IsIdleAgain caller.old caller.new }
+    ensures called { HasCalled turns caller.old caller.new }
+{
+    for turn in 0..turns {
+        let call = call_of(trial, caller.worker(), turn);
+        take_turn(rt, space, caller, turn, call, ways);
+    }
+}
+
+/// Each caller takes so many turns, on a thread of its own, and the ways of the changes are kept.
+pub fn change_all<R: Threads + Wait + Sync>(
+    rt: &R,
+    space: &Space,
+    callers: &mut [Caller],
+    trial: Trial,
+    count: u32,
+    ways: &Ways,
+)
+    requires { IsCrew space.now.table space.now.seats callers.old }
+    ensures crew { IsCrew space.now.table space.now.seats callers.new }
+    ensures called { HaveCalled count callers.old callers.new }
+{
+    let turn = |_: usize, caller: &mut Caller|
+        requires { (caller.now.seat.table ≡ space.now.table) × (caller.now.seat.held ≡ None) }
+        ensures { IsIdleAgain caller.entry.now caller.exit.now × HasCalled count caller.entry.now caller.exit.now }
+    { turns(rt, space, caller, trial, count, ways) };
+    thread::for_each_mut(rt, callers, 16, &turn);
+}
