@@ -205,47 +205,52 @@ enum { PIECES = 1000, PIECE = 20000 };
 
 typedef struct looker {
     pthread_t thread;
-    double least, all;
+    double took[PIECES], all;
 } looker;
 
 static void *look(void *argument) {
     looker *me = argument;
-    me->least = 1e18;
     for (int i = 0; i < PIECES; i++) {
         long long start = now();
         work(PIECE);
-        double took = (double)(now() - start);
-        me->all += took;
-        if (took < me->least) me->least = took;
+        me->took[i] = (double)(now() - start);
+        me->all += me->took[i];
     }
     return NULL;
 }
 
+static int rising(const void *a, const void *b) {
+    double x = *(const double *)a, y = *(const double *)b;
+    return (x > y) - (x < y);
+}
+
 /* What share of its time a loop loses on the processor where it loses most: the time of its pieces above that of as many
-   of the quickest piece. */
+   of its middle piece. Two processors that share a core slow each other down in every piece, so that is no loss. */
 static double time_lost(void) {
-    looker lookers[MOST_THREADS] = { 0 };
+    static looker lookers[MOST_THREADS];
+    memset(lookers, 0, sizeof lookers);
     cpu_set_t all;
     unsigned count = sched_getaffinity(0, sizeof all, &all) == 0 ? (unsigned)CPU_COUNT(&all) : 1;
     if (count > MOST_THREADS) count = MOST_THREADS;
-    double least = 1e18, most = 0;
+    double most = 0;
     for (unsigned i = 0; i < count; i++)
         must(pthread_create(&lookers[i].thread, NULL, look, &lookers[i]) == 0, "thread");
     for (unsigned i = 0; i < count; i++) {
         pthread_join(lookers[i].thread, NULL);
-        if (lookers[i].least < least) least = lookers[i].least;
-        if (lookers[i].all > most) most = lookers[i].all;
+        qsort(lookers[i].took, PIECES, sizeof lookers[i].took[0], rising);
+        double lost = 1 - lookers[i].took[PIECES / 2] * PIECES / lookers[i].all;
+        if (lost > most) most = lost;
     }
-    return 1 - least * PIECES / most;
+    return most;
 }
 
 bool is_disturbed(void) {
     double lost = 1;
-    for (int look = 0; look < 3 && lost > 0.05; look++) {
+    for (int look = 0; look < 3 && lost > 0.1; look++) {
         double now_lost = time_lost();
         if (now_lost < lost) lost = now_lost;
     }
-    if (lost <= 0.05) return false;
+    if (lost <= 0.1) return false;
     fprintf(stderr, "other work disturbs this machine: a loop lost %.0f in 100 of its time\n", 100 * lost);
     return true;
 }
