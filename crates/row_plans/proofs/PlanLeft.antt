@@ -1,7 +1,7 @@
 -- The rows that a call leaves stand for the area list with the changed kinds: so the plan of a call is the model's
 -- answer.
 use Rattle.std.proofs.Common.{◌≡◌, ◌≢◌, ℕ, suc, ◌+◌, ◌/◌, ◌%◌, ◌<◌, ◌≤◌, List, [], ◌∷◌, length}
-use Rattle.std.proofs.Common.{Bool, true, false, cond, eqb, sym, refl, ap, ◌∙◌, subst, arith, inl, inr}
+use Rattle.std.proofs.Common.{Bool, true, false, cond, eqb, sym, refl, ap, ◌∙◌, ◌⊎◌, subst, arith, inl, inr}
 use Rattle.std.proofs.lemmas.Bool.{cases_lt, lt-ltb, le-ltb}
 use Rattle.std.proofs.lemmas.List.Elements.{All-nil, All-cons}
 use Rattle.std.specs.Prelude.{All, Option, Some, None}
@@ -18,11 +18,14 @@ use Rattle.space_model.specs.declared.judged.Change.{Change}
 use Rattle.space_model.specs.declared.judged.Judged.TheVariants.{Refused as IsRefused, Keeps, Changes}
 use Rattle.space_model.specs.Areas.{IsAreaList, HasKinds, HasNamedKinds, kind_at, gap_between, gaps_from, row_count}
 use Rattle.space_model.specs.Effect.{patched, AreRising}
-use Rattle.space_model.specs.Answers.{full_reply, Answers}
+use Rattle.space_model.specs.Answers.{full_reply, Answers, IsEffect}
+use Rattle.space_model.specs.Answers.Effect.{changes}
 use Rattle.space_model.specs.Answers.Answers.{by_arguments, refused, kept}
 use Rattle.space_model.specs.Judges.{IsJudged, IsNamedChange, patches_of}
 use Rattle.space_model.specs.Judges.Makes.{within, beyond}
 use Rattle.space_model.proofs.Changing.{kind_at-limit, rising_end, patched-behind}
+use Rattle.space_model.proofs.Effects.{Says, says}
+use Rattle.space_model.proofs.Effects.Says.{says_at, says_done}
 use Rattle.space_model.proofs.Judgements.{made_answers}
 use Rattle.space_model.proofs.Stepping.{patches_few, judged-named}
 use Rattle.space_model.proofs.SomeAnswer.{leaves_areas}
@@ -30,7 +33,7 @@ use Rattle.row_plans.specs.RowWords.{row_start, row_kind}
 use Rattle.row_plans.specs.RowLists.{rows_start, DiffersFrom, ShowFrom, IsBareGap, with_row, areas_from}
 use Rattle.row_plans.specs.Planning.{IsMade}
 use Rattle.row_plans.specs.declared.planning.Cut.{Cut}
-use Rattle.row_plans.specs.Plans.{PlanShows, IsRowList, spliced, IsPlan}
+use Rattle.row_plans.specs.Plans.{PlanShows, IsRowList, spliced, IsPlan, ChangesPages, LeavesRows}
 use Rattle.row_plans.proofs.RowLists.{AreNext, are_next, areas_back}
 use Rattle.row_plans.proofs.Splices.{some_shown}
 use Rattle.std.specs.List.{splice}
@@ -111,6 +114,30 @@ module _ (old plan : List ℕ) (c : Call) (reply : Reply) (count : ℕ) (is : Is
 -- a change that was judged rightly has two patches at most
 pub judged_few : (kinds : ℕ → Option Kind) (c : Call) (change : Change) → IsJudged kinds c (Changes change) → length (patches_of change) ≤ 2
 judged_few kinds c change judged = patches_few change
+
+-- it isn't answered by a refusal
+says_unrefused : (reply : Reply) (why : Why) → Says reply → reply ≢ Refused why
+says_unrefused reply why (says_at n says) refusal = cc
+says_unrefused reply why (says_done says) refusal = cc
+
+-- a change that is made with its own reply, or leaves the rows: its patches are what the call does
+pub change_made : {P : Type 0} (A : List Area) (c : Call) (change : Change) (reply : Reply) (cut : Cut P) (more : List ℕ) → plain_reply c ≡ None
+    → IsJudged (kind_at A) c (Changes change) → LeavesRows cut more ⊎ (reply ≡ change.reply) → LeavesRows cut more ⊎ ChangesPages A c reply
+change_made A c change reply cut more open_still judged (inl leaves) = inl leaves
+change_made A c change reply cut more open_still judged (inr says) =
+    inr (
+      patches_of change,
+      change.full,
+      open_still,
+      subst (λ r. IsEffect (kind_at A) c (changes (patches_of change) r change.full)) (sym says) judged.0,
+    )
+
+-- and where it is refused it leaves the rows
+pub change_refused : {P : Type 0} (kinds : ℕ → Option Kind) (c : Call) (change : Change) (reply : Reply) (cut : Cut P) (more : List ℕ)
+    → IsJudged kinds c (Changes change) → LeavesRows cut more ⊎ (reply ≡ change.reply) → (why : Why) → reply ≡ Refused why → LeavesRows cut more
+change_refused kinds c change reply cut more judged (inl leaves) why refusal = leaves
+change_refused kinds c change reply cut more judged (inr says_own) why refusal =
+    absurd (says_unrefused change.reply why (says kinds c (patches_of change) change.reply change.full judged.0.1).0 (sym says_own ∙ refusal))
 
 -- the kind of a row has named bits alone
 said_named : (b : Bool) (prot : ℕ) (shared sealed : Bool) → prot < 8

@@ -1,15 +1,18 @@
 -- What a call on an address space leaves, as row words: a plan says the reply and the rows before any word is stored.
 -- Both are those of `Answers`, this project's profile of mmap(2) and the calls like it, at the areas that the rows
 -- before stand for. The rows after are a splice of those before, and the rows as they are where nothing changes.
-use Rattle.std.specs.Prelude.{ℕ, ◌≡◌, ◌<◌, ◌≤◌, ◌+◌, All, Option, Some, None, List, length}
+use Rattle.std.specs.Prelude.{ℕ, ◌≡◌, ◌<◌, ◌≤◌, ◌+◌, All, Option, Some, None, List, [], length}
 use Rattle.std.specs.List.{splice}
 use Rattle.page_types.specs.declared.TheConstants.{ROWS}
 use Rattle.page_types.specs.declared.calls.Kind.{Kind}
 use Rattle.page_types.specs.declared.calls.Call.{Call}
 use Rattle.page_types.specs.declared.calls.Reply.{Reply}
+use Rattle.page_types.specs.PlainReply.{plain_reply}
 use Rattle.space_model.specs.declared.areas.Area.{Area}
+use Rattle.space_model.specs.declared.paint.Patch.{Patch}
 use Rattle.space_model.specs.Areas.{kind_at, row_count}
-use Rattle.space_model.specs.Answers.{Answers}
+use Rattle.space_model.specs.Answers.{Answers, IsEffect}
+use Rattle.space_model.specs.Answers.Effect.{changes}
 use Rattle.row_plans.specs.declared.planning.Cut.{Cut}
 use Rattle.row_plans.specs.RowLists.{ShowFrom, IsBareGap, areas_from}
 
@@ -32,6 +35,15 @@ IsPlaceOf rows number n (Some at) = (number at ≡ n) × (n < length rows)
 -- a list of rows in which those of a cut go and others come in their place, where places tell the numbers of rows
 abbrev pub spliced : {P : Type 0} → (P → ℕ) → List ℕ → Cut P → List ℕ → List ℕ
 spliced number rows cut more = splice rows (number cut.at) (number cut.at + cut.gone) more
+
+-- no row goes and none comes, so nothing is to be written
+abbrev pub LeavesRows : {P : Type 0} → Cut P → List ℕ → Type 0
+LeavesRows cut more = (cut.gone ≡ 0) × (more ≡ [])
+
+-- on an area list a call changes pages, perhaps to what they are, and this is its reply
+abbrev pub ChangesPages : List Area → Call → Reply → Type 0
+ChangesPages state call reply =
+    (patches : List Patch) × (full : Option Reply) × (plain_reply call ≡ None) × IsEffect (kind_at state) call (changes patches reply full)
 
 -- the plan of a call on an area list: its reply, and how many rows and which the list has that it leaves
 pub record IsPlan (call : Call) (reply : Reply) (count : ℕ) (plan : List ℕ) (state : List Area) : Type 0 where

@@ -2,13 +2,15 @@
 //! that are loaded where it needs them, before any word is stored. It is what `PlainSpace::step` of `space_model`
 //! answers on the areas of these rows, after mmap(2) and the calls like it. A reader may rely on that, and on no memory
 //! being taken.
-ghost use Rattle.std.specs.Prelude.{◌≡◌, ◌≤◌, ◌<◌, ◌+◌, ◌*◌, None, [], length, vec_capacity};
+ghost use Rattle.std.specs.Prelude.{◌≡◌, ◌≤◌, ◌<◌, ◌+◌, ◌*◌, ◌⊎◌, None, [], length, vec_capacity};
 ghost use Rattle.page_types.specs.declared.TheConstants.{ROWS, SPARE};
+ghost use Rattle.page_types.specs.declared.calls.Reply.TheVariants.{Refused};
+ghost use Rattle.page_types.specs.declared.calls.Why.{Why};
 ghost use Rattle.page_types.specs.Named.{IsNamedCall};
 ghost use Rattle.space_model.specs.Effect.{AreRising};
 ghost use Rattle.space_model.specs.Judges.{IsNamedChange, patches_of};
 ghost use Rattle.row_plans.specs.RowLists.{areas_from};
-ghost use Rattle.row_plans.specs.Plans.{spliced, IsPlan};
+ghost use Rattle.row_plans.specs.Plans.{spliced, IsPlan, ChangesPages, LeavesRows};
 ghost use Rattle.row_plans.specs.Planning.{IsMade};
 
 use crate::places::RowPages;
@@ -24,7 +26,7 @@ pub struct Planned<P> {
     pub reply: Reply,
     /// The number of rows that the call leaves: areas, and gaps between 0 and `LIMIT`.
     pub rows: u32,
-    /// The rows that go. None does where nothing changes.
+    /// The rows that go. None does where the call is refused.
     pub cut: Cut<P>,
 }
 
@@ -61,6 +63,7 @@ fn changed<R: Rows>(
     ensures at { R.number old.now hand.old result.cut.at < length (R.words old.now hand.old) }
     ensures there { R.number old.now hand.old result.cut.at + result.cut.gone ≤ length (R.words old.now hand.old) }
     ensures few { length new.new.items ≤ result.cut.gone + 2 * length (patches_of change) }
+    ensures changes { LeavesRows result.cut new.new.items ⊎ (result.reply ≡ change.reply) }
     ensures room { vec_capacity new.old ≤ vec_capacity new.new }
     ensures loaded { R.loaded old.now hand.old hand.new }
 {
@@ -78,10 +81,11 @@ fn changed<R: Rows>(
 }
 
 /// The plan of a call on rows that are loaded: its reply, and the splice that it makes of the rows. Those that come go
-/// into `new`, at most `SPARE` more than go; it gives which go. Where the call changes nothing, as a refused one, none
-/// goes and none comes. A call whose pages are fixed loads the rows of these pages, one on each side, and as many more
-/// as finding a row takes; one that looks for a place loads the rows from the last one of its window down to the gap
-/// that it finds. It takes no memory: `new` has room for `SPARE` rows more than there are.
+/// into `new`, at most `SPARE` more than go; it gives which go. Of a refused call none goes and none comes, nor of one
+/// that has a reply alone; one that gives pages the kind that they have may have rows go, and the same rows come. A
+/// call whose pages are fixed loads the rows of these pages, one on each side, and as many more as finding a row
+/// takes; one that looks for a place loads the rows from the last one of its window down to the gap that it finds. It
+/// takes no memory: `new` has room for `SPARE` rows more than there are.
 pub fn plan_rows<R: Rows>(
     old: &R,
     hand: &mut R::Hand,
@@ -96,6 +100,8 @@ pub fn plan_rows<R: Rows>(
     ensures at { R.number old.now hand.old result.cut.at < length (R.words old.now hand.old) }
     ensures there { R.number old.now hand.old result.cut.at + result.cut.gone ≤ length (R.words old.now hand.old) }
     ensures few { length new.new.items ≤ result.cut.gone + SPARE }
+    ensures changes { LeavesRows result.cut new.new.items ⊎ ChangesPages (areas_from (R.words old.now hand.old)) call.now result.reply }
+    ensures refused { (why : Why) → result.reply ≡ Refused why → LeavesRows result.cut new.new.items }
     ensures room { vec_capacity new.old ≤ vec_capacity new.new }
     ensures loaded { R.loaded old.now hand.old hand.new }
 {

@@ -5,7 +5,7 @@ use Rattle.space_model.specs.Areas.{kind_at}
 use Rattle.row_plans.specs.RowLists.{areas_from}
 use Rattle.row_plans.specs.Plans.{spliced}
 use Rattle.row_plans.specs.Planning.{IsMade}
-use Rattle.row_plans.proofs.PlanLeft.{judged_few, judged_named, as_they_were, plan_plain, plan_refused, plan_kept, plan_made}
+use Rattle.row_plans.proofs.PlanLeft.{judged_few, judged_named, change_made, change_refused, as_they_were, plan_plain, plan_refused, plan_kept, plan_made}
 use Rattle.row_plans.proofs.Loading.{loads_first, as_before}
 use Rattle.row_plans.proofs.plan.plan_rows.Goals as goal
 
@@ -106,3 +106,16 @@ returns-in-Changes-clause-few g c =
     let two = judged_few (kind_at (areas_from words)) c.args.call.now c.in-Changes.change c.in-Changes.ensures.judged in
     let few = c.changed.ensures.few in
     omega arith
+
+-- what it does are its patches, where it doesn't leave the rows
+pub returns-in-Changes-clause-changes : goal.returns-in-Changes-clause-changes
+returns-in-Changes-clause-changes g c =
+    let undecided : plain_reply c.args.call.now ≡ None = search rules in
+    change_made (areas_from (g.R.Rows.words c.args.old.now c.args.hand.now)) c.args.call.now c.in-Changes.change c.changed.result.reply
+    c.changed.result.cut c.changed.new.new.items undecided c.in-Changes.ensures.judged c.changed.ensures.changes
+
+-- a refused change leaves them
+pub returns-in-Changes-clause-refused : goal.returns-in-Changes-clause-refused
+returns-in-Changes-clause-refused g c =
+    change_refused (kind_at (areas_from (g.R.Rows.words c.args.old.now c.args.hand.now))) c.args.call.now c.in-Changes.change c.changed.result.reply
+    c.changed.result.cut c.changed.new.new.items c.in-Changes.ensures.judged c.changed.ensures.changes
