@@ -1,5 +1,6 @@
 pub mod Asking
 pub mod Choosing
+pub mod Dues
 pub mod Giving
 pub mod Insertion
 pub mod Later

@@ -196,21 +196,6 @@ module _ {P : Type 0} where
     others = λ j away. ap (λ (v : View). v.own) (look_shows t h s is j) ∙ a.others j away;
   }
 
-  -- a wide range that has a list still to pass has it still to pass where what is held, the standing and the turn stay
-  pub pass_still : (c : Regions) (at up : ℕ) (asked : Held) (p t : SeatPart (Beside P)) → MayPass c p at up → t.pass.lists ≡ p.pass.lists
-      → t.pass.list ≡ 0 → t.pass.standing ≡ p.pass.standing → t.core ≡ p.core → MayPass c t at up
-  pass_still c at up asked p t may lists list standing core = record {
-    several = let a = may.several in omega arith;
-    first = list;
-    standing = subst (λ (s : Standing). (s ≡ Free) ⊎ ((passed : ℕ) × (s ≡ Wide passed))) (sym standing) may.standing;
-    range = may.range;
-    held = ap (λ (v : View). held_at v.own) core ∙ may.held;
-    from = subst (λ (s : Standing). passed_by s ≤ at) (sym standing) may.from;
-    below = may.below;
-    most = let a = may.most in omega arith;
-    others = λ other from below differ. may.others other (subst (λ (s : Standing). passed_by s ≤ other) standing from) below differ;
-  }
-
   -- a narrow range that its list holds may be counted, where nothing counts yet
   pub may_count : (c : Regions) (at : ℕ) (asked : Held) (t : SeatPart (Beside P)) → 1 < t.pass.lists → t.pass.standing ≡ Free → HoldsAlone at asked t
       → TakesOne c asked.range at → MayCount c t
@@ -368,16 +353,6 @@ module _ {P : Type 0} where
     -- the seat holds the range in the other list too
     pub both_too : HoldsToo t other
     both_too = record { range = asked; own = both_held; too = both_other }
-
-    -- and may count it, where it is a narrow one of which nothing counts yet
-    pub both_count : (c : Regions) → 1 < p.pass.lists → p.pass.standing ≡ Free → TakesOne c asked.range home → MayCount c t
-    both_count c several free takes = record {
-      several = let e = both_lists in omega arith;
-      standing = both_standing ∙ free;
-      range = asked;
-      held = both_held;
-      takes = subst (TakesOne c asked.range) (sym both_list) takes;
-    }
 
     -- and what is so once the look is made and that node is given back
     module _ {s : Standing} {h g u : SeatPart (Beside P)} (after : Return home other t s h g u) where

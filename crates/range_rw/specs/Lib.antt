@@ -1,4 +1,5 @@
 pub mod Contract
+pub mod Looks
 pub mod Patience
 pub mod Releasing
 pub mod Scan

@@ -13,12 +13,13 @@ ghost use Rattle.epoch_pools.specs.declared.views.Standing.TheVariants.{Free, Na
 ghost use Rattle.epoch_pools.specs.Standings.{standing_back, is_counted};
 ghost use Rattle.epoch_pools.specs.Beside.{shown_core};
 ghost use Rattle.epoch_pools.specs.Hands.{IsResting};
-ghost use Rattle.epoch_pools.specs.Passing.{MayPass};
+ghost use Rattle.epoch_pools.specs.Passing.{MayPass, HoldsToo, after_look, standing_by};
 ghost use Rattle.marked_list.specs.Causes.{nodes_in, IsSpent};
 ghost use Rattle.range_rw.specs.Contract.{AsksOnly, IsLongRefusal, IsReadyLeft, StandsIn, TakesMany, try_steps};
 ghost use Rattle.range_rw.specs.Seats.{counted_in};
 ghost use Rattle.range_rw.specs.Trying.{IsLaterInTry};
 ghost use Rattle.range_rw.specs.Several.{IsCauseAt, ShowsOthers, IsLaterInLists, IsPiece, IsFreeSeat, HoldsAlone, HoldsIn, IsCauseIn, KeepsCauses, HasSpent, TakesNone, TakesAlone};
+ghost use Rattle.range_rw.specs.Looks.{MayLook, IsDue, standing_for};
 
 use crate::nodes::refusal_of;
 use crate::refusals::NotHeld;
@@ -206,50 +207,137 @@ fn give_up<G: Guard, L: Ledger>(list: &List<G>, hand: &mut Hand<G>, at: u32, ste
     mark(list, hand, steps);
 }
 
-/// Links the narrow range, which the hand's list `at` holds, in list 0 too, so that it counts whatever else is there,
-/// and gives that node back. After a refusal the hand is turned to list 0, and nothing counts.
-#[inline(never)]
-fn count_in_both<G: Guard, L: Ledger>(
+/// Looks at the list `at` for the range that the list `own` holds, to which the hand is turned. Whether that list was
+/// empty: then a narrow range counts from this step on, and a wide one has passed all lists below `up`. One step.
+#[inline(always)]
+fn look<G: Guard, L: Ledger>(
     list: &List<G>,
     hand: &mut Hand<G>,
+    own: u32,
     at: u32,
+    up: u32,
+    steps: &mut Steps<L>,
+) -> bool
+    requires table { hand.old.table ≡ list.now.table }
+    requires may { MayLook list.now.cut hand.old.part own at up }
+    ensures table { hand.new.table ≡ hand.old.table }
+    ensures part { hand.new.part ≡ after_look hand.old.part (standing_by result (standing_for own up) hand.old.part) }
+    ensures counted { steps.new ≡ steps.old + 1 }
+{
+    if own == 0 {
+        pass_list(list, hand, at, up, steps)
+    } else {
+        count_narrow(list, hand, steps)
+    }
+}
+
+/// The same where the hand holds the range in the list `at` too, whatever else is in that list.
+fn look_held<G: Guard, L: Ledger>(
+    list: &List<G>,
+    hand: &mut Hand<G>,
+    own: u32,
+    at: u32,
+    up: u32,
+    steps: &mut Steps<L>,
+)
+    requires table { hand.old.table ≡ list.now.table }
+    requires may { MayLook list.now.cut hand.old.part own at up }
+    requires too { HoldsToo hand.old.part at }
+    ensures table { hand.new.table ≡ hand.old.table }
+    ensures part { hand.new.part ≡ after_look hand.old.part (standing_for own up) }
+    ensures counted { steps.new ≡ steps.old + 1 }
+{
+    if own == 0 {
+        pass_held(list, hand, at, up, steps);
+    } else {
+        count_held(list, hand, steps);
+    }
+}
+
+/// Links the range, which the list `own` holds, in the list `at` too, so that the look at that list counts whatever
+/// else is there, and gives that node back. After a refusal no more counts than before.
+#[inline(never)]
+fn link_in_both<G: Guard, L: Ledger>(
+    list: &List<G>,
+    hand: &mut Hand<G>,
+    own: u32,
+    at: u32,
+    up: u32,
     range: Range,
     mode: Mode,
     steps: &mut Steps<L>,
 ) -> Result<(), NotHeld>
     requires table { hand.old.table ≡ list.now.table }
-    requires several { (0 < at) × (at < hand.old.part.pass.lists) }
-    requires takes { TakesOne list.now.cut range at }
-    requires holds { HoldsIn at (record { range = range; mode = mode }) hand.old.part }
-    requires free { hand.old.part.pass.standing ≡ Free }
+    requires due { IsDue list.now.cut range hand.old.part own at up }
+    requires holds { HoldsIn own (record { range = range; mode = mode }) hand.old.part }
     ensures table { hand.new.table ≡ hand.old.table }
     ensures later { IsLaterInLists hand.old.part hand.new.part }
     ensures asks { AsksOnly (record { range = range; mode = mode }) hand.old.part.trace.asked hand.new.part.trace.asked }
-    ensures held { OnOk result (HoldsAlone at (record { range = range; mode = mode }) hand.new.part) }
-    ensures counts { OnOk result (hand.new.part.pass.standing ≡ Narrow at) }
-    ensures holds { OnErr result (HoldsIn at (record { range = range; mode = mode }) hand.new.part × (hand.new.part.pass.standing ≡ Free)) }
-    ensures ready { IsReadyLeft (shown_core hand.old.part 0).ready (shown_core hand.new.part 0).ready }
-    ensures only { (j : ℕ) → j ≢ 0 → shown_core hand.new.part j ≡ shown_core hand.old.part j }
-    ensures cause { IfErr result (IsCauseAt hand.old.table 0 hand.old.part hand.new.part (record { range = range; mode = mode })) }
+    ensures held { OnOk result (HoldsAlone own (record { range = range; mode = mode }) hand.new.part) }
+    ensures counts { OnOk result (hand.new.part.pass.standing ≡ standing_for own up) }
+    ensures holds { OnErr result (HoldsIn own (record { range = range; mode = mode }) hand.new.part
+        × (hand.new.part.pass.standing ≡ hand.old.part.pass.standing)) }
+    ensures ready { IsReadyLeft (shown_core hand.old.part at).ready (shown_core hand.new.part at).ready }
+    ensures only { (j : ℕ) → j ≢ at → shown_core hand.new.part j ≡ shown_core hand.old.part j }
+    ensures cause { IfErr result (IsCauseAt hand.old.table at hand.old.part hand.new.part (record { range = range; mode = mode })) }
     ensures long { IfErr result (λ why. IsLongRefusal why ↔ HasSpent hand.new.part) }
     ensures bound { hand.new.part.trace.taken ≤ hand.old.part.trace.taken + 46 + 145 * hand.old.part.seats }
     ensures counted { steps.new + hand.old.part.trace.taken ≡ steps.old + hand.new.part.trace.taken }
 {
-    match link_piece(list, hand, 0, range, mode, steps) {
+    match link_piece(list, hand, at, range, mode, steps) {
         Ok(quick) => {
-            hand.turn(at);
-            count_held(list, hand, steps);
-            give_piece(list, hand, 0, quick, steps);
-            hand.turn(at);
+            hand.turn(own);
+            look_held(list, hand, own, at, up, steps);
+            give_piece(list, hand, at, quick, steps);
+            hand.turn(own);
             Ok(())
         }
         Err(why) => Err(why),
     }
 }
 
-/// Makes the narrow range count, which the hand's list `at` holds, where a look found list 0 not empty: sweeps list 0
-/// and looks again, and otherwise links the range there too. After a refusal nothing counts.
+/// Makes the range, which the list `own` holds, count at the list `at`, which a look found not empty: sweeps that list
+/// and looks again, and otherwise links the range there too. After a refusal no more counts than before.
 #[inline(never)]
+fn look_swept<G: Guard, L: Ledger>(
+    list: &List<G>,
+    hand: &mut Hand<G>,
+    own: u32,
+    at: u32,
+    up: u32,
+    range: Range,
+    mode: Mode,
+    steps: &mut Steps<L>,
+) -> Result<(), NotHeld>
+    requires table { hand.old.table ≡ list.now.table }
+    requires due { IsDue list.now.cut range hand.old.part own at up }
+    requires holds { HoldsIn own (record { range = range; mode = mode }) hand.old.part }
+    ensures table { hand.new.table ≡ hand.old.table }
+    ensures later { IsLaterInLists hand.old.part hand.new.part }
+    ensures asks { AsksOnly (record { range = range; mode = mode }) hand.old.part.trace.asked hand.new.part.trace.asked }
+    ensures held { OnOk result (HoldsAlone own (record { range = range; mode = mode }) hand.new.part) }
+    ensures counts { OnOk result (hand.new.part.pass.standing ≡ standing_for own up) }
+    ensures holds { OnErr result (HoldsIn own (record { range = range; mode = mode }) hand.new.part
+        × (hand.new.part.pass.standing ≡ hand.old.part.pass.standing)) }
+    ensures ready { IsReadyLeft (shown_core hand.old.part at).ready (shown_core hand.new.part at).ready }
+    ensures only { (j : ℕ) → j ≢ at → shown_core hand.new.part j ≡ shown_core hand.old.part j }
+    ensures cause { IfErr result (IsCauseAt hand.old.table at hand.old.part hand.new.part (record { range = range; mode = mode })) }
+    ensures long { IfErr result (λ why. IsLongRefusal why ↔ HasSpent hand.new.part) }
+    ensures bound { hand.new.part.trace.taken ≤ hand.old.part.trace.taken + 54 + 193 * hand.old.part.seats }
+    ensures counted { steps.new + hand.old.part.trace.taken ≡ steps.old + hand.new.part.trace.taken }
+{
+    if let Err(why) = sweep_piece(list, hand, at, steps) {
+        return Err(why);
+    }
+    hand.turn(own);
+    if look(list, hand, own, at, up, steps) {
+        return Ok(());
+    }
+    link_in_both(list, hand, own, at, up, range, mode, steps)
+}
+
+/// Makes the narrow range count, which the hand's list `at` holds, where a look found list 0 not empty. After a refusal
+/// nothing counts.
 pub(crate) fn count_swept<G: Guard, L: Ledger>(
     list: &List<G>,
     hand: &mut Hand<G>,
@@ -276,14 +364,7 @@ pub(crate) fn count_swept<G: Guard, L: Ledger>(
     ensures bound { hand.new.part.trace.taken ≤ hand.old.part.trace.taken + 54 + 193 * hand.old.part.seats }
     ensures counted { steps.new + hand.old.part.trace.taken ≡ steps.old + hand.new.part.trace.taken }
 {
-    if let Err(why) = sweep_piece(list, hand, 0, steps) {
-        return Err(why);
-    }
-    hand.turn(at);
-    if count_narrow(list, hand, steps) {
-        return Ok(());
-    }
-    count_in_both(list, hand, at, range, mode, steps)
+    look_swept(list, hand, at, 0, 0, range, mode, steps)
 }
 
 /// Tries once to hold a narrow range in the list `at` that it takes. The seat holds nothing. Ok says whether the fast
@@ -349,48 +430,6 @@ pub(crate) fn next_taken(cut: Cut, range: Range, from: u32) -> u32
     lists
 }
 
-/// Links the wide range, which list 0 holds, in the list `at` too, so that it passes that list whatever else is there,
-/// and gives that node back. After a refusal nothing more is passed than before.
-#[inline(never)]
-fn pass_in_both<G: Guard, L: Ledger>(
-    list: &List<G>,
-    hand: &mut Hand<G>,
-    at: u32,
-    up: u32,
-    range: Range,
-    mode: Mode,
-    steps: &mut Steps<L>,
-) -> Result<(), NotHeld>
-    requires table { hand.old.table ≡ list.now.table }
-    requires list { 0 < at }
-    requires holds { HoldsAlone 0 (record { range = range; mode = mode }) hand.old.part }
-    requires may { MayPass list.now.cut hand.old.part at up }
-    ensures table { hand.new.table ≡ hand.old.table }
-    ensures later { IsLaterInLists hand.old.part hand.new.part }
-    ensures asks { AsksOnly (record { range = range; mode = mode }) hand.old.part.trace.asked hand.new.part.trace.asked }
-    ensures held { OnOk result (HoldsAlone 0 (record { range = range; mode = mode }) hand.new.part) }
-    ensures passed { OnOk result (hand.new.part.pass.standing ≡ Wide up) }
-    ensures holds { OnErr result (HoldsIn 0 (record { range = range; mode = mode }) hand.new.part
-        × (hand.new.part.pass.standing ≡ hand.old.part.pass.standing)) }
-    ensures ready { IsReadyLeft (shown_core hand.old.part at).ready (shown_core hand.new.part at).ready }
-    ensures only { (j : ℕ) → j ≢ at → shown_core hand.new.part j ≡ shown_core hand.old.part j }
-    ensures cause { IfErr result (IsCauseAt hand.old.table at hand.old.part hand.new.part (record { range = range; mode = mode })) }
-    ensures long { IfErr result (λ why. IsLongRefusal why ↔ HasSpent hand.new.part) }
-    ensures bound { hand.new.part.trace.taken ≤ hand.old.part.trace.taken + 46 + 145 * hand.old.part.seats }
-    ensures counted { steps.new + hand.old.part.trace.taken ≡ steps.old + hand.new.part.trace.taken }
-{
-    match link_piece(list, hand, at, range, mode, steps) {
-        Ok(quick) => {
-            hand.turn(0);
-            pass_held(list, hand, at, up, steps);
-            give_piece(list, hand, at, quick, steps);
-            hand.turn(0);
-            Ok(())
-        }
-        Err(why) => Err(why),
-    }
-}
-
 /// Has the wide range, which list 0 holds, pass the list `at`; behind it and below `up` it takes none. A list that
 /// isn't empty is swept, and otherwise the range is linked there too. After a refusal nothing more is passed than
 /// before.
@@ -424,14 +463,7 @@ pub(crate) fn pass_one<G: Guard, L: Ledger>(
     if pass_list(list, hand, at, up, steps) {
         return Ok(());
     }
-    if let Err(why) = sweep_piece(list, hand, at, steps) {
-        return Err(why);
-    }
-    hand.turn(0);
-    if pass_list(list, hand, at, up, steps) {
-        return Ok(());
-    }
-    pass_in_both(list, hand, at, up, range, mode, steps)
+    look_swept(list, hand, 0, at, up, range, mode, steps)
 }
 
 /// Has the wide range, which list 0 holds, pass each list that it takes, in rising order. It counts with the last.

@@ -2,21 +2,21 @@ use Rattle.std.proofs.Common.{sym, ap, ◌∙◌, subst, arith}
 use Rattle.lock_core.specs.declared.views.View.{View}
 use Rattle.lock_core.specs.Machine.{held_at}
 use Rattle.epoch_pools.specs.declared.views.SeatPart.{SeatPart}
-use Rattle.epoch_pools.specs.declared.views.Standing.TheVariants.{Narrow}
 use Rattle.epoch_pools.specs.Hands.{IsResting}
 use Rattle.epoch_pools.specs.Standings.{is_counted}
-use Rattle.range_rw.proofs.Moves.{Crossing, Return, both_list, both_lists, both_other, both_too, both_count, both_later, both_asks}
-use Rattle.range_rw.proofs.Moves.{both_only, both_alone, both_counts, both_ready}
-use Rattle.range_rw.proofs.Moves.{holds_on, narrow_beside, narrow_back, some_held, look_shows}
-use Rattle.range_rw.proofs.several.count_in_both.Given.{Over}
-use Rattle.range_rw.proofs.several.count_in_both.Goals.{After-turn, After-turn-in-Ok}
-use Rattle.range_rw.proofs.several.count_in_both.Goals as goal
+use Rattle.range_rw.specs.Looks.{standing_for}
+use Rattle.range_rw.proofs.Moves.{Crossing, Return, both_lists, both_standing, both_other, both_too, both_later, both_asks}
+use Rattle.range_rw.proofs.Moves.{both_list, both_held, both_only, both_alone, both_counts, both_ready, holds_on, some_held, look_shows}
+use Rattle.range_rw.proofs.Dues.{due_differ, due_there, due_own, due_on, due_beside, due_back, may_look}
+use Rattle.range_rw.proofs.several.link_in_both.Given.{Over}
+use Rattle.range_rw.proofs.several.link_in_both.Goals.{After-turn, After-turn-in-Ok}
+use Rattle.range_rw.proofs.several.link_in_both.Goals as goal
 
 -- the range is linked in list 0 too, and the hand is turned back
-over : (g : Over) (c : After-turn g) → Crossing c.args.at 0 (record { range = c.args.range; mode = c.args.mode }) c.args.hand.now.part
+over : (g : Over) (c : After-turn g) → Crossing c.args.own c.args.at (record { range = c.args.range; mode = c.args.mode }) c.args.hand.now.part
     c.link_piece.new.hand.part c.turn.new.self.part
 over g c = record {
-  differ = λ e. let a = c.requires.several.0 in omega arith;
+  differ = λ e. due_differ c.requires.due (sym e);
   holds = c.requires.holds;
   link = c.link_piece.ensures.piece;
   standing = c.link_piece.ensures.standing;
@@ -26,15 +26,14 @@ over g c = record {
 }
 
 -- it counts, that node is given back, and the hand is turned back once more
-after : (g : Over) (c : After-turn-in-Ok g) → Return c.args.at 0 c.turn.new.self.part (Narrow c.turn.new.self.part.pass.list)
-    c.count_held.new.hand.part c.give_piece.new.hand.part c.turn-in-Ok.new.self.part
+after : (g : Over) (c : After-turn-in-Ok g) → Return c.args.own c.args.at c.turn.new.self.part (standing_for c.args.own c.args.up)
+    c.look_held.new.hand.part c.give_piece.new.hand.part c.turn-in-Ok.new.self.part
 after g c = record {
-  look = c.count_held.ensures.part;
+  look = c.look_held.ensures.part;
   give = c.give_piece.ensures.piece;
   standing = c.give_piece.ensures.standing;
   free = c.give_piece.ensures.free;
-  back = narrow_back c.turn.new.self.part.pass.list 0
-      (λ e. let l = ap (λ (x : SeatPart _). x.pass.list) c.turn.ensures.part in let a = c.requires.several.0 in omega arith);
+  back = due_back c.requires.due;
   turn = c.turn-in-Ok.ensures.part;
   stays = c.turn-in-Ok.ensures.stays;
   rests = c.turn-in-Ok.ensures.rests;
@@ -42,7 +41,7 @@ after g c = record {
 
 -- there is that list
 pub link_piece-requires-clause-there : goal.link_piece-requires-clause-there
-link_piece-requires-clause-there g c = let a = c.requires.several.1 in omega arith
+link_piece-requires-clause-there g c = due_there c.requires.due
 
 -- the hand rests
 pub link_piece-requires-clause-resting : goal.link_piece-requires-clause-resting
@@ -50,58 +49,57 @@ link_piece-requires-clause-resting g c = c.requires.holds.rests
 
 -- and has no node of its own in that list
 pub link_piece-requires-clause-free : goal.link_piece-requires-clause-free
-link_piece-requires-clause-free g c = c.requires.holds.others 0 (λ e. let a = c.requires.several.0 in omega arith)
+link_piece-requires-clause-free g c = c.requires.holds.others c.args.at (due_differ c.requires.due)
 
 -- the hand turns back to the list that holds the range
 pub turn-requires-clause-there : goal.turn-requires-clause-there
 turn-requires-clause-there g c =
-    let e = c.link_piece.ensures.piece.later.lists in let a = c.requires.several.1 in omega arith
+    let e = c.link_piece.ensures.piece.later.lists in let a = due_own c.requires.due in omega arith
 
 -- from one in which it rests
 pub turn-requires-clause-resting : goal.turn-requires-clause-resting
 turn-requires-clause-resting g c = c.link_piece.ensures.piece.rests
 
--- a narrow range of which nothing counts yet may be counted
-pub count_held-requires-clause-may : goal.count_held-requires-clause-may
-count_held-requires-clause-may g c = both_count (over g (goal.at.count_held-requires-clause-may g c).After-turn)
-    c.args.list.now.cut (let a = c.requires.several.0 in let b = c.requires.several.1 in omega arith)
-    c.requires.free c.requires.takes
+-- the range may be looked for in that list still
+pub look_held-requires-clause-may : goal.look_held-requires-clause-may
+look_held-requires-clause-may g c =
+    let way = over g (goal.at.look_held-requires-clause-may g c).After-turn in
+    may_look (record { range = c.args.range; mode = c.args.mode }) (due_on c.requires.due c.turn.new.self.part (both_lists way) (both_standing way))
+    (both_list way) (both_held way)
 
--- and it is held in list 0 too
-pub count_held-requires-clause-too : goal.count_held-requires-clause-too
-count_held-requires-clause-too g c = both_too (over g (goal.at.count_held-requires-clause-too g c).After-turn)
+-- and it is held there too
+pub look_held-requires-clause-too : goal.look_held-requires-clause-too
+look_held-requires-clause-too g c = both_too (over g (goal.at.look_held-requires-clause-too g c).After-turn)
 
 -- there is the list in which the node is given back
 pub give_piece-requires-clause-there : goal.give_piece-requires-clause-there
 give_piece-requires-clause-there g c =
-    let e = ap (λ (x : SeatPart _). x.pass.lists) c.count_held.ensures.part ∙ both_lists (over g (goal.at.give_piece-requires-clause-there g c).After-turn) in
-    let a = c.requires.several.1 in omega arith
+    let e = ap (λ (x : SeatPart _). x.pass.lists) c.look_held.ensures.part ∙ both_lists (over g (goal.at.give_piece-requires-clause-there g c).After-turn) in
+    let a = due_there c.requires.due in omega arith
 
 -- the hand rests where it is turned
 pub give_piece-requires-clause-resting : goal.give_piece-requires-clause-resting
-give_piece-requires-clause-resting g c = subst (λ (x : SeatPart _). IsResting x.core) (sym c.count_held.ensures.part) c.turn.ensures.rests
+give_piece-requires-clause-resting g c = subst (λ (x : SeatPart _). IsResting x.core) (sym c.look_held.ensures.part) c.turn.ensures.rests
 
 -- the other list holds the range
 pub give_piece-requires-clause-holds : goal.give_piece-requires-clause-holds
 give_piece-requires-clause-holds g c = some_held
-    (ap (λ (v : View). held_at v.own) (look_shows c.turn.new.self.part c.count_held.new.hand.part _ c.count_held.ensures.part 0)
+    (ap (λ (v : View). held_at v.own) (look_shows c.turn.new.self.part c.look_held.new.hand.part _ c.look_held.ensures.part c.args.at)
     ∙ both_other (over g (goal.at.give_piece-requires-clause-holds g c).After-turn))
 
 -- and it doesn't count through that list
 pub give_piece-requires-clause-beside : goal.give_piece-requires-clause-beside
 give_piece-requires-clause-beside g c =
-    let way = over g (goal.at.give_piece-requires-clause-beside g c).After-turn in
-    (λ i. is_counted ((ap (λ (x : SeatPart _). x.pass.lists) c.count_held.ensures.part ∙ both_lists way) i)
-    ((ap (λ (x : SeatPart _). x.pass.standing) c.count_held.ensures.part ∙ ap Narrow (both_list way)) i) 0)
-    ∙ narrow_beside c.args.hand.now.part.pass.lists c.args.at 0 (λ e. let a = c.requires.several.0 in let b = c.requires.several.1 in omega arith)
-    (λ e. let a = c.requires.several.0 in omega arith)
+    (λ i. is_counted ((ap (λ (x : SeatPart _). x.pass.lists) c.look_held.ensures.part
+    ∙ both_lists (over g (goal.at.give_piece-requires-clause-beside g c).After-turn)) i)
+    ((ap (λ (x : SeatPart _). x.pass.standing) c.look_held.ensures.part) i) c.args.at) ∙ due_beside c.requires.due
 
 -- the hand turns back
 pub turn-requires-in-Ok-clause-there : goal.turn-requires-in-Ok-clause-there
 turn-requires-in-Ok-clause-there g c =
-    let e = c.give_piece.ensures.piece.later.lists ∙ (ap (λ (x : SeatPart _). x.pass.lists) c.count_held.ensures.part
+    let e = c.give_piece.ensures.piece.later.lists ∙ (ap (λ (x : SeatPart _). x.pass.lists) c.look_held.ensures.part
     ∙ both_lists (over g (goal.at.turn-requires-in-Ok-clause-there g c).After-turn)) in
-    let a = c.requires.several.1 in omega arith
+    let a = due_own c.requires.due in omega arith
 
 -- from one in which it rests
 pub turn-requires-in-Ok-clause-resting : goal.turn-requires-in-Ok-clause-resting
@@ -117,8 +115,7 @@ returns-in-Ok-clause-held g c = both_alone (over g (goal.at.returns-in-Ok-clause
 
 -- and it counts
 pub returns-in-Ok-clause-counts : goal.returns-in-Ok-clause-counts
-returns-in-Ok-clause-counts g c =
-    let way = over g (goal.at.returns-in-Ok-clause-counts g c).After-turn in both_counts way (after g c) ∙ ap Narrow (both_list way)
+returns-in-Ok-clause-counts g c = both_counts (over g (goal.at.returns-in-Ok-clause-counts g c).After-turn) (after g c)
 
 -- the ready nodes of the other list are those that the link left
 pub returns-in-Ok-clause-ready : goal.returns-in-Ok-clause-ready
@@ -134,7 +131,7 @@ pub returns-in-Ok-clause-bound : goal.returns-in-Ok-clause-bound
 returns-in-Ok-clause-bound g c =
     let a = c.link_piece.ensures.bound in
     let t = ap (λ (x : SeatPart _). x.trace.taken) c.turn.ensures.part in
-    let l = ap (λ (x : SeatPart _). x.trace.taken) c.count_held.ensures.part in
+    let l = ap (λ (x : SeatPart _). x.trace.taken) c.look_held.ensures.part in
     let b = c.give_piece.ensures.bound in
     let u = ap (λ (x : SeatPart _). x.trace.taken) c.turn-in-Ok.ensures.part in omega arith
 
@@ -143,18 +140,17 @@ pub returns-in-Ok-clause-counted : goal.returns-in-Ok-clause-counted
 returns-in-Ok-clause-counted g c =
     let a = c.link_piece.ensures.counted in
     let t = ap (λ (x : SeatPart _). x.trace.taken) c.turn.ensures.part in
-    let l = ap (λ (x : SeatPart _). x.trace.taken) c.count_held.ensures.part in
-    let n = c.count_held.ensures.counted in
+    let l = ap (λ (x : SeatPart _). x.trace.taken) c.look_held.ensures.part in
+    let n = c.look_held.ensures.counted in
     let b = c.give_piece.ensures.counted in
     let u = ap (λ (x : SeatPart _). x.trace.taken) c.turn-in-Ok.ensures.part in omega arith
 
 -- after a refusal the range is still held, and nothing more stands for it
 pub returns-in-Err-clause-holds : goal.returns-in-Err-clause-holds
 returns-in-Err-clause-holds g c = (
-  holds_on c.args.at 0 (record { range = c.args.range; mode = c.args.mode }) c.args.hand.now.part c.link_piece.new.hand.part
-      (λ e. let a = c.requires.several.0 in omega arith) c.requires.holds
-      c.link_piece.ensures.piece c.in-Err.ensures.free,
-  c.link_piece.ensures.standing ∙ c.requires.free,
+  holds_on c.args.own c.args.at (record { range = c.args.range; mode = c.args.mode }) c.args.hand.now.part c.link_piece.new.hand.part
+      (λ e. due_differ c.requires.due (sym e)) c.requires.holds c.link_piece.ensures.piece c.in-Err.ensures.free,
+  c.link_piece.ensures.standing,
 )
 
 -- the seat is the same

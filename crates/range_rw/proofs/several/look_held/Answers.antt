@@ -1,0 +1,22 @@
+use Rattle.std.proofs.Common.{◌≡◌, sym, ap, ◌∙◌, subst}
+use Rattle.epoch_pools.specs.declared.views.SeatPart.{SeatPart}
+use Rattle.epoch_pools.specs.declared.views.Standing.{Standing}
+use Rattle.epoch_pools.specs.declared.views.Standing.TheVariants.{Narrow}
+use Rattle.epoch_pools.specs.Passing.{after_look, HoldsToo}
+use Rattle.range_rw.proofs.Dues.{standing_wide, standing_narrow}
+use Rattle.range_rw.proofs.several.look_held.Goals as goal
+
+-- a wide range has passed all below `up`
+pub returns-then-own-eq0-clause-part : goal.returns-then-own-eq0-clause-part
+returns-then-own-eq0-clause-part g c = c.pass_held.ensures.part
+    ∙ ap (λ (s : Standing). after_look c.args.hand.now.part s) (sym (standing_wide c.args.own c.args.up c.if-own-eq0.true))
+
+-- a narrow one, which the hand's list holds, counts
+pub returns-else-own-eq0-clause-part : goal.returns-else-own-eq0-clause-part
+returns-else-own-eq0-clause-part g c = c.count_held.ensures.part
+    ∙ ap (λ (s : Standing). after_look c.args.hand.now.part s)
+    (ap Narrow c.requires.may.turned ∙ sym (standing_narrow c.args.own c.args.up c.if-own-eq0.false))
+
+-- list 0 is the one that a narrow range looks at
+pub count_held-requires-clause-too : goal.count_held-requires-clause-too
+count_held-requires-clause-too g c = subst (HoldsToo c.args.hand.now.part) (c.requires.may.first c.if-own-eq0.false) c.requires.too
