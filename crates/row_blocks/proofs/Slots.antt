@@ -13,11 +13,13 @@ use Rattle.row_blocks.specs.Blocks.{pieces, run, blocks_of, body_of, rows_of, bo
 use Rattle.row_blocks.proofs.Pieces.{at_piece, stands_at, same_pieces}
 use Rattle.row_blocks.proofs.Puts.{run_length, run_at}
 
-length-run : (from n : ℕ) → length (run from n) ≡ n
+-- so many numbers, one behind the other
+pub length-run : (from n : ℕ) → length (run from n) ≡ n
 length-run from zero = refl
 length-run from (suc n) = ap suc (length-run (suc from) n)
 
-at_run : (from n k : ℕ) → k < n → get_or (run from n) k 0 ≡ from + k
+-- and the number at a place
+pub at_run : (from n k : ℕ) → k < n → get_or (run from n) k 0 ≡ from + k
 at_run from zero k lt = absurd (omega arith)
 at_run from (suc n) zero lt = omega arith
 at_run from (suc n) (suc k) lt = let r = at_run (suc from) n k (omega arith) in omega arith

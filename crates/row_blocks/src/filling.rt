@@ -27,7 +27,7 @@ fn rows_each(blocks: usize, rows: usize) -> usize
     ensures fits { rows ≤ min result 48 + result * (blocks - 2) }
 {
     let used = 3 * blocks / 4;
-    if rows <= 24 * used.min(191) {
+    if rows <= 24 * used.min(255) {
         return 24;
     }
     if rows <= 48 * used.min(1023) {

@@ -10,7 +10,7 @@ ghost use Rattle.row_blocks.specs.Blocks.{IsLaidOut, blocks_of, rows_of, rows_in
 ghost use Rattle.row_blocks.specs.Searches.{IsLast};
 
 use crate::positions::{Position, body_of};
-use crate::words::Words;
+use crate::words::Loads;
 use page_types::LIMIT;
 
 /// A row that was found.
@@ -34,7 +34,7 @@ struct Halved {
 
 /// The last of so many words that starts at or before a page. The first one does, and isn't loaded; `end` is where the
 /// words behind start.
-fn halve<W: Words>(
+fn halve<W: Loads>(
     words: &W,
     hand: &mut W::Hand,
     from: usize,
@@ -79,7 +79,7 @@ fn halve<W: Words>(
 
 /// The row that has a page. Both levels are halved, and a word that was loaded isn't loaded again; the first block has
 /// at most 64 rows, so that its head has its place in the bound.
-pub fn find<W: Words>(words: &W, hand: &mut W::Hand, blocks: usize, page: u64) -> Found
+pub fn find<W: Loads>(words: &W, hand: &mut W::Hand, blocks: usize, page: u64) -> Found
     requires few { blocks ≤ 2048 }
     requires may { W.may_store words.now hand.old }
     requires laid { IsLaidOut blocks (W.words words.now hand.old) }

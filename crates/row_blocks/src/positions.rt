@@ -1,9 +1,10 @@
 //! Positions of rows: a block, and a place in it, of which 0 is the head. A reader may rely on the next row's position
 //! being told by the body word of the block alone.
-ghost use Rattle.std.specs.Prelude.{ℕ, ◌≡◌, ◌+◌, ◌*◌, ◌<◌, ◌≤◌, length};
+ghost use Rattle.std.specs.Prelude.{ℕ, ◌≡◌, ◌+◌, ◌*◌, ◌<◌, ◌≤◌, length, slice_index};
 ghost use Rattle.row_blocks.specs.Blocks.{IsLaidOut, blocks_of, body_at, rows_of, rows_in, rank};
+ghost use Rattle.row_blocks.specs.Positions.{IsNextPlace};
 
-use crate::words::Words;
+use crate::words::Loads;
 
 /// Where a row stands. Both numbers are counted from 0.
 #[derive(Clone, Copy, Debug, PartialEq, Eq)]
@@ -22,7 +23,7 @@ pub(crate) struct Body {
 }
 
 /// Loads the body word of a block.
-pub(crate) fn body_of<W: Words>(words: &W, hand: &mut W::Hand, blocks: usize, i: usize) -> Body
+pub(crate) fn body_of<W: Loads>(words: &W, hand: &mut W::Hand, blocks: usize, i: usize) -> Body
     requires few { blocks ≤ 2048 }
     requires may { W.may_store words.now hand.old }
     requires laid { IsLaidOut blocks (W.words words.now hand.old) }
@@ -42,38 +43,44 @@ pub(crate) fn body_of<W: Words>(words: &W, hand: &mut W::Hand, blocks: usize, i:
     }
 }
 
-/// The position of the row behind, where there is one.
-pub fn next<W: Words>(words: &W, hand: &mut W::Hand, blocks: usize, at: Position) -> Position
+/// The position of the row behind, or None behind the last row.
+pub fn next<W: Loads>(
+    words: &W,
+    hand: &mut W::Hand,
+    blocks: usize,
+    at: Position,
+) -> Option<Position>
     requires few { blocks ≤ 2048 }
     requires may { W.may_store words.now hand.old }
     requires laid { IsLaidOut blocks (W.words words.now hand.old) }
     requires there { at.block < blocks_of blocks (W.words words.now hand.old) }
     requires place { at.place ≤ rows_of blocks (W.words words.now hand.old) at.block }
-    requires more { rank blocks (W.words words.now hand.old) at.block at.place + 1 < length (rows_in blocks (W.words words.now hand.old)) }
-    ensures there { result.block < blocks_of blocks (W.words words.now hand.old) }
-    ensures place { result.place ≤ rows_of blocks (W.words words.now hand.old) result.block }
-    ensures rank { rank blocks (W.words words.now hand.old) result.block result.place ≡ rank blocks (W.words words.now hand.old) at.block at.place + 1 }
+    ensures next { IsNextPlace blocks (W.words words.now hand.old) (rank blocks (W.words words.now hand.old) at.block at.place) result }
     ensures words { (W.words words.now hand.new) ≡ (W.words words.now hand.old) }
     ensures may { W.may_store words.now hand.new }
     ensures rows { (w : ℕ) → W.is_row words.now hand.old w → W.is_row words.now hand.new w }
     ensures kept { W.kept words.now hand.old hand.new }
-    ensures step { W.steps words.now hand.new ≡ W.steps words.now hand.old + 1 }
+    ensures steps { W.steps words.now hand.new ≤ W.steps words.now hand.old + 2 }
 {
     let body = body_of(words, hand, blocks, at.block);
     if at.place < body.rows {
-        return Position {
+        return Some(Position {
             block: at.block,
             place: at.place + 1,
-        };
+        });
     }
-    Position {
-        block: at.block + 1,
-        place: 0,
+    let used = words.load(hand, 128 * blocks) as usize;
+    if at.block + 1 < used {
+        return Some(Position {
+            block: at.block + 1,
+            place: 0,
+        });
     }
+    None
 }
 
 /// The position of the row before, where there is one.
-pub fn previous<W: Words>(words: &W, hand: &mut W::Hand, blocks: usize, at: Position) -> Position
+pub fn previous<W: Loads>(words: &W, hand: &mut W::Hand, blocks: usize, at: Position) -> Position
     requires few { blocks ≤ 2048 }
     requires may { W.may_store words.now hand.old }
     requires laid { IsLaidOut blocks (W.words words.now hand.old) }
@@ -101,4 +108,26 @@ pub fn previous<W: Words>(words: &W, hand: &mut W::Hand, blocks: usize, at: Posi
         block: before,
         place: body.rows,
     }
+}
+
+/// The word of the row at a position.
+pub fn row_at<W: Loads>(words: &W, hand: &mut W::Hand, blocks: usize, at: Position) -> u64
+    requires few { blocks ≤ 2048 }
+    requires may { W.may_store words.now hand.old }
+    requires laid { IsLaidOut blocks (W.words words.now hand.old) }
+    requires there { at.block < blocks_of blocks (W.words words.now hand.old) }
+    requires place { at.place ≤ rows_of blocks (W.words words.now hand.old) at.block }
+    ensures word { result ≡ slice_index (rows_in blocks (W.words words.now hand.old))
+        (rank blocks (W.words words.now hand.old) at.block at.place) }
+    ensures words { (W.words words.now hand.new) ≡ (W.words words.now hand.old) }
+    ensures may { W.may_store words.now hand.new }
+    ensures rows { (w : ℕ) → W.is_row words.now hand.old w → W.is_row words.now hand.new w }
+    ensures kept { W.kept words.now hand.old hand.new }
+    ensures steps { W.steps words.now hand.new ≤ W.steps words.now hand.old + 2 }
+{
+    if at.place == 0 {
+        return words.load(hand, at.block);
+    }
+    let body = body_of(words, hand, blocks, at.block);
+    words.load(hand, body.at - 1 + at.place)
 }

@@ -9,16 +9,19 @@ use crate::positions::{Position, body_of};
 use crate::splitting::split;
 use crate::words::Words;
 
-/// How many rows a block may have before it is split, where so many blocks are in use.
-pub(crate) fn most_rows(count: usize, block: usize) -> usize
+/// How many rows a block may have before it is split, where so many of the blocks are in use: few, as long as more than
+/// half of them are free, and more where they get scarce.
+pub(crate) fn most_rows(blocks: usize, count: usize, block: usize) -> usize
+    requires few { blocks ≤ 2048 }
+    requires count { count ≤ blocks }
     ensures low { 32 ≤ result }
     ensures high { result ≤ 128 }
     ensures first { block ≡ 0 → result ≤ 64 }
 {
-    if count < 192 {
+    if count < 256 && 2 * count < blocks {
         return 32;
     }
-    if count < 1024 || block == 0 {
+    if block == 0 || count < 1024 && 4 * count < 3 * blocks {
         return 64;
     }
     128
@@ -101,7 +104,7 @@ pub(crate) fn make_room<W: Words>(
 {
     let count = words.load(hand, 128 * blocks) as usize;
     let body = body_of(words, hand, blocks, at.block);
-    if body.rows + 1 + more <= most_rows(count, at.block) {
+    if body.rows + 1 + more <= most_rows(blocks, count, at.block) {
         return at;
     }
     split_half(words, hand, blocks, at, body.rows)

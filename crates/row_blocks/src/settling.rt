@@ -85,7 +85,7 @@ fn merge_few<W: Words>(words: &W, hand: &mut W::Hand, blocks: usize, count: usiz
     }
     let one = body_of(words, hand, blocks, near);
     let other = body_of(words, hand, blocks, near + 1);
-    if 2 * (one.rows + other.rows + 2) > most_rows(count, near) {
+    if 2 * (one.rows + other.rows + 2) > most_rows(blocks, count, near) {
         return;
     }
     merge(words, hand, blocks, near);

@@ -5,7 +5,7 @@ ghost use Rattle.row_blocks.specs.Blocks.{IsLaidOut, blocks_of, rows_of, rows_in
 
 use crate::filling;
 use crate::positions::{Position, next, previous};
-use crate::words::Words;
+use crate::words::{Loads, Words};
 use crate::writing::write;
 use std::process::Abort;
 use std::test::Fail;
@@ -35,7 +35,7 @@ fn count<A: Abort>(rt: &A, bench: &mut Bench)
     bench.steps = steps;
 }
 
-impl<'a, A: Abort> Words for Plain<'a, A> {
+impl<'a, A: Abort> Loads for Plain<'a, A> {
     ghost use Rattle.std.specs.Prelude.{ℕ, length};
 
     type Hand = Bench;
@@ -60,7 +60,9 @@ impl<'a, A: Abort> Words for Plain<'a, A> {
         count(self.rt, hand);
         hand.words[place]
     }
+}
 
+impl<'a, A: Abort> Words for Plain<'a, A> {
     fn store(&self, hand: &mut Bench, place: usize, word: u64) {
         count(self.rt, hand);
         hand.words[place] = word;
@@ -227,7 +229,9 @@ fn expect<A: Abort>(
         let wanted = if k < 10 || k >= 31 { k } else { k + 250 };
         assert_eq!(rt; row(bench.words.as_slice(), blocks, at), wanted as u64);
         assert_eq!(rt; rows[k], wanted as u64);
-        let behind = next(words, bench, blocks, at);
+        let Some(behind) = next(words, bench, blocks, at) else {
+            panic!(rt; "no row behind row {k}");
+        };
         assert_eq!(rt; previous(words, bench, blocks, behind), at);
         at = behind;
         k += 1;

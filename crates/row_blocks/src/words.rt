@@ -4,9 +4,9 @@
 //! where another word stands; or of a word of the layout.
 ghost use Rattle.std.specs.Prelude.{ℕ, List, ◌≡◌, ◌≢◌, ◌<◌, ◌≤◌, ◌+◌, ◌*◌, length, slice_index, slice_set};
 
-/// Words that a hand may load and store. It then says what that leaves of the hand.
-pub trait Words {
-    /// What loads and stores need besides the words.
+/// Words that a hand may load. It then says what that leaves of the hand.
+pub trait Loads {
+    /// What loads, and stores, need besides the words.
     type Hand;
 
     /// How many blocks there is room for: 128 rows each, and behind all of them the words of the layout.
@@ -43,28 +43,31 @@ pub trait Words {
         ensures rows { (w : ℕ) → is_row self.now hand.old w → is_row self.now hand.new w }
         ensures kept { kept self.now hand.old hand.new }
         ensures step { steps self.now hand.new ≡ steps self.now hand.old + 1 };
+}
 
+/// Words that a hand may store as well.
+pub trait Words: Loads {
     /// Stores a row at a place of a row, where another word stands.
     fn store(&self, hand: &mut Self::Hand, place: usize, word: u64)
-        requires may { may_store self.now hand.old }
-        requires slot { place < 128 * blocks self.now }
-        requires there { place < length (words self.now hand.old) }
-        requires row { is_row self.now hand.old word }
-        requires differs { slice_index (words self.now hand.old) place ≢ word }
-        ensures words { words self.now hand.new ≡ slice_set (words self.now hand.old) place word }
-        ensures may { may_store self.now hand.new }
-        ensures rows { (w : ℕ) → is_row self.now hand.old w → is_row self.now hand.new w }
-        ensures kept { kept self.now hand.old hand.new }
-        ensures step { steps self.now hand.new ≡ steps self.now hand.old + 1 };
+        requires may { Self.may_store self.now hand.old }
+        requires slot { place < 128 * Self.blocks self.now }
+        requires there { place < length (Self.words self.now hand.old) }
+        requires row { Self.is_row self.now hand.old word }
+        requires differs { slice_index (Self.words self.now hand.old) place ≢ word }
+        ensures words { Self.words self.now hand.new ≡ slice_set (Self.words self.now hand.old) place word }
+        ensures may { Self.may_store self.now hand.new }
+        ensures rows { (w : ℕ) → Self.is_row self.now hand.old w → Self.is_row self.now hand.new w }
+        ensures kept { Self.kept self.now hand.old hand.new }
+        ensures step { Self.steps self.now hand.new ≡ Self.steps self.now hand.old + 1 };
 
     /// Stores a word of the layout: the block count, or a body word.
     fn store_layout(&self, hand: &mut Self::Hand, place: usize, word: u64)
-        requires may { may_store self.now hand.old }
-        requires layout { 128 * blocks self.now ≤ place }
-        requires there { place < length (words self.now hand.old) }
-        ensures words { words self.now hand.new ≡ slice_set (words self.now hand.old) place word }
-        ensures may { may_store self.now hand.new }
-        ensures rows { (w : ℕ) → is_row self.now hand.old w → is_row self.now hand.new w }
-        ensures kept { kept self.now hand.old hand.new }
-        ensures step { steps self.now hand.new ≡ steps self.now hand.old + 1 };
+        requires may { Self.may_store self.now hand.old }
+        requires layout { 128 * Self.blocks self.now ≤ place }
+        requires there { place < length (Self.words self.now hand.old) }
+        ensures words { Self.words self.now hand.new ≡ slice_set (Self.words self.now hand.old) place word }
+        ensures may { Self.may_store self.now hand.new }
+        ensures rows { (w : ℕ) → Self.is_row self.now hand.old w → Self.is_row self.now hand.new w }
+        ensures kept { Self.kept self.now hand.old hand.new }
+        ensures step { Self.steps self.now hand.new ≡ Self.steps self.now hand.old + 1 };
 }

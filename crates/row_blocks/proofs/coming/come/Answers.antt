@@ -9,23 +9,23 @@ use Rattle.row_blocks.proofs.coming.come.Goals as goal
 pub insert_all-requires-clause-rows : goal.insert_all-requires-clause-rows
 insert_all-requires-clause-rows g c =
     let ws = c.args.words.now in
-    subst (All (g.W.Words.is_row ws c.make_room-to.new.hand)) (sym c.make_room-to.ensures.same)
-    (All-weaker (g.W.Words.is_row ws c.args.hand.now) (g.W.Words.is_row ws c.make_room-to.new.hand) c.make_room-to.ensures.rows
-    (rows_in c.args.blocks (g.W.Words.words ws c.args.hand.now)) c.requires.rows)
+    subst (All (g.W.Loads.is_row ws c.make_room-to.new.hand)) (sym c.make_room-to.ensures.same)
+    (All-weaker (g.W.Loads.is_row ws c.args.hand.now) (g.W.Loads.is_row ws c.make_room-to.new.hand) c.make_room-to.ensures.rows
+    (rows_in c.args.blocks (g.W.Loads.words ws c.args.hand.now)) c.requires.rows)
 
 -- and those that come are rows
 pub insert_all-requires-clause-new : goal.insert_all-requires-clause-new
 insert_all-requires-clause-new g c =
     let ws = c.args.words.now in
-    All-weaker (g.W.Words.is_row ws c.args.hand.now) (g.W.Words.is_row ws c.make_room-to.new.hand) c.make_room-to.ensures.rows c.args.more.now c.requires.new
+    All-weaker (g.W.Loads.is_row ws c.args.hand.now) (g.W.Loads.is_row ws c.make_room-to.new.hand) c.make_room-to.ensures.rows c.args.more.now c.requires.new
 
 -- they come where the position is then
 pub returns-clause-spliced : goal.returns-clause-spliced
 returns-clause-spliced g c =
     let ws = c.args.words.now in
     let nb = c.args.blocks in
-    let one = g.W.Words.words ws c.args.hand.now in
-    let two = g.W.Words.words ws c.make_room-to.new.hand in
+    let one = g.W.Loads.words ws c.args.hand.now in
+    let two = g.W.Loads.words ws c.make_room-to.new.hand in
     let to = c.make_room-to.result in
     c.insert_all.ensures.spliced
     ∙ (ap (λ (l : List ℕ). splice l (rank nb two to.block to.place) (rank nb two to.block to.place) c.args.more.now) c.make_room-to.ensures.same
@@ -36,6 +36,6 @@ pub returns-clause-short : goal.returns-clause-short
 returns-clause-short g c =
     let ws = c.args.words.now in
     let free = c.requires.free in
-    stays_short c.args.blocks (g.W.Words.words ws c.make_room-to.new.hand) (g.W.Words.words ws c.insert_all.new.hand) c.make_room-to.result.block
+    stays_short c.args.blocks (g.W.Loads.words ws c.make_room-to.new.hand) (g.W.Loads.words ws c.insert_all.new.hand) c.make_room-to.result.block
     (length c.args.more.now)
     (omega arith) c.make_room-to.ensures.first c.make_room-to.ensures.short c.insert_all.ensures.grown c.insert_all.ensures.others

@@ -14,8 +14,8 @@ use Rattle.row_blocks.proofs.coming.insert_all.Goals as goal
 pub rows-init : goal.rows-init
 rows-init g c = record {
   laid = c.requires.laid;
-  spliced = sym (splice_none (rows_in c.args.blocks (g.W.Words.words c.args.words.now c.args.hand.now))
-      (rank c.args.blocks (g.W.Words.words c.args.words.now c.args.hand.now) c.args.at.block c.args.at.place));
+  spliced = sym (splice_none (rows_in c.args.blocks (g.W.Loads.words c.args.words.now c.args.hand.now))
+      (rank c.args.blocks (g.W.Loads.words c.args.words.now c.args.hand.now) c.args.at.block c.args.at.place));
   count = refl;
   grown = omega arith;
   others = λ i lt differ. refl;
@@ -23,7 +23,7 @@ rows-init g c = record {
   high = omega arith;
   may = c.requires.may;
   rows = λ w r. r;
-  kept = g.W.Words.no_step c.args.words.now c.args.hand.now;
+  kept = g.W.Loads.no_step c.args.words.now c.args.hand.now;
   steps = omega arith;
 }
 
@@ -33,16 +33,16 @@ insert-requires-clause-row g c =
     let ws = c.args.words.now in
     let lt = c.rows-test.true in
     c.rows.invariant.rows (slice_index c.args.more.now c.rows.k)
-    (All-get_or (g.W.Words.is_row ws c.args.hand.now) c.args.more.now c.rows.k 0 (omega arith) c.requires.new)
+    (All-get_or (g.W.Loads.is_row ws c.args.hand.now) c.args.more.now c.rows.k 0 (omega arith) c.requires.new)
 
 -- one more has come
 pub rows-preserved : goal.rows-preserved
 rows-preserved g c =
     let ws = c.args.words.now in
     let nb = c.args.blocks in
-    let one = g.W.Words.words ws c.args.hand.now in
-    let two = g.W.Words.words ws c.rows.hand in
-    let three = g.W.Words.words ws c.insert.new.hand in
+    let one = g.W.Loads.words ws c.args.hand.now in
+    let two = g.W.Loads.words ws c.rows.hand in
+    let three = g.W.Loads.words ws c.insert.new.hand in
     let inv = c.rows.invariant in
     let lt = c.rows-test.true in
     let i = c.args.at.block in
@@ -63,8 +63,8 @@ rows-preserved g c =
     let steps = inv.steps in
     let step = call.steps in
     let room = c.requires.room in
-    let is = All-get_or (g.W.Words.is_row ws c.args.hand.now) c.args.more.now k 0 (omega arith) c.requires.new in
-    let row : g.W.Words.is_row ws c.insert.new.hand w = call.rows w (inv.rows w is) in
+    let is = All-get_or (g.W.Loads.is_row ws c.args.hand.now) c.args.more.now k 0 (omega arith) c.requires.new in
+    let row : g.W.Loads.is_row ws c.insert.new.hand w = call.rows w (inv.rows w is) in
     record {
       laid = call.laid;
       spliced = comes_on (rows_in nb one) (rows_in nb two) (rows_in nb three) c.args.more.now r k (rank nb two i (c.args.at.place + k)) w
@@ -72,15 +72,15 @@ rows-preserved g c =
       count = call.count ∙ inv.count;
       grown = omega arith;
       others = λ j less differ. call.others j less differ ∙ inv.others j less differ;
-      all = subst (All (g.W.Words.is_row ws c.insert.new.hand)) (sym call.spliced)
-          (all_spliced (g.W.Words.is_row ws c.insert.new.hand) (rows_in nb two) (w ∷ []) (rank nb two i (c.args.at.place + k))
+      all = subst (All (g.W.Loads.is_row ws c.insert.new.hand)) (sym call.spliced)
+          (all_spliced (g.W.Loads.is_row ws c.insert.new.hand) (rows_in nb two) (w ∷ []) (rank nb two i (c.args.at.place + k))
           (rank nb two i (c.args.at.place + k))
-          (All-weaker (g.W.Words.is_row ws c.rows.hand) (g.W.Words.is_row ws c.insert.new.hand) call.rows (rows_in nb two) inv.all)
-          (All-cons (g.W.Words.is_row ws c.insert.new.hand) w [] row (All-nil (g.W.Words.is_row ws c.insert.new.hand))));
+          (All-weaker (g.W.Loads.is_row ws c.rows.hand) (g.W.Loads.is_row ws c.insert.new.hand) call.rows (rows_in nb two) inv.all)
+          (All-cons (g.W.Loads.is_row ws c.insert.new.hand) w [] row (All-nil (g.W.Loads.is_row ws c.insert.new.hand))));
       high = omega arith;
       may = call.may;
       rows = λ x p. call.rows x (inv.rows x p);
-      kept = g.W.Words.steps_on ws c.args.hand.now c.rows.hand c.insert.new.hand inv.kept call.kept;
+      kept = g.W.Loads.steps_on ws c.args.hand.now c.rows.hand c.insert.new.hand inv.kept call.kept;
       steps = omega arith;
     }
 
@@ -89,8 +89,8 @@ pub returns-clause-spliced : goal.returns-clause-spliced
 returns-clause-spliced g c =
     let ws = c.args.words.now in
     let nb = c.args.blocks in
-    let one = g.W.Words.words ws c.args.hand.now in
-    let two = g.W.Words.words ws c.rows.hand in
+    let one = g.W.Loads.words ws c.args.hand.now in
+    let two = g.W.Loads.words ws c.rows.hand in
     let r : ℕ = rank nb one c.args.at.block c.args.at.place in
     let more = c.args.more.now in
     let out = c.rows-test.false in

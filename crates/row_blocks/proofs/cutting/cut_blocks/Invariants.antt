@@ -5,15 +5,15 @@ use Rattle.row_blocks.proofs.cutting.cut_blocks.Given as goal
 -- whole blocks were passed, and the rows that are left to go are behind them
 abbrev pub invariant-whole : goal.invariant-whole
 invariant-whole g l = record {
-  words : g.W.Words.words l.words l.hand ≡ g.W.Words.words l.words l.initial.hand;
+  words : g.W.Loads.words l.words l.hand ≡ g.W.Loads.words l.words l.initial.hand;
   from : l.first ≤ l.end;
-  there : l.end ≤ blocks_of l.blocks (g.W.Words.words l.words l.initial.hand);
-  left : count_to l.blocks (g.W.Words.words l.words l.initial.hand) l.end + l.left
-      ≡ count_to l.blocks (g.W.Words.words l.words l.initial.hand) l.first + l.gone;
-  may : g.W.Words.may_store l.words l.hand;
-  rows : (w : ℕ) → g.W.Words.is_row l.words l.initial.hand w → g.W.Words.is_row l.words l.hand w;
-  kept : g.W.Words.kept l.words l.initial.hand l.hand;
-  steps : g.W.Words.steps l.words l.hand + l.first ≡ g.W.Words.steps l.words l.initial.hand + l.end;
+  there : l.end ≤ blocks_of l.blocks (g.W.Loads.words l.words l.initial.hand);
+  left : count_to l.blocks (g.W.Loads.words l.words l.initial.hand) l.end + l.left
+      ≡ count_to l.blocks (g.W.Loads.words l.words l.initial.hand) l.first + l.gone;
+  may : g.W.Loads.may_store l.words l.hand;
+  rows : (w : ℕ) → g.W.Loads.is_row l.words l.initial.hand w → g.W.Loads.is_row l.words l.hand w;
+  kept : g.W.Loads.kept l.words l.initial.hand l.hand;
+  steps : g.W.Loads.steps l.words l.hand + l.first ≡ g.W.Loads.steps l.words l.initial.hand + l.end;
 }
 
 abbrev pub decreases-whole : goal.decreases-whole

@@ -17,5 +17,5 @@ returns-clause-rest g c = λ some.
     let place = c.requires.place in
     let behind = c.requires.behind in
     let spare = c.requires.laid.spare in
-    rest_gone nb (g.W.Words.words c.args.words.now c.args.hand.now) (g.W.Words.words c.args.words.now c.delete.new.hand) i c.args.at.place c.min-cut.result
+    rest_gone nb (g.W.Loads.words c.args.words.now c.args.hand.now) (g.W.Loads.words c.args.words.now c.delete.new.hand) i c.args.at.place c.min-cut.result
     (omega arith) (λ k lt differ. c.delete.ensures.others k lt differ ∙ ap (λ (l : List ℕ). told nb l k) same) (omega arith) (omega arith)

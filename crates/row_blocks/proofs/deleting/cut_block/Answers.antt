@@ -8,16 +8,16 @@ pub returns-else-from-eq0-clause-cut : goal.returns-else-from-eq0-clause-cut
 returns-else-from-eq0-clause-cut g c =
     let ws = c.args.words.now in
     let call = c.copy-else-from-eq0 in
-    cut_behind (g.W.Words.words ws c.args.hand.now) (g.W.Words.words ws call.new.hand) c.args.head c.args.at c.args.count c.args.from c.args.until
+    cut_behind (g.W.Loads.words ws c.args.hand.now) (g.W.Loads.words ws call.new.hand) c.args.head c.args.at c.args.count c.args.from c.args.until
     (search rules) c.requires.ordered c.requires.there c.requires.head c.requires.wide call.ensures.copied
 
 -- or the head goes, and the first row of the body that stays takes its place
 pub returns-then-from-eq0-clause-cut : goal.returns-then-from-eq0-clause-cut
 returns-then-from-eq0-clause-cut g c =
     let ws = c.args.words.now in
-    let one = g.W.Words.words ws c.args.hand.now in
-    let mid = g.W.Words.words ws c.copy.new.hand in
-    let two = g.W.Words.words ws c.exchange.new.hand in
+    let one = g.W.Loads.words ws c.args.hand.now in
+    let mid = g.W.Loads.words ws c.copy.new.hand in
+    let two = g.W.Loads.words ws c.exchange.new.hand in
     let none : c.args.from ≡ 0 = search rules in
     let ordered = c.requires.ordered in
     let left = c.requires.left in
@@ -31,5 +31,5 @@ returns-then-from-eq0-clause-cut g c =
 pub returns-then-from-eq0-clause-kept : goal.returns-then-from-eq0-clause-kept
 returns-then-from-eq0-clause-kept g c =
     let ws = c.args.words.now in
-    let kept_1 = g.W.Words.steps_on ws c.args.hand.now c.load-first.new.hand c.copy.new.hand c.load-first.ensures.kept c.copy.ensures.kept in
-    g.W.Words.steps_on ws c.args.hand.now c.copy.new.hand c.exchange.new.hand kept_1 c.exchange.ensures.kept
+    let kept_1 = g.W.Loads.steps_on ws c.args.hand.now c.load-first.new.hand c.copy.new.hand c.load-first.ensures.kept c.copy.ensures.kept in
+    g.W.Loads.steps_on ws c.args.hand.now c.copy.new.hand c.exchange.new.hand kept_1 c.exchange.ensures.kept

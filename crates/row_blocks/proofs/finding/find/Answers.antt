@@ -11,39 +11,39 @@ use Rattle.row_blocks.proofs.finding.find.Goals.{After-halve-found}
 use Rattle.row_blocks.proofs.finding.find.Goals as goal
 
 -- the head that was found, among the words of before
-head : (g : Over) (c : After-halve-found g) → IsLast (g.W.Words.words c.args.words.now c.args.hand.now) 0
-    (blocks_of c.args.blocks (g.W.Words.words c.args.words.now c.args.hand.now)) c.args.page c.halve-heads.result.place c.halve-heads.result.word
+head : (g : Over) (c : After-halve-found g) → IsLast (g.W.Loads.words c.args.words.now c.args.hand.now) 0
+    (blocks_of c.args.blocks (g.W.Loads.words c.args.words.now c.args.hand.now)) c.args.page c.halve-heads.result.place c.halve-heads.result.word
     c.halve-heads.result.end
 head g c =
-    let one = g.W.Words.words c.args.words.now c.args.hand.now in
+    let one = g.W.Loads.words c.args.words.now c.args.hand.now in
     let to = c.halve-heads.result in
     subst (λ (n : ℕ). IsLast one 0 n c.args.page to.place to.word to.end) c.load-used.ensures.word
     (subst (λ (l : List ℕ). IsLast l 0 c.load-used.result c.args.page to.place to.word to.end) c.load-used.ensures.words c.halve-heads.ensures.found)
 
 -- nothing was stored meanwhile
-same : (g : Over) (c : After-halve-found g) → g.W.Words.words c.args.words.now c.body_of-body.new.hand
-    ≡ g.W.Words.words c.args.words.now c.args.hand.now
+same : (g : Over) (c : After-halve-found g) → g.W.Loads.words c.args.words.now c.body_of-body.new.hand
+    ≡ g.W.Loads.words c.args.words.now c.args.hand.now
 same g c = c.body_of-body.ensures.words ∙ (c.halve-heads.ensures.words ∙ c.load-used.ensures.words)
 
 -- where the body of the block stands
 at : (g : Over) (c : After-halve-found g) → c.body_of-body.result.at
-    ≡ body_at c.args.blocks (g.W.Words.words c.args.words.now c.args.hand.now) c.halve-heads.result.place
+    ≡ body_at c.args.blocks (g.W.Loads.words c.args.words.now c.args.hand.now) c.halve-heads.result.place
 at g c = c.body_of-body.ensures.at
     ∙ ap (λ (l : List ℕ). body_at c.args.blocks l c.halve-heads.result.place) (c.halve-heads.ensures.words ∙ c.load-used.ensures.words)
 
 -- and how many rows it has
 rows : (g : Over) (c : After-halve-found g) → c.body_of-body.result.rows
-    ≡ rows_of c.args.blocks (g.W.Words.words c.args.words.now c.args.hand.now) c.halve-heads.result.place
+    ≡ rows_of c.args.blocks (g.W.Loads.words c.args.words.now c.args.hand.now) c.halve-heads.result.place
 rows g c = c.body_of-body.ensures.rows
     ∙ ap (λ (l : List ℕ). rows_of c.args.blocks l c.halve-heads.result.place) (c.halve-heads.ensures.words ∙ c.load-used.ensures.words)
 
 -- the row that was found in its block
-row : (g : Over) (c : After-halve-found g) → IsLast (g.W.Words.words c.args.words.now c.args.hand.now)
-    (body_at c.args.blocks (g.W.Words.words c.args.words.now c.args.hand.now) c.halve-heads.result.place - 1)
-    (rows_of c.args.blocks (g.W.Words.words c.args.words.now c.args.hand.now) c.halve-heads.result.place + 1) c.args.page
+row : (g : Over) (c : After-halve-found g) → IsLast (g.W.Loads.words c.args.words.now c.args.hand.now)
+    (body_at c.args.blocks (g.W.Loads.words c.args.words.now c.args.hand.now) c.halve-heads.result.place - 1)
+    (rows_of c.args.blocks (g.W.Loads.words c.args.words.now c.args.hand.now) c.halve-heads.result.place + 1) c.args.page
     c.halve-found.result.place c.halve-found.result.word c.halve-found.result.end
 row g c =
-    let one = g.W.Words.words c.args.words.now c.args.hand.now in
+    let one = g.W.Loads.words c.args.words.now c.args.hand.now in
     let to = c.halve-found.result in
     let body = c.body_of-body.result in
     subst (λ (n : ℕ). IsLast one (n - 1) (rows_of c.args.blocks one c.halve-heads.result.place + 1) c.args.page to.place to.word to.end) (at g c)
@@ -54,10 +54,10 @@ row g c =
 end_is : (g : Over) (c : After-halve-found g)
     → (c.halve-found.result.place + 1 ≡ c.body_of-body.result.rows + 1 → c.halve-found.result.end ≡ c.halve-heads.result.end)
     → min c.halve-found.result.end LIMIT
-    ≡ rows_start (drop (rank c.args.blocks (g.W.Words.words c.args.words.now c.args.hand.now) c.halve-heads.result.place c.halve-found.result.place + 1)
-    (rows_in c.args.blocks (g.W.Words.words c.args.words.now c.args.hand.now)))
+    ≡ rows_start (drop (rank c.args.blocks (g.W.Loads.words c.args.words.now c.args.hand.now) c.halve-heads.result.place c.halve-found.result.place + 1)
+    (rows_in c.args.blocks (g.W.Loads.words c.args.words.now c.args.hand.now)))
 end_is g c last =
-    let one = g.W.Words.words c.args.words.now c.args.hand.now in
+    let one = g.W.Loads.words c.args.words.now c.args.hand.now in
     let nb = c.args.blocks in
     let i : ℕ = c.halve-heads.result.place in
     let h = head g c in
@@ -80,7 +80,7 @@ returns-then-found-gt0-clause-place g c = let r = row g (goal.at.returns-then-fo
 -- a row of a body
 pub returns-then-found-gt0-clause-word : goal.returns-then-found-gt0-clause-word
 returns-then-found-gt0-clause-word g c =
-    let one = g.W.Words.words c.args.words.now c.args.hand.now in
+    let one = g.W.Loads.words c.args.words.now c.args.hand.now in
     let k = (goal.at.returns-then-found-gt0-clause-word g c).After-halve-found in
     let h = head g k in
     let r = row g k in
@@ -108,7 +108,7 @@ returns-then-heads-gt0-clause-place g c = let r = row g (goal.at.returns-then-he
 -- a head that was loaded
 pub returns-then-heads-gt0-clause-word : goal.returns-then-heads-gt0-clause-word
 returns-then-heads-gt0-clause-word g c =
-    let one = g.W.Words.words c.args.words.now c.args.hand.now in
+    let one = g.W.Loads.words c.args.words.now c.args.hand.now in
     let nb = c.args.blocks in
     let h = head g (goal.at.returns-then-heads-gt0-clause-word g c).After-halve-found in
     let i : ℕ = c.halve-heads.result.place in
@@ -130,7 +130,7 @@ returns-then-heads-gt0-clause-from g c = let h = head g (goal.at.returns-then-he
 -- the first row of all
 pub returns-clause-word : goal.returns-clause-word
 returns-clause-word g c =
-    let one = g.W.Words.words c.args.words.now c.args.hand.now in
+    let one = g.W.Loads.words c.args.words.now c.args.hand.now in
     let nb = c.args.blocks in
     let k = (goal.at.returns-clause-word g c).After-halve-found in
     let none : 0 ≡ c.halve-found.result.place = let z = c.if-found-gt0.false in omega arith in
@@ -147,8 +147,8 @@ returns-clause-end g c =
     c.min-end.ensures ∙ end_is g (goal.at.returns-clause-end g c).After-halve-found c.halve-found.ensures.last
 
 -- so many steps are made up to the body
-steps_to : (g : Over) (c : After-halve-found g) → (m : ℕ) → blocks_of c.args.blocks (g.W.Words.words c.args.words.now c.args.hand.now) ≤ 2 ^ m
-    → g.W.Words.steps c.args.words.now c.body_of-body.new.hand ≤ g.W.Words.steps c.args.words.now c.args.hand.now + (m + 2)
+steps_to : (g : Over) (c : After-halve-found g) → (m : ℕ) → blocks_of c.args.blocks (g.W.Loads.words c.args.words.now c.args.hand.now) ≤ 2 ^ m
+    → g.W.Loads.steps c.args.words.now c.body_of-body.new.hand ≤ g.W.Loads.steps c.args.words.now c.args.hand.now + (m + 2)
 steps_to g c m le =
     let used = c.load-used.ensures.word in
     let one = c.load-used.ensures.step in
@@ -158,13 +158,13 @@ steps_to g c m le =
 
 -- and in it
 steps_in : (g : Over) (c : After-halve-found g) → (m : ℕ)
-    → rows_of c.args.blocks (g.W.Words.words c.args.words.now c.args.hand.now) c.halve-heads.result.place + 1 ≤ 2 ^ m
-    → g.W.Words.steps c.args.words.now c.halve-found.new.hand ≤ g.W.Words.steps c.args.words.now c.body_of-body.new.hand + m
+    → rows_of c.args.blocks (g.W.Loads.words c.args.words.now c.args.hand.now) c.halve-heads.result.place + 1 ≤ 2 ^ m
+    → g.W.Loads.steps c.args.words.now c.halve-found.new.hand ≤ g.W.Loads.steps c.args.words.now c.body_of-body.new.hand + m
 steps_in g c m le = let r = rows g c in c.halve-found.ensures.steps m (omega arith)
 
 -- any body takes seven
-steps_all : (g : Over) (c : After-halve-found g) → (m : ℕ) → blocks_of c.args.blocks (g.W.Words.words c.args.words.now c.args.hand.now) ≤ 2 ^ m
-    → g.W.Words.steps c.args.words.now c.halve-found.new.hand ≤ g.W.Words.steps c.args.words.now c.args.hand.now + (m + 9)
+steps_all : (g : Over) (c : After-halve-found g) → (m : ℕ) → blocks_of c.args.blocks (g.W.Loads.words c.args.words.now c.args.hand.now) ≤ 2 ^ m
+    → g.W.Loads.steps c.args.words.now c.halve-found.new.hand ≤ g.W.Loads.steps c.args.words.now c.args.hand.now + (m + 9)
 steps_all g c m le =
     let to = steps_to g c m le in
     let within = steps_in g c 7 (omega arith) in
@@ -172,10 +172,10 @@ steps_all g c m le =
 
 -- the first one, which has fewer rows, takes one less
 steps_first : (g : Over) (c : After-halve-found g) → 0 ≡ c.halve-heads.result.place → (m : ℕ)
-    → blocks_of c.args.blocks (g.W.Words.words c.args.words.now c.args.hand.now) ≤ 2 ^ m
-    → g.W.Words.steps c.args.words.now c.halve-found.new.hand ≤ g.W.Words.steps c.args.words.now c.args.hand.now + (m + 8)
+    → blocks_of c.args.blocks (g.W.Loads.words c.args.words.now c.args.hand.now) ≤ 2 ^ m
+    → g.W.Loads.steps c.args.words.now c.halve-found.new.hand ≤ g.W.Loads.steps c.args.words.now c.args.hand.now + (m + 8)
 steps_first g c first m le =
-    let one = g.W.Words.words c.args.words.now c.args.hand.now in
+    let one = g.W.Loads.words c.args.words.now c.args.hand.now in
     let short : rows_of c.args.blocks one c.halve-heads.result.place < 64 =
     subst (λ (i : ℕ). rows_of c.args.blocks one i < 64) first c.requires.short in
     let to = steps_to g c m le in
@@ -183,7 +183,7 @@ steps_first g c first m le =
     omega arith
 
 -- and the most blocks take eleven
-eleven : (g : Over) (c : After-halve-found g) → blocks_of c.args.blocks (g.W.Words.words c.args.words.now c.args.hand.now) ≤ 2 ^ 11
+eleven : (g : Over) (c : After-halve-found g) → blocks_of c.args.blocks (g.W.Loads.words c.args.words.now c.args.hand.now) ≤ 2 ^ 11
 eleven g c = let spare = c.requires.laid.spare in let few = c.requires.few in omega arith
 
 -- the steps to a row of a body
@@ -226,12 +226,12 @@ returns-clause-steps g c =
     omega arith
 
 -- all loads are one step
-kept_to : (g : Over) (c : After-halve-found g) → g.W.Words.kept c.args.words.now c.args.hand.now c.halve-found.new.hand
+kept_to : (g : Over) (c : After-halve-found g) → g.W.Loads.kept c.args.words.now c.args.hand.now c.halve-found.new.hand
 kept_to g c =
     let ws = c.args.words.now in
-    let one = g.W.Words.steps_on ws c.args.hand.now c.load-used.new.hand c.halve-heads.new.hand c.load-used.ensures.kept c.halve-heads.ensures.kept in
-    let two = g.W.Words.steps_on ws c.args.hand.now c.halve-heads.new.hand c.body_of-body.new.hand one c.body_of-body.ensures.kept in
-    g.W.Words.steps_on ws c.args.hand.now c.body_of-body.new.hand c.halve-found.new.hand two c.halve-found.ensures.kept
+    let one = g.W.Loads.steps_on ws c.args.hand.now c.load-used.new.hand c.halve-heads.new.hand c.load-used.ensures.kept c.halve-heads.ensures.kept in
+    let two = g.W.Loads.steps_on ws c.args.hand.now c.halve-heads.new.hand c.body_of-body.new.hand one c.body_of-body.ensures.kept in
+    g.W.Loads.steps_on ws c.args.hand.now c.body_of-body.new.hand c.halve-found.new.hand two c.halve-found.ensures.kept
 
 -- those of a row of a body
 pub returns-then-found-gt0-clause-kept : goal.returns-then-found-gt0-clause-kept
@@ -243,5 +243,5 @@ returns-then-heads-gt0-clause-kept g c = kept_to g (goal.at.returns-then-heads-g
 
 -- and with that of the first row
 pub returns-clause-kept : goal.returns-clause-kept
-returns-clause-kept g c = g.W.Words.steps_on c.args.words.now c.args.hand.now c.halve-found.new.hand c.load-word.new.hand
+returns-clause-kept g c = g.W.Loads.steps_on c.args.words.now c.args.hand.now c.halve-found.new.hand c.load-word.new.hand
     (kept_to g (goal.at.returns-clause-kept g c).After-halve-found) c.load-word.ensures.kept

@@ -6,7 +6,7 @@ use Rattle.row_blocks.proofs.finding.halve.Goals as goal
 -- all places are left
 pub halve-init : goal.halve-init
 halve-init g c =
-    let start = g.W.Words.steps c.args.words.now c.args.hand.now in
+    let start = g.W.Loads.steps c.args.words.now c.args.hand.now in
     let all : c.args.size ≡ c.args.size - 0 = omega arith in
     record {
       ordered = c.requires.some;
@@ -19,7 +19,7 @@ halve-init g c =
       same = refl;
       may = c.requires.may;
       rows = λ w r. r;
-      kept = g.W.Words.no_step c.args.words.now c.args.hand.now;
+      kept = g.W.Loads.no_step c.args.words.now c.args.hand.now;
       steps = subst (HasHalved start start c.args.size) all (halves_none start c.args.size);
     }
 
@@ -45,9 +45,9 @@ halve-preserved-then-read-page g c =
       same = load.words ∙ inv.same;
       may = load.may;
       rows = λ w r. load.rows w (inv.rows w r);
-      kept = g.W.Words.steps_on ws c.args.hand.now c.halve.hand c.load-read.new.hand inv.kept load.kept;
-      steps = subst (λ (n : ℕ). HasHalved (g.W.Words.steps ws c.args.hand.now) n c.args.size (c.halve.high - (c.halve.low + size / 2))) (sym load.step)
-          (halves_on (g.W.Words.steps ws c.args.hand.now) (g.W.Words.steps ws c.halve.hand) c.args.size size
+      kept = g.W.Loads.steps_on ws c.args.hand.now c.halve.hand c.load-read.new.hand inv.kept load.kept;
+      steps = subst (λ (n : ℕ). HasHalved (g.W.Loads.steps ws c.args.hand.now) n c.args.size (c.halve.high - (c.halve.low + size / 2))) (sym load.step)
+          (halves_on (g.W.Loads.steps ws c.args.hand.now) (g.W.Loads.steps ws c.halve.hand) c.args.size size
           (c.halve.high - (c.halve.low + size / 2)) inv.steps (omega arith) (omega arith));
     }
 
@@ -74,16 +74,16 @@ halve-preserved g c =
       same = load.words ∙ inv.same;
       may = load.may;
       rows = λ w r. load.rows w (inv.rows w r);
-      kept = g.W.Words.steps_on ws c.args.hand.now c.halve.hand c.load-read.new.hand inv.kept load.kept;
-      steps = subst (λ (n : ℕ). HasHalved (g.W.Words.steps ws c.args.hand.now) n c.args.size (c.halve.low + size / 2 - c.halve.low)) (sym load.step)
-          (halves_on (g.W.Words.steps ws c.args.hand.now) (g.W.Words.steps ws c.halve.hand) c.args.size size
+      kept = g.W.Loads.steps_on ws c.args.hand.now c.halve.hand c.load-read.new.hand inv.kept load.kept;
+      steps = subst (λ (n : ℕ). HasHalved (g.W.Loads.steps ws c.args.hand.now) n c.args.size (c.halve.low + size / 2 - c.halve.low)) (sym load.step)
+          (halves_on (g.W.Loads.steps ws c.args.hand.now) (g.W.Loads.steps ws c.halve.hand) c.args.size size
           (c.halve.low + size / 2 - c.halve.low) inv.steps (omega arith) (omega arith));
     }
 
 -- one place is left
 pub returns-clause-found : goal.returns-clause-found
 returns-clause-found g c =
-    let one = g.W.Words.words c.args.words.now c.args.hand.now in
+    let one = g.W.Loads.words c.args.words.now c.args.hand.now in
     let inv = c.halve.invariant in
     let out = c.halve-test.false in
     let ordered = inv.ordered in

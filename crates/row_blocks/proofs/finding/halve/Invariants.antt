@@ -9,16 +9,16 @@ abbrev pub invariant-halve : goal.invariant-halve
 invariant-halve g l = record {
   ordered : l.low < l.high;
   there : l.high ≤ l.size;
-  word : 0 < l.low → l.word ≡ slice_index (g.W.Words.words l.words l.initial.hand) (l.from + l.low);
+  word : 0 < l.low → l.word ≡ slice_index (g.W.Loads.words l.words l.initial.hand) (l.from + l.low);
   from : 0 < l.low → row_start l.word ≤ l.page;
   end : l.page < l.behind;
-  next : l.high < l.size → l.behind ≡ row_start (slice_index (g.W.Words.words l.words l.initial.hand) (l.from + l.high));
+  next : l.high < l.size → l.behind ≡ row_start (slice_index (g.W.Loads.words l.words l.initial.hand) (l.from + l.high));
   last : l.high ≡ l.size → l.behind ≡ l.end;
-  same : g.W.Words.words l.words l.hand ≡ g.W.Words.words l.words l.initial.hand;
-  may : g.W.Words.may_store l.words l.hand;
-  rows : (w : ℕ) → g.W.Words.is_row l.words l.initial.hand w → g.W.Words.is_row l.words l.hand w;
-  kept : g.W.Words.kept l.words l.initial.hand l.hand;
-  steps : HasHalved (g.W.Words.steps l.words l.initial.hand) (g.W.Words.steps l.words l.hand) l.size (l.high - l.low);
+  same : g.W.Loads.words l.words l.hand ≡ g.W.Loads.words l.words l.initial.hand;
+  may : g.W.Loads.may_store l.words l.hand;
+  rows : (w : ℕ) → g.W.Loads.is_row l.words l.initial.hand w → g.W.Loads.is_row l.words l.hand w;
+  kept : g.W.Loads.kept l.words l.initial.hand l.hand;
+  steps : HasHalved (g.W.Loads.steps l.words l.initial.hand) (g.W.Loads.steps l.words l.hand) l.size (l.high - l.low);
 }
 
 abbrev pub decreases-halve : goal.decreases-halve

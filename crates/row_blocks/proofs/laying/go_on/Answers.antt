@@ -5,7 +5,7 @@ use Rattle.row_blocks.proofs.laying.go_on.Goals as goal
 -- a row stands behind the block, so there is one behind it
 pub body_of-body-requires-clause-there : goal.body_of-body-requires-clause-there
 body_of-body-requires-clause-there g c =
-    let one = g.W.Words.words c.args.words.now c.args.hand.now in
+    let one = g.W.Loads.words c.args.words.now c.args.hand.now in
     let i = c.args.spot.at.block in
     let next = count_next c.args.blocks one i in
     let count = c.requires.count in
@@ -20,7 +20,7 @@ body_of-body-requires-clause-there g c =
 -- and it is in use
 pub returns-clause-there : goal.returns-clause-there
 returns-clause-there g c =
-    let one = g.W.Words.words c.args.words.now c.args.hand.now in
+    let one = g.W.Loads.words c.args.words.now c.args.hand.now in
     let i = c.args.spot.at.block in
     let next = count_next c.args.blocks one i in
     let count = c.requires.count in

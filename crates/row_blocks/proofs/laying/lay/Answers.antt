@@ -32,12 +32,12 @@ lay_rows-requires-clause-fits g c =
 
 pub lay_rows-requires-clause-more : goal.lay_rows-requires-clause-more
 lay_rows-requires-clause-more g c =
-    All-weaker (g.W.Words.is_row c.args.words.now c.args.hand.now) (g.W.Words.is_row c.args.words.now c.body_of-body.new.hand)
+    All-weaker (g.W.Loads.is_row c.args.words.now c.args.hand.now) (g.W.Loads.is_row c.args.words.now c.body_of-body.new.hand)
     c.body_of-body.ensures.stay c.args.more.now c.requires.more
 
 pub returns-clause-spliced : goal.returns-clause-spliced
 returns-clause-spliced g c =
-    subst (λ (l : List ℕ). rows_in c.args.blocks (g.W.Words.words c.args.words.now c.lay_rows.new.hand) ≡ splice (rows_in c.args.blocks l)
+    subst (λ (l : List ℕ). rows_in c.args.blocks (g.W.Loads.words c.args.words.now c.lay_rows.new.hand) ≡ splice (rows_in c.args.blocks l)
     (rank c.args.blocks l c.args.at.block c.args.at.place)
     (rank c.args.blocks l c.args.at.block c.args.at.place + length c.args.more.now) c.args.more.now) c.body_of-body.ensures.words c.lay_rows.ensures.spliced
 

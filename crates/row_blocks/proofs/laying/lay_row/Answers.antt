@@ -8,7 +8,7 @@ use Rattle.row_blocks.proofs.laying.lay_row.Goals.{After-slot_of-slot}
 use Rattle.row_blocks.proofs.laying.lay_row.Goals as goal
 
 -- where the row stands
-is_slot : (g : Over) (c : After-slot_of-slot g) → IsSlot c.args.blocks (g.W.Words.words c.args.words.now c.args.hand.now) c.args.spot.at.block
+is_slot : (g : Over) (c : After-slot_of-slot g) → IsSlot c.args.blocks (g.W.Loads.words c.args.words.now c.args.hand.now) c.args.spot.at.block
     c.args.spot.at.place c.slot_of-slot.result
 is_slot g c = record {
   there = c.requires.there;
@@ -20,7 +20,7 @@ is_slot g c = record {
 pub exchange-requires-clause-slot : goal.exchange-requires-clause-slot
 exchange-requires-clause-slot g c =
     let h = goal.at.exchange-requires-clause-slot g c in
-    let below = slot_below c.args.blocks (g.W.Words.words c.args.words.now c.args.hand.now) c.args.spot.at.block c.args.spot.at.place c.slot_of-slot.result
+    let below = slot_below c.args.blocks (g.W.Loads.words c.args.words.now c.args.hand.now) c.args.spot.at.block c.args.spot.at.place c.slot_of-slot.result
     c.requires.laid (is_slot g h.After-slot_of-slot) in
     let same = c.requires.blocks in
     omega arith
@@ -28,7 +28,7 @@ exchange-requires-clause-slot g c =
 pub exchange-requires-clause-there : goal.exchange-requires-clause-there
 exchange-requires-clause-there g c =
     let h = goal.at.exchange-requires-clause-there g c in
-    let below = slot_below c.args.blocks (g.W.Words.words c.args.words.now c.args.hand.now) c.args.spot.at.block c.args.spot.at.place c.slot_of-slot.result
+    let below = slot_below c.args.blocks (g.W.Loads.words c.args.words.now c.args.hand.now) c.args.spot.at.block c.args.spot.at.place c.slot_of-slot.result
     c.requires.laid (is_slot g h.After-slot_of-slot) in
     let wide = c.requires.laid.wide in
     omega arith
@@ -37,19 +37,19 @@ pub returns-clause-laid : goal.returns-clause-laid
 returns-clause-laid g c =
     let h = goal.at.returns-clause-laid g c in
     subst (IsLaidOut c.args.blocks) (sym c.exchange.ensures.words)
-    (laid_stored c.args.blocks (g.W.Words.words c.args.words.now c.args.hand.now) c.args.spot.at.block c.args.spot.at.place c.slot_of-slot.result c.args.word
+    (laid_stored c.args.blocks (g.W.Loads.words c.args.words.now c.args.hand.now) c.args.spot.at.block c.args.spot.at.place c.slot_of-slot.result c.args.word
     c.requires.laid (is_slot g h.After-slot_of-slot))
 
 pub returns-clause-laid_row : goal.returns-clause-laid_row
 returns-clause-laid_row g c =
     let h = goal.at.returns-clause-laid_row g c in
     ap (rows_in c.args.blocks) c.exchange.ensures.words
-    ∙ set_there c.args.blocks (g.W.Words.words c.args.words.now c.args.hand.now) c.args.spot.at.block c.args.spot.at.place c.slot_of-slot.result c.args.word
+    ∙ set_there c.args.blocks (g.W.Loads.words c.args.words.now c.args.hand.now) c.args.spot.at.block c.args.spot.at.place c.slot_of-slot.result c.args.word
     c.requires.laid (is_slot g h.After-slot_of-slot)
 
 pub returns-clause-layout : goal.returns-clause-layout
 returns-clause-layout g c =
     let h = goal.at.returns-clause-layout g c in
     λ t le. ap (λ (l : List ℕ). slice_index l t) c.exchange.ensures.words
-    ∙ layout_stays c.args.blocks (g.W.Words.words c.args.words.now c.args.hand.now) c.args.spot.at.block c.args.spot.at.place c.slot_of-slot.result
+    ∙ layout_stays c.args.blocks (g.W.Loads.words c.args.words.now c.args.hand.now) c.args.spot.at.block c.args.spot.at.place c.slot_of-slot.result
     c.args.word c.requires.laid (is_slot g h.After-slot_of-slot) t le

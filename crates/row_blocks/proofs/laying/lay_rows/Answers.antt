@@ -10,30 +10,30 @@ use Rattle.row_blocks.proofs.laying.lay_rows.Goals.{In-rows}
 use Rattle.row_blocks.proofs.laying.lay_rows.Goals as goal
 
 -- while rows are laid the layout is that of the beginning
-same : (g : Over) (c : In-rows g) → SameLayout c.args.blocks (g.W.Words.words c.args.words.now c.args.hand.now) (g.W.Words.words c.args.words.now c.rows.hand)
-same g c = same_layout c.args.blocks (g.W.Words.words c.args.words.now c.args.hand.now) (g.W.Words.words c.args.words.now c.rows.hand) c.rows.invariant.layout
+same : (g : Over) (c : In-rows g) → SameLayout c.args.blocks (g.W.Loads.words c.args.words.now c.args.hand.now) (g.W.Loads.words c.args.words.now c.rows.hand)
+same g c = same_layout c.args.blocks (g.W.Loads.words c.args.words.now c.args.hand.now) (g.W.Loads.words c.args.words.now c.rows.hand) c.rows.invariant.layout
 
 -- and the place behind those that are laid is one of now
-spot : (g : Over) (c : In-rows g) → IsSpot c.args.blocks (g.W.Words.words c.args.words.now c.rows.hand) c.rows.spot.at.block c.rows.spot.at.place
+spot : (g : Over) (c : In-rows g) → IsSpot c.args.blocks (g.W.Loads.words c.args.words.now c.rows.hand) c.rows.spot.at.block c.rows.spot.at.place
     c.rows.spot.body.at c.rows.spot.body.rows
-    (rank c.args.blocks (g.W.Words.words c.args.words.now c.args.hand.now) c.args.from.at.block c.args.from.at.place + c.rows.k)
-spot g c = spot_now c.args.blocks (g.W.Words.words c.args.words.now c.args.hand.now) (g.W.Words.words c.args.words.now c.rows.hand) c.rows.spot.at.block
+    (rank c.args.blocks (g.W.Loads.words c.args.words.now c.args.hand.now) c.args.from.at.block c.args.from.at.place + c.rows.k)
+spot g c = spot_now c.args.blocks (g.W.Loads.words c.args.words.now c.args.hand.now) (g.W.Loads.words c.args.words.now c.rows.hand) c.rows.spot.at.block
     c.rows.spot.at.place c.rows.spot.body.at c.rows.spot.body.rows
-    (rank c.args.blocks (g.W.Words.words c.args.words.now c.args.hand.now) c.args.from.at.block c.args.from.at.place + c.rows.k) (same g c)
+    (rank c.args.blocks (g.W.Loads.words c.args.words.now c.args.hand.now) c.args.from.at.block c.args.from.at.place + c.rows.k) (same g c)
     c.rows.invariant.spot
 
 -- nothing is laid yet
 pub rows-init : goal.rows-init
 rows-init g c = record {
   laid = c.requires.laid;
-  spliced = lays_none c.args.blocks (g.W.Words.words c.args.words.now c.args.hand.now) c.args.more.now
-      (rank c.args.blocks (g.W.Words.words c.args.words.now c.args.hand.now) c.args.from.at.block c.args.from.at.place);
+  spliced = lays_none c.args.blocks (g.W.Loads.words c.args.words.now c.args.hand.now) c.args.more.now
+      (rank c.args.blocks (g.W.Loads.words c.args.words.now c.args.hand.now) c.args.from.at.block c.args.from.at.place);
   layout = λ t le. refl;
   spot = record { there = c.requires.there; place = c.requires.place; body = c.requires.body; count = c.requires.count; rank = omega arith };
   high = omega arith;
   may = c.requires.may;
   rows = λ w r. r;
-  kept = g.W.Words.no_step c.args.words.now c.args.hand.now;
+  kept = g.W.Loads.no_step c.args.words.now c.args.hand.now;
   steps = omega arith;
 }
 
@@ -59,8 +59,8 @@ go_on-here-requires-clause-more g c =
     let ws = c.args.words.now in
     let h = (goal.at.go_on-here-requires-clause-more g c).In-rows in
     let lt : c.rows.k < length c.args.more.now = search rules in
-    spot_below c.args.blocks (g.W.Words.words ws c.args.hand.now) (g.W.Words.words ws c.rows.hand) c.rows.spot.at.block c.rows.spot.at.place
-    c.rows.spot.body.at c.rows.spot.body.rows (rank c.args.blocks (g.W.Words.words ws c.args.hand.now) c.args.from.at.block c.args.from.at.place) c.rows.k
+    spot_below c.args.blocks (g.W.Loads.words ws c.args.hand.now) (g.W.Loads.words ws c.rows.hand) c.rows.spot.at.block c.rows.spot.at.place
+    c.rows.spot.body.at c.rows.spot.body.rows (rank c.args.blocks (g.W.Loads.words ws c.args.hand.now) c.args.from.at.block c.args.from.at.place) c.rows.k
     (length c.args.more.now) c.requires.laid c.rows.invariant.laid (same g h) (spot g h) lt c.requires.fits
 
 pub lay_row-requires-clause-laid : goal.lay_row-requires-clause-laid
@@ -86,7 +86,7 @@ lay_row-requires-clause-row g c =
     let w = slice_index c.args.more.now c.rows.k in
     let lt = c.rows-test.true in
     c.go_on-here.ensures.rows w (c.rows.invariant.rows w
-    (All-get_or (g.W.Words.is_row ws c.args.hand.now) c.args.more.now c.rows.k 0 (omega arith) c.requires.more))
+    (All-get_or (g.W.Loads.is_row ws c.args.hand.now) c.args.more.now c.rows.k 0 (omega arith) c.requires.more))
 
 -- one row more is laid
 pub rows-preserved : goal.rows-preserved
@@ -94,9 +94,9 @@ rows-preserved g c =
     let ws = c.args.words.now in
     let nb = c.args.blocks in
     let h = (goal.at.rows-preserved g c).In-rows in
-    let one = g.W.Words.words ws c.args.hand.now in
-    let two = g.W.Words.words ws c.rows.hand in
-    let three = g.W.Words.words ws c.lay_row.new.hand in
+    let one = g.W.Loads.words ws c.args.hand.now in
+    let two = g.W.Loads.words ws c.rows.hand in
+    let three = g.W.Loads.words ws c.lay_row.new.hand in
     let inv = c.rows.invariant in
     let lt : c.rows.k < length c.args.more.now = search rules in
     let to = c.go_on-here.result in
@@ -116,8 +116,8 @@ rows-preserved g c =
       high = search rules;
       may = c.lay_row.ensures.may;
       rows = λ x p. c.lay_row.ensures.rows x (go.rows x (inv.rows x p));
-      kept = g.W.Words.steps_on ws c.args.hand.now c.go_on-here.new.hand c.lay_row.new.hand
-          (g.W.Words.steps_on ws c.args.hand.now c.rows.hand c.go_on-here.new.hand inv.kept go.kept) c.lay_row.ensures.kept;
+      kept = g.W.Loads.steps_on ws c.args.hand.now c.go_on-here.new.hand c.lay_row.new.hand
+          (g.W.Loads.steps_on ws c.args.hand.now c.rows.hand c.go_on-here.new.hand inv.kept go.kept) c.lay_row.ensures.kept;
       steps = lay_steps _ _ _ _ _ _ _ _ inv.steps go.steps c.lay_row.ensures.steps;
     }
 
@@ -126,8 +126,8 @@ pub returns-clause-spliced : goal.returns-clause-spliced
 returns-clause-spliced g c =
     let ws = c.args.words.now in
     let nb = c.args.blocks in
-    let one = g.W.Words.words ws c.args.hand.now in
-    let two = g.W.Words.words ws c.rows.hand in
+    let one = g.W.Loads.words ws c.args.hand.now in
+    let two = g.W.Loads.words ws c.rows.hand in
     let r : ℕ = rank nb one c.args.from.at.block c.args.from.at.place in
     let more = c.args.more.now in
     let out = c.rows-test.false in

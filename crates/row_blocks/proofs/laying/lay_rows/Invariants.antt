@@ -8,20 +8,20 @@ use Rattle.row_blocks.proofs.laying.lay_rows.Given as goal
 -- so many rows are laid, and the layout stands as it stood
 abbrev pub invariant-rows : goal.invariant-rows
 invariant-rows g l = record {
-  laid : IsLaidOut l.blocks (g.W.Words.words l.words l.hand);
-  spliced : rows_in l.blocks (g.W.Words.words l.words l.hand)
-      ≡ splice (rows_in l.blocks (g.W.Words.words l.words l.initial.hand))
-      (rank l.blocks (g.W.Words.words l.words l.initial.hand) l.fn.from.at.block l.fn.from.at.place)
-      (rank l.blocks (g.W.Words.words l.words l.initial.hand) l.fn.from.at.block l.fn.from.at.place + l.k) (take l.k l.more);
+  laid : IsLaidOut l.blocks (g.W.Loads.words l.words l.hand);
+  spliced : rows_in l.blocks (g.W.Loads.words l.words l.hand)
+      ≡ splice (rows_in l.blocks (g.W.Loads.words l.words l.initial.hand))
+      (rank l.blocks (g.W.Loads.words l.words l.initial.hand) l.fn.from.at.block l.fn.from.at.place)
+      (rank l.blocks (g.W.Loads.words l.words l.initial.hand) l.fn.from.at.block l.fn.from.at.place + l.k) (take l.k l.more);
   layout : (t : ℕ) → 128 * l.blocks ≤ t
-      → slice_index (g.W.Words.words l.words l.hand) t ≡ slice_index (g.W.Words.words l.words l.initial.hand) t;
-  spot : IsSpot l.blocks (g.W.Words.words l.words l.initial.hand) l.spot.at.block l.spot.at.place l.spot.body.at l.spot.body.rows
-      (rank l.blocks (g.W.Words.words l.words l.initial.hand) l.fn.from.at.block l.fn.from.at.place + l.k);
+      → slice_index (g.W.Loads.words l.words l.hand) t ≡ slice_index (g.W.Loads.words l.words l.initial.hand) t;
+  spot : IsSpot l.blocks (g.W.Loads.words l.words l.initial.hand) l.spot.at.block l.spot.at.place l.spot.body.at l.spot.body.rows
+      (rank l.blocks (g.W.Loads.words l.words l.initial.hand) l.fn.from.at.block l.fn.from.at.place + l.k);
   high : l.k ≤ length l.more;
-  may : g.W.Words.may_store l.words l.hand;
-  rows : (w : ℕ) → g.W.Words.is_row l.words l.initial.hand w → g.W.Words.is_row l.words l.hand w;
-  kept : g.W.Words.kept l.words l.initial.hand l.hand;
-  steps : g.W.Words.steps l.words l.hand + l.fn.from.at.block ≤ g.W.Words.steps l.words l.initial.hand + (2 * l.k + l.spot.at.block);
+  may : g.W.Loads.may_store l.words l.hand;
+  rows : (w : ℕ) → g.W.Loads.is_row l.words l.initial.hand w → g.W.Loads.is_row l.words l.hand w;
+  kept : g.W.Loads.kept l.words l.initial.hand l.hand;
+  steps : g.W.Loads.steps l.words l.hand + l.fn.from.at.block ≤ g.W.Loads.steps l.words l.initial.hand + (2 * l.k + l.spot.at.block);
 }
 
 abbrev pub decreases-rows : goal.decreases-rows

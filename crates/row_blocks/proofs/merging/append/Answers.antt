@@ -9,14 +9,14 @@ use Rattle.row_blocks.proofs.merging.append.Goals as goal
 
 -- what the last store leaves
 abbrev Stored : (g : Over) (c : After-store_layout g) → Type 0
-Stored g c = g.W.Words.words c.args.words.now c.store_layout.new.hand
-    ≡ slice_set (g.W.Words.words c.args.words.now c.copy.new.hand) (128 * c.args.blocks + 1 + c.args.i)
+Stored g c = g.W.Loads.words c.args.words.now c.store_layout.new.hand
+    ≡ slice_set (g.W.Loads.words c.args.words.now c.copy.new.hand) (128 * c.args.blocks + 1 + c.args.i)
     (c.load-packed.result + (c.load-other.result % 128 + 1))
 
 -- what stands after all stores
-done : (g : Over) (c : After-store_layout g) → Stored g c → IsAppended c.args.blocks (g.W.Words.words c.args.words.now c.args.hand.now)
-    (g.W.Words.words c.args.words.now c.exchange.new.hand) (g.W.Words.words c.args.words.now c.copy.new.hand)
-    (g.W.Words.words c.args.words.now c.store_layout.new.hand) c.args.i
+done : (g : Over) (c : After-store_layout g) → Stored g c → IsAppended c.args.blocks (g.W.Loads.words c.args.words.now c.args.hand.now)
+    (g.W.Loads.words c.args.words.now c.exchange.new.hand) (g.W.Loads.words c.args.words.now c.copy.new.hand)
+    (g.W.Loads.words c.args.words.now c.store_layout.new.hand) c.args.i
 done g c stored =
     let ws = c.args.words.now in
     let nb = c.args.blocks in
@@ -25,18 +25,18 @@ done g c stored =
     let same_3 = c.load-head.ensures.words ∙ same_2 in
     let other = c.load-other.ensures.word ∙ ap (λ (l : List ℕ). slice_index l (128 * nb + 1 + (c.args.i + 1))) same_1 in
     let head = c.load-head.ensures.word ∙ ap (λ (l : List ℕ). slice_index l (c.args.i + 1)) same_2 in
-    is_appended nb (g.W.Words.words ws c.args.hand.now) (g.W.Words.words ws c.load-head.new.hand) (g.W.Words.words ws c.exchange.new.hand)
-    (g.W.Words.words ws c.copy.new.hand) (g.W.Words.words ws c.store_layout.new.hand) c.args.i c.load-packed.result c.load-other.result c.load-head.result
+    is_appended nb (g.W.Loads.words ws c.args.hand.now) (g.W.Loads.words ws c.load-head.new.hand) (g.W.Loads.words ws c.exchange.new.hand)
+    (g.W.Loads.words ws c.copy.new.hand) (g.W.Loads.words ws c.store_layout.new.hand) c.args.i c.load-packed.result c.load-other.result c.load-head.result
     same_3 c.load-packed.ensures.word other head c.exchange.ensures.words c.copy.ensures.copied stored
 
 -- the head of the upper block is a row
 pub exchange-requires-clause-row : goal.exchange-requires-clause-row
 exchange-requires-clause-row g c =
     let ws = c.args.words.now in
-    subst (g.W.Words.is_row ws c.load-head.new.hand) (sym c.load-head.ensures.word)
-    (c.load-head.ensures.rows (slice_index (g.W.Words.words ws c.load-other.new.hand) (c.args.i + 1))
-    (first_loaded c.args.blocks (g.W.Words.words ws c.args.hand.now) (c.args.i + 1) c.requires.laid c.requires.there (g.W.Words.is_row ws c.args.hand.now)
-    (g.W.Words.is_row ws c.load-other.new.hand) (g.W.Words.words ws c.load-other.new.hand)
+    subst (g.W.Loads.is_row ws c.load-head.new.hand) (sym c.load-head.ensures.word)
+    (c.load-head.ensures.rows (slice_index (g.W.Loads.words ws c.load-other.new.hand) (c.args.i + 1))
+    (first_loaded c.args.blocks (g.W.Loads.words ws c.args.hand.now) (c.args.i + 1) c.requires.laid c.requires.there (g.W.Loads.is_row ws c.args.hand.now)
+    (g.W.Loads.is_row ws c.load-other.new.hand) (g.W.Loads.words ws c.load-other.new.hand)
     (λ w r. c.load-other.ensures.rows w (c.load-packed.ensures.rows w r)) (c.load-other.ensures.words ∙ c.load-packed.ensures.words) c.requires.rows))
 
 -- and so are those of its body, which stand as they stood
@@ -44,36 +44,36 @@ pub copy-requires-clause-rows : goal.copy-requires-clause-rows
 copy-requires-clause-rows g c =
     let ws = c.args.words.now in
     let nb = c.args.blocks in
-    let one = g.W.Words.words ws c.args.hand.now in
+    let one = g.W.Loads.words ws c.args.hand.now in
     let same_1 = c.load-packed.ensures.words in
     let same_3 = c.load-head.ensures.words ∙ (c.load-other.ensures.words ∙ same_1) in
     let other = c.load-other.ensures.word ∙ ap (λ (l : List ℕ). slice_index l (128 * nb + 1 + (c.args.i + 1))) same_1 in
     λ m lt.
     let s : ℕ = nb + 127 * (c.load-other.result / 128) + m in
-    let here : slice_index (g.W.Words.words ws c.exchange.new.hand) s ≡ slice_index one s =
-    started_stays nb one (g.W.Words.words ws c.load-head.new.hand) (g.W.Words.words ws c.exchange.new.hand) c.args.i c.load-packed.result
+    let here : slice_index (g.W.Loads.words ws c.exchange.new.hand) s ≡ slice_index one s =
+    started_stays nb one (g.W.Loads.words ws c.load-head.new.hand) (g.W.Loads.words ws c.exchange.new.hand) c.args.i c.load-packed.result
     c.load-other.result c.load-head.result m c.requires.laid c.requires.there c.requires.room same_3 c.load-packed.ensures.word other lt
     c.exchange.ensures.words in
-    subst (g.W.Words.is_row ws c.exchange.new.hand) (sym here)
+    subst (g.W.Loads.is_row ws c.exchange.new.hand) (sym here)
     (c.exchange.ensures.rows (slice_index one s) (c.load-head.ensures.rows (slice_index one s) (c.load-other.ensures.rows (slice_index one s)
     (c.load-packed.ensures.rows (slice_index one s)
-    (others_loaded nb one (c.args.i + 1) c.requires.laid c.requires.there (g.W.Words.is_row ws c.args.hand.now) (g.W.Words.is_row ws c.args.hand.now) one
+    (others_loaded nb one (c.args.i + 1) c.requires.laid c.requires.there (g.W.Loads.is_row ws c.args.hand.now) (g.W.Loads.is_row ws c.args.hand.now) one
     c.load-other.result (λ w r. r) refl other c.requires.rows s (omega arith) (omega arith))))))
 
 -- only the lower block has changed
-only : (g : Over) (c : After-store_layout g) → Stored g c → OnlyBlock c.args.blocks (g.W.Words.words c.args.words.now c.args.hand.now)
-    (g.W.Words.words c.args.words.now c.store_layout.new.hand) c.args.i
+only : (g : Over) (c : After-store_layout g) → Stored g c → OnlyBlock c.args.blocks (g.W.Loads.words c.args.words.now c.args.hand.now)
+    (g.W.Loads.words c.args.words.now c.store_layout.new.hand) c.args.i
 only g c stored =
     let ws = c.args.words.now in
-    append_only c.args.blocks (g.W.Words.words ws c.args.hand.now) (g.W.Words.words ws c.exchange.new.hand) (g.W.Words.words ws c.copy.new.hand)
-    (g.W.Words.words ws c.store_layout.new.hand) c.args.i c.requires.laid c.requires.there c.requires.room (done g c stored)
+    append_only c.args.blocks (g.W.Loads.words ws c.args.hand.now) (g.W.Loads.words ws c.exchange.new.hand) (g.W.Loads.words ws c.copy.new.hand)
+    (g.W.Loads.words ws c.store_layout.new.hand) c.args.i c.requires.laid c.requires.there c.requires.room (done g c stored)
 
 -- the words are laid out
 pub returns-clause-laid : goal.returns-clause-laid
 returns-clause-laid g c =
     let ws = c.args.words.now in
     let there = c.requires.there in
-    still_laid c.args.blocks (g.W.Words.words ws c.args.hand.now) (g.W.Words.words ws c.store_layout.new.hand) c.args.i c.requires.laid (omega arith)
+    still_laid c.args.blocks (g.W.Loads.words ws c.args.hand.now) (g.W.Loads.words ws c.store_layout.new.hand) c.args.i c.requires.laid (omega arith)
     (only g c c.store_layout.ensures.words)
 
 -- as the block count tells
@@ -81,29 +81,29 @@ pub returns-clause-count : goal.returns-clause-count
 returns-clause-count g c =
     let ws = c.args.words.now in
     let there = c.requires.there in
-    count_stays c.args.blocks (g.W.Words.words ws c.args.hand.now) (g.W.Words.words ws c.store_layout.new.hand) c.args.i c.requires.laid (omega arith)
+    count_stays c.args.blocks (g.W.Loads.words ws c.args.hand.now) (g.W.Loads.words ws c.store_layout.new.hand) c.args.i c.requires.laid (omega arith)
     (only g c c.store_layout.ensures.words)
 
 -- the rows of both stand in one block
 pub returns-clause-both : goal.returns-clause-both
 returns-clause-both g c =
     let ws = c.args.words.now in
-    both c.args.blocks (g.W.Words.words ws c.args.hand.now) (g.W.Words.words ws c.exchange.new.hand) (g.W.Words.words ws c.copy.new.hand)
-    (g.W.Words.words ws c.store_layout.new.hand) c.args.i c.requires.laid c.requires.there c.requires.room (done g c c.store_layout.ensures.words)
+    both c.args.blocks (g.W.Loads.words ws c.args.hand.now) (g.W.Loads.words ws c.exchange.new.hand) (g.W.Loads.words ws c.copy.new.hand)
+    (g.W.Loads.words ws c.store_layout.new.hand) c.args.i c.requires.laid c.requires.there c.requires.room (done g c c.store_layout.ensures.words)
 
 -- the block has more rows
 pub returns-clause-more : goal.returns-clause-more
 returns-clause-more g c =
     let ws = c.args.words.now in
-    append_more c.args.blocks (g.W.Words.words ws c.args.hand.now) (g.W.Words.words ws c.exchange.new.hand) (g.W.Words.words ws c.copy.new.hand)
-    (g.W.Words.words ws c.store_layout.new.hand) c.args.i c.requires.laid c.requires.there c.requires.room (done g c c.store_layout.ensures.words)
+    append_more c.args.blocks (g.W.Loads.words ws c.args.hand.now) (g.W.Loads.words ws c.exchange.new.hand) (g.W.Loads.words ws c.copy.new.hand)
+    (g.W.Loads.words ws c.store_layout.new.hand) c.args.i c.requires.laid c.requires.there c.requires.room (done g c c.store_layout.ensures.words)
 
 -- and the other blocks as they stood
 pub returns-clause-blocks : goal.returns-clause-blocks
 returns-clause-blocks g c =
     let ws = c.args.words.now in
     let there = c.requires.there in
-    other_block c.args.blocks (g.W.Words.words ws c.args.hand.now) (g.W.Words.words ws c.store_layout.new.hand) c.args.i c.requires.laid (omega arith)
+    other_block c.args.blocks (g.W.Loads.words ws c.args.hand.now) (g.W.Loads.words ws c.store_layout.new.hand) c.args.i c.requires.laid (omega arith)
     (only g c c.store_layout.ensures.words)
 
 -- and the other body words stand as they stood
@@ -111,15 +111,15 @@ pub returns-clause-others : goal.returns-clause-others
 returns-clause-others g c =
     let ws = c.args.words.now in
     let there = c.requires.there in
-    body_word_stays c.args.blocks (g.W.Words.words ws c.args.hand.now) (g.W.Words.words ws c.store_layout.new.hand) c.args.i c.requires.laid (omega arith)
+    body_word_stays c.args.blocks (g.W.Loads.words ws c.args.hand.now) (g.W.Loads.words ws c.store_layout.new.hand) c.args.i c.requires.laid (omega arith)
     (only g c c.store_layout.ensures.words)
 
 -- all steps are one
 pub returns-clause-kept : goal.returns-clause-kept
 returns-clause-kept g c =
     let ws = c.args.words.now in
-    let kept_1 = g.W.Words.steps_on ws c.args.hand.now c.load-packed.new.hand c.load-other.new.hand c.load-packed.ensures.kept c.load-other.ensures.kept in
-    let kept_2 = g.W.Words.steps_on ws c.args.hand.now c.load-other.new.hand c.load-head.new.hand kept_1 c.load-head.ensures.kept in
-    let kept_3 = g.W.Words.steps_on ws c.args.hand.now c.load-head.new.hand c.exchange.new.hand kept_2 c.exchange.ensures.kept in
-    let kept_4 = g.W.Words.steps_on ws c.args.hand.now c.exchange.new.hand c.copy.new.hand kept_3 c.copy.ensures.kept in
-    g.W.Words.steps_on ws c.args.hand.now c.copy.new.hand c.store_layout.new.hand kept_4 c.store_layout.ensures.kept
+    let kept_1 = g.W.Loads.steps_on ws c.args.hand.now c.load-packed.new.hand c.load-other.new.hand c.load-packed.ensures.kept c.load-other.ensures.kept in
+    let kept_2 = g.W.Loads.steps_on ws c.args.hand.now c.load-other.new.hand c.load-head.new.hand kept_1 c.load-head.ensures.kept in
+    let kept_3 = g.W.Loads.steps_on ws c.args.hand.now c.load-head.new.hand c.exchange.new.hand kept_2 c.exchange.ensures.kept in
+    let kept_4 = g.W.Loads.steps_on ws c.args.hand.now c.exchange.new.hand c.copy.new.hand kept_3 c.copy.ensures.kept in
+    g.W.Loads.steps_on ws c.args.hand.now c.copy.new.hand c.store_layout.new.hand kept_4 c.store_layout.ensures.kept

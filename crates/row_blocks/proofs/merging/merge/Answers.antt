@@ -6,7 +6,7 @@ pub returns-clause-same : goal.returns-clause-same
 returns-clause-same g c =
     let ws = c.args.words.now in
     let a = c.append.ensures in
-    merged c.args.blocks (g.W.Words.words ws c.args.hand.now) (g.W.Words.words ws c.append.new.hand) (g.W.Words.words ws c.take_out.new.hand) c.args.i
+    merged c.args.blocks (g.W.Loads.words ws c.args.hand.now) (g.W.Loads.words ws c.append.new.hand) (g.W.Loads.words ws c.take_out.new.hand) c.args.i
     c.requires.laid a.laid c.requires.there a.count a.both a.blocks c.take_out.ensures.spliced
 
 -- all rows are rows while some stand twice
@@ -14,5 +14,5 @@ pub take_out-requires-clause-rows : goal.take_out-requires-clause-rows
 take_out-requires-clause-rows g c =
     let ws = c.args.words.now in
     let a = c.append.ensures in
-    rows_appended c.args.blocks (g.W.Words.words ws c.args.hand.now) (g.W.Words.words ws c.append.new.hand) c.args.i c.requires.laid c.requires.there
-    (g.W.Words.is_row ws c.args.hand.now) (g.W.Words.is_row ws c.append.new.hand) a.rows a.count a.both a.blocks c.requires.rows
+    rows_appended c.args.blocks (g.W.Loads.words ws c.args.hand.now) (g.W.Loads.words ws c.append.new.hand) c.args.i c.requires.laid c.requires.there
+    (g.W.Loads.is_row ws c.args.hand.now) (g.W.Loads.is_row ws c.append.new.hand) a.rows a.count a.both a.blocks c.requires.rows

@@ -6,7 +6,7 @@ use Rattle.row_blocks.proofs.moves.exchange.Goals as goal
 -- where the row stands there already, nothing changes
 pub returns-then-stood-word-clause-words : goal.returns-then-stood-word-clause-words
 returns-then-stood-word-clause-words g c =
-    let old = g.W.Words.words c.args.words.now c.args.hand.now in
+    let old = g.W.Loads.words c.args.words.now c.args.hand.now in
     let e : c.load-stood.result ≡ c.args.word = search rules in
     c.load-stood.ensures.words ∙ set_stood old c.args.place c.args.word c.requires.there (sym c.load-stood.ensures.word ∙ e)
 

@@ -5,14 +5,14 @@ use Rattle.row_blocks.proofs.moves.raise.Given as goal
 -- the words before a place have moved up, and the last of them is carried
 abbrev pub invariant-shift : goal.invariant-shift
 invariant-shift g l = record {
-  pushing : IsPushing (g.W.Words.words l.words l.initial.hand) (g.W.Words.words l.words l.hand) l.from l.to l.word l.carried;
+  pushing : IsPushing (g.W.Loads.words l.words l.initial.hand) (g.W.Loads.words l.words l.hand) l.from l.to l.word l.carried;
   low : l.from ≤ l.to;
   high : l.to ≤ l.until;
-  row : g.W.Words.is_row l.words l.hand l.carried;
-  may : g.W.Words.may_store l.words l.hand;
-  rows : (w : ℕ) → g.W.Words.is_row l.words l.initial.hand w → g.W.Words.is_row l.words l.hand w;
-  kept : g.W.Words.kept l.words l.initial.hand l.hand;
-  steps : g.W.Words.steps l.words l.hand + 2 * l.from ≤ g.W.Words.steps l.words l.initial.hand + 2 * l.to;
+  row : g.W.Loads.is_row l.words l.hand l.carried;
+  may : g.W.Loads.may_store l.words l.hand;
+  rows : (w : ℕ) → g.W.Loads.is_row l.words l.initial.hand w → g.W.Loads.is_row l.words l.hand w;
+  kept : g.W.Loads.kept l.words l.initial.hand l.hand;
+  steps : g.W.Loads.steps l.words l.hand + 2 * l.from ≤ g.W.Loads.steps l.words l.initial.hand + 2 * l.to;
 }
 
 abbrev pub decreases-shift : goal.decreases-shift

@@ -1,23 +1,43 @@
-use Rattle.std.proofs.Common.{◌+◌, arith}
-use Rattle.row_blocks.proofs.Counts.{count_next, block_there}
+use Rattle.std.proofs.Common.{◌≡◌, ℕ, ◌+◌, ◌*◌, ◌∙◌, List, ap, arith}
+use Rattle.std.specs.Prelude.{slice_index}
+use Rattle.row_blocks.specs.Blocks.{blocks_of, count_to}
+use Rattle.row_blocks.proofs.Counts.{count_next}
+use Rattle.row_blocks.proofs.Slots.{length-rows_in}
 use Rattle.row_blocks.proofs.positions.next.Goals as goal
 
--- behind the last row of a block comes the head of the next one
-pub returns-clause-there : goal.returns-clause-there
-returns-clause-there g c =
-    let one = g.W.Words.words c.args.words.now c.args.hand.now in
-    let next = count_next c.args.blocks one c.args.at.block in
+-- behind a row comes the next one of its block
+pub returns-then-at-body-clause-next : goal.returns-then-at-body-clause-next
+returns-then-at-body-clause-next g c =
+    let rows = c.body_of-body.ensures.rows in
+    let lt = c.if-at-body.true in
+    record { there = c.requires.there; place = omega arith; number = omega arith }
+
+-- and behind the last one the head of the next block
+pub returns-then-at-used-clause-next : goal.returns-then-at-used-clause-next
+returns-then-at-used-clause-next g c =
+    let nb = c.args.blocks in
+    let one = g.W.Loads.words c.args.words.now c.args.hand.now in
+    let next = count_next nb one c.args.at.block in
+    let rows = c.body_of-body.ensures.rows in
+    let full = c.if-at-body.false in
+    let place = c.requires.place in
+    let used = c.load-used.ensures.word ∙ ap (λ (l : List ℕ). slice_index l (128 * nb)) c.body_of-body.ensures.words in
+    let more = c.if-at-used.true in
+    record { there = omega arith; place = omega arith; number = omega arith }
+
+-- or there is none
+pub returns-clause-next : goal.returns-clause-next
+returns-clause-next g c =
+    let nb = c.args.blocks in
+    let one = g.W.Loads.words c.args.words.now c.args.hand.now in
+    let next = count_next nb one c.args.at.block in
     let rows = c.body_of-body.ensures.rows in
     let full = c.if-at-body.false in
     let place = c.requires.place in
     let there = c.requires.there in
-    let more = c.requires.more in
-    block_there c.args.blocks one (c.args.at.block + 1) c.requires.laid (omega arith) (omega arith)
-
-pub returns-clause-rank : goal.returns-clause-rank
-returns-clause-rank g c =
-    let next = count_next c.args.blocks (g.W.Words.words c.args.words.now c.args.hand.now) c.args.at.block in
-    let rows = c.body_of-body.ensures.rows in
-    let full = c.if-at-body.false in
-    let place = c.requires.place in
+    let used = c.load-used.ensures.word ∙ ap (λ (l : List ℕ). slice_index l (128 * nb)) c.body_of-body.ensures.words in
+    let none = c.if-at-used.false in
+    let last : c.args.at.block + 1 ≡ blocks_of nb one = omega arith in
+    let all = ap (count_to nb one) last in
+    let long = length-rows_in nb one c.requires.laid in
     omega arith

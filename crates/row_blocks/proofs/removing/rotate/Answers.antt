@@ -7,11 +7,11 @@ use Rattle.row_blocks.proofs.removing.rotate.Goals as goal
 pub bodies-init : goal.bodies-init
 bodies-init g c = record {
   bodies = c.requires.bodies;
-  rotated = rotates_none c.args.blocks (g.W.Words.words c.args.words.now c.args.hand.now) c.args.to c.args.gap;
+  rotated = rotates_none c.args.blocks (g.W.Loads.words c.args.words.now c.args.hand.now) c.args.to c.args.gap;
   high = omega arith;
   may = c.requires.may;
   rows = λ w r. r;
-  kept = g.W.Words.no_step c.args.words.now c.args.hand.now;
+  kept = g.W.Loads.no_step c.args.words.now c.args.hand.now;
   steps = omega arith;
 }
 
@@ -26,12 +26,12 @@ bodies-preserved g c =
     let more = call.ensures.steps in
     record {
       bodies = call.ensures.bodies;
-      rotated = rotates_on c.args.blocks (g.W.Words.words ws c.args.hand.now) (g.W.Words.words ws c.bodies.hand) (g.W.Words.words ws call.new.hand)
+      rotated = rotates_on c.args.blocks (g.W.Loads.words ws c.args.hand.now) (g.W.Loads.words ws c.bodies.hand) (g.W.Loads.words ws call.new.hand)
           c.args.to c.args.gap c.bodies.k c.requires.some inv.rotated call.ensures.swapped;
       high = omega arith;
       may = call.ensures.may;
       rows = λ w r. call.ensures.rows w (inv.rows w r);
-      kept = g.W.Words.steps_on ws c.args.hand.now c.bodies.hand call.new.hand inv.kept call.ensures.kept;
+      kept = g.W.Loads.steps_on ws c.args.hand.now c.bodies.hand call.new.hand inv.kept call.ensures.kept;
       steps = omega arith;
     }
 
@@ -43,4 +43,4 @@ returns-clause-rotated g c =
     let out = c.bodies-test.false in
     let high = inv.high in
     let all : c.bodies.k ≡ c.args.count = omega arith in
-    subst (IsRotated c.args.blocks (g.W.Words.words ws c.args.hand.now) (g.W.Words.words ws c.bodies.hand) c.args.to c.args.gap) all inv.rotated
+    subst (IsRotated c.args.blocks (g.W.Loads.words ws c.args.hand.now) (g.W.Loads.words ws c.bodies.hand) c.args.to c.args.gap) all inv.rotated

@@ -6,13 +6,13 @@ use Rattle.row_blocks.proofs.removing.rotate.Given as goal
 -- so many body words have moved down, and those behind stand as they stood
 abbrev pub invariant-bodies : goal.invariant-bodies
 invariant-bodies g l = record {
-  bodies : AreBodies l.blocks (g.W.Words.words l.words l.hand);
-  rotated : IsRotated l.blocks (g.W.Words.words l.words l.initial.hand) (g.W.Words.words l.words l.hand) l.to l.gap l.k;
+  bodies : AreBodies l.blocks (g.W.Loads.words l.words l.hand);
+  rotated : IsRotated l.blocks (g.W.Loads.words l.words l.initial.hand) (g.W.Loads.words l.words l.hand) l.to l.gap l.k;
   high : l.k ≤ l.count;
-  may : g.W.Words.may_store l.words l.hand;
-  rows : (w : ℕ) → g.W.Words.is_row l.words l.initial.hand w → g.W.Words.is_row l.words l.hand w;
-  kept : g.W.Words.kept l.words l.initial.hand l.hand;
-  steps : g.W.Words.steps l.words l.hand ≤ g.W.Words.steps l.words l.initial.hand + 4 * l.k;
+  may : g.W.Loads.may_store l.words l.hand;
+  rows : (w : ℕ) → g.W.Loads.is_row l.words l.initial.hand w → g.W.Loads.is_row l.words l.hand w;
+  kept : g.W.Loads.kept l.words l.initial.hand l.hand;
+  steps : g.W.Loads.steps l.words l.hand ≤ g.W.Loads.steps l.words l.initial.hand + 4 * l.k;
 }
 
 abbrev pub decreases-bodies : goal.decreases-bodies

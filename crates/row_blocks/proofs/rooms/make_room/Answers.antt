@@ -12,9 +12,9 @@ pub split_half-requires-clause-rows : goal.split_half-requires-clause-rows
 split_half-requires-clause-rows g c =
     let same = c.body_of-body.ensures.words ∙ c.load-count.ensures.words in
     let ws = c.args.words.now in
-    subst (λ (l : List ℕ). All (g.W.Words.is_row ws c.body_of-body.new.hand) (rows_in c.args.blocks l)) (sym same)
-    (All-weaker (g.W.Words.is_row ws c.args.hand.now) (g.W.Words.is_row ws c.body_of-body.new.hand)
-    (λ w p. c.body_of-body.ensures.stay w (c.load-count.ensures.rows w p)) (rows_in c.args.blocks (g.W.Words.words ws c.args.hand.now)) c.requires.rows)
+    subst (λ (l : List ℕ). All (g.W.Loads.is_row ws c.body_of-body.new.hand) (rows_in c.args.blocks l)) (sym same)
+    (All-weaker (g.W.Loads.is_row ws c.args.hand.now) (g.W.Loads.is_row ws c.body_of-body.new.hand)
+    (λ w p. c.body_of-body.ensures.stay w (c.load-count.ensures.rows w p)) (rows_in c.args.blocks (g.W.Loads.words ws c.args.hand.now)) c.requires.rows)
 
 pub split_half-requires-clause-there : goal.split_half-requires-clause-there
 split_half-requires-clause-there g c =
@@ -43,18 +43,18 @@ split_half-requires-clause-short g c =
 pub returns-clause-same : goal.returns-clause-same
 returns-clause-same g c =
     let same = c.body_of-body.ensures.words ∙ c.load-count.ensures.words in
-    subst (λ (l : List ℕ). rows_in c.args.blocks (g.W.Words.words c.args.words.now c.split_half.new.hand) ≡ rows_in c.args.blocks l) same
+    subst (λ (l : List ℕ). rows_in c.args.blocks (g.W.Loads.words c.args.words.now c.split_half.new.hand) ≡ rows_in c.args.blocks l) same
     c.split_half.ensures.same
 
 pub returns-clause-rank : goal.returns-clause-rank
 returns-clause-rank g c =
     let same = c.body_of-body.ensures.words ∙ c.load-count.ensures.words in
-    subst (λ (l : List ℕ). rank c.args.blocks (g.W.Words.words c.args.words.now c.split_half.new.hand) c.split_half.result.block c.split_half.result.place ≡
+    subst (λ (l : List ℕ). rank c.args.blocks (g.W.Loads.words c.args.words.now c.split_half.new.hand) c.split_half.result.block c.split_half.result.place ≡
     rank c.args.blocks l c.args.at.block c.args.at.place) same c.split_half.ensures.rank
 
 -- all steps are one
 pub returns-clause-kept : goal.returns-clause-kept
 returns-clause-kept g c =
     let ws = c.args.words.now in
-    let read = g.W.Words.steps_on ws c.args.hand.now c.load-count.new.hand c.body_of-body.new.hand c.load-count.ensures.kept c.body_of-body.ensures.kept in
-    g.W.Words.steps_on ws c.args.hand.now c.body_of-body.new.hand c.split_half.new.hand read c.split_half.ensures.kept
+    let read = g.W.Loads.steps_on ws c.args.hand.now c.load-count.new.hand c.body_of-body.new.hand c.load-count.ensures.kept c.body_of-body.ensures.kept in
+    g.W.Loads.steps_on ws c.args.hand.now c.body_of-body.new.hand c.split_half.new.hand read c.split_half.ensures.kept

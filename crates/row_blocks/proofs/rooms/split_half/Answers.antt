@@ -6,10 +6,10 @@ use Rattle.row_blocks.specs.Blocks.{rows_of}
 use Rattle.row_blocks.proofs.rooms.split_half.Goals as goal
 
 -- block 0 has at most 64 rows still
-short : (g : Over) (c : After-split g) → rows_of c.args.blocks (g.W.Words.words c.args.words.now c.split.new.hand) 0 < 64
+short : (g : Over) (c : After-split g) → rows_of c.args.blocks (g.W.Loads.words c.args.words.now c.split.new.hand) 0 < 64
 short g c =
     let told = c.requires.rows_told in
-    first_short c.args.blocks (g.W.Words.words c.args.words.now c.args.hand.now) (g.W.Words.words c.args.words.now c.split.new.hand) c.args.at.block
+    first_short c.args.blocks (g.W.Loads.words c.args.words.now c.args.hand.now) (g.W.Loads.words c.args.words.now c.split.new.hand) c.args.at.block
     ((c.args.rows + 1) / 2) c.split.ensures.before c.split.ensures.lower c.requires.short (omega arith)
 
 -- where the position stays
@@ -19,7 +19,7 @@ returns-then-at-half-clause-short g c = short g (goal.at.returns-then-at-half-cl
 -- as many rows stand before the position
 pub returns-then-at-half-clause-rank : goal.returns-then-at-half-clause-rank
 returns-then-at-half-clause-rank g c =
-    let low = low_rank c.args.blocks (g.W.Words.words c.args.words.now c.args.hand.now) (g.W.Words.words c.args.words.now c.split.new.hand)
+    let low = low_rank c.args.blocks (g.W.Loads.words c.args.words.now c.args.hand.now) (g.W.Loads.words c.args.words.now c.split.new.hand)
     c.args.at.block ((c.args.rows + 1) / 2) c.split.ensures.before c.split.ensures.lower in
     omega arith
 
@@ -38,6 +38,6 @@ returns-clause-there g c =
 pub returns-clause-rank : goal.returns-clause-rank
 returns-clause-rank g c =
     let above = c.if-at-half.false in
-    let high = high_rank c.args.blocks (g.W.Words.words c.args.words.now c.args.hand.now) (g.W.Words.words c.args.words.now c.split.new.hand)
+    let high = high_rank c.args.blocks (g.W.Loads.words c.args.words.now c.args.hand.now) (g.W.Loads.words c.args.words.now c.split.new.hand)
     c.args.at.block ((c.args.rows + 1) / 2) c.split.ensures.before c.split.ensures.lower in
     omega arith

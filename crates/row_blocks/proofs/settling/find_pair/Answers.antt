@@ -6,14 +6,14 @@ use Rattle.row_blocks.proofs.settling.find_pair.Goals as goal
 
 pub returns-then-rows-behind-le127-clause-kept : goal.returns-then-rows-behind-le127-clause-kept
 returns-then-rows-behind-le127-clause-kept g c =
-    g.W.Words.steps_on c.args.words.now c.args.hand.now c.pairs.hand c.body_of-behind.new.hand c.pairs.invariant.kept c.body_of-behind.ensures.kept
+    g.W.Loads.steps_on c.args.words.now c.args.hand.now c.pairs.hand c.body_of-behind.new.hand c.pairs.invariant.kept c.body_of-behind.ensures.kept
 
 -- two more have too many
 pub pairs-preserved : goal.pairs-preserved
 pairs-preserved g c =
     let ws = c.args.words.now in
     let nb = c.args.blocks in
-    let one = g.W.Words.words ws c.args.hand.now in
+    let one = g.W.Loads.words ws c.args.hand.now in
     let inv = c.pairs.invariant in
     let call = c.body_of-behind.ensures in
     let lt = c.pairs-test.true in
@@ -36,14 +36,14 @@ pairs-preserved g c =
       ];
       may = call.may;
       rows = λ w r. call.stay w (inv.rows w r);
-      kept = g.W.Words.steps_on ws c.args.hand.now c.pairs.hand c.body_of-behind.new.hand inv.kept call.kept;
+      kept = g.W.Loads.steps_on ws c.args.hand.now c.pairs.hand c.body_of-behind.new.hand inv.kept call.kept;
       steps = omega arith;
     }
 
 -- so they have more rows than there are
 pub unreachable-requires : goal.unreachable-requires
 unreachable-requires g c =
-    let one = g.W.Words.words c.args.words.now c.args.hand.now in
+    let one = g.W.Loads.words c.args.words.now c.args.hand.now in
     let inv = c.pairs.invariant in
     let out = c.pairs-test.false in
     pair_there c.args.blocks one c.requires.laid c.requires.full c.requires.room (λ k some lt. inv.full k some (omega arith))

@@ -5,16 +5,16 @@ use Rattle.row_blocks.proofs.settling.find_pair.Given as goal
 -- each two blocks that were looked at have too many rows together
 abbrev pub invariant-pairs : goal.invariant-pairs
 invariant-pairs g l = record {
-  words : g.W.Words.words l.words l.hand ≡ g.W.Words.words l.words l.fn.hand;
+  words : g.W.Loads.words l.words l.hand ≡ g.W.Loads.words l.words l.fn.hand;
   some : 0 < l.k;
   there : l.k < l.blocks;
-  here : l.rows ≡ rows_of l.blocks (g.W.Words.words l.words l.fn.hand) l.k;
+  here : l.rows ≡ rows_of l.blocks (g.W.Loads.words l.words l.fn.hand) l.k;
   full : (k : ℕ) → 0 < k → k < l.k
-      → 127 < rows_of l.blocks (g.W.Words.words l.words l.fn.hand) k + 1 + rows_of l.blocks (g.W.Words.words l.words l.fn.hand) (k + 1);
-  may : g.W.Words.may_store l.words l.hand;
-  rows : (w : ℕ) → g.W.Words.is_row l.words l.fn.hand w → g.W.Words.is_row l.words l.hand w;
-  kept : g.W.Words.kept l.words l.fn.hand l.hand;
-  steps : g.W.Words.steps l.words l.hand ≡ g.W.Words.steps l.words l.fn.hand + l.k;
+      → 127 < rows_of l.blocks (g.W.Loads.words l.words l.fn.hand) k + 1 + rows_of l.blocks (g.W.Loads.words l.words l.fn.hand) (k + 1);
+  may : g.W.Loads.may_store l.words l.hand;
+  rows : (w : ℕ) → g.W.Loads.is_row l.words l.fn.hand w → g.W.Loads.is_row l.words l.hand w;
+  kept : g.W.Loads.kept l.words l.fn.hand l.hand;
+  steps : g.W.Loads.steps l.words l.hand ≡ g.W.Loads.steps l.words l.fn.hand + l.k;
 }
 
 abbrev pub decreases-pairs : goal.decreases-pairs

@@ -11,21 +11,21 @@ pub come-requires-clause-rows : goal.come-requires-clause-rows
 come-requires-clause-rows g c =
     let ws = c.args.words.now in
     let nb = c.args.blocks in
-    let one = g.W.Words.words ws c.args.hand.now in
-    let P = g.W.Words.is_row ws c.args.hand.now in
+    let one = g.W.Loads.words ws c.args.hand.now in
+    let P = g.W.Loads.is_row ws c.args.hand.now in
     let more = c.args.more.now in
     let lay = c.lay-to.ensures in
-    all_written P (g.W.Words.is_row ws c.lay-to.new.hand) (rows_in nb one) (rows_in nb (g.W.Words.words ws c.lay-to.new.hand)) (take c.args.gone more)
+    all_written P (g.W.Loads.is_row ws c.lay-to.new.hand) (rows_in nb one) (rows_in nb (g.W.Loads.words ws c.lay-to.new.hand)) (take c.args.gone more)
     _ _ lay.rows lay.spliced c.requires.rows (All-take P c.args.gone more c.requires.new)
 
 -- and those that come
 pub come-requires-clause-new : goal.come-requires-clause-new
 come-requires-clause-new g c =
     let ws = c.args.words.now in
-    let P = g.W.Words.is_row ws c.args.hand.now in
+    let P = g.W.Loads.is_row ws c.args.hand.now in
     let more = c.args.more.now in
     let rest : List ℕ = drop c.args.gone more in
-    All-weaker P (g.W.Words.is_row ws c.lay-to.new.hand) c.lay-to.ensures.rows (take (length more - c.args.gone) rest)
+    All-weaker P (g.W.Loads.is_row ws c.lay-to.new.hand) c.lay-to.ensures.rows (take (length more - c.args.gone) rest)
     (All-take P (length more - c.args.gone) rest (All-drop P c.args.gone more c.requires.new))
 
 -- others stand over all rows that go, and more have come behind them
@@ -33,9 +33,9 @@ pub returns-then-gone-more-clause-spliced : goal.returns-then-gone-more-clause-s
 returns-then-gone-more-clause-spliced g c =
     let ws = c.args.words.now in
     let nb = c.args.blocks in
-    let one = g.W.Words.words ws c.args.hand.now in
-    let two = g.W.Words.words ws c.lay-to.new.hand in
-    let three = g.W.Words.words ws c.come.new.hand in
+    let one = g.W.Loads.words ws c.args.hand.now in
+    let two = g.W.Loads.words ws c.lay-to.new.hand in
+    let three = g.W.Loads.words ws c.come.new.hand in
     let more = c.args.more.now in
     let gone = c.args.gone in
     let u : List ℕ = take gone more in
@@ -58,18 +58,18 @@ pub cut-requires-clause-rows : goal.cut-requires-clause-rows
 cut-requires-clause-rows g c =
     let ws = c.args.words.now in
     let nb = c.args.blocks in
-    let one = g.W.Words.words ws c.args.hand.now in
+    let one = g.W.Loads.words ws c.args.hand.now in
     let lay = c.lay-to-2.ensures in
-    all_written (g.W.Words.is_row ws c.args.hand.now) (g.W.Words.is_row ws c.lay-to-2.new.hand) (rows_in nb one)
-    (rows_in nb (g.W.Words.words ws c.lay-to-2.new.hand)) c.args.more.now _ _ lay.rows lay.spliced c.requires.rows c.requires.new
+    all_written (g.W.Loads.is_row ws c.args.hand.now) (g.W.Loads.is_row ws c.lay-to-2.new.hand) (rows_in nb one)
+    (rows_in nb (g.W.Loads.words ws c.lay-to-2.new.hand)) c.args.more.now _ _ lay.rows lay.spliced c.requires.rows c.requires.new
 
 -- there are as many rows as before
 pub cut-requires-clause-fits : goal.cut-requires-clause-fits
 cut-requires-clause-fits g c =
     let ws = c.args.words.now in
     let nb = c.args.blocks in
-    let one = g.W.Words.words ws c.args.hand.now in
-    let two = g.W.Words.words ws c.lay-to-2.new.hand in
+    let one = g.W.Loads.words ws c.args.hand.now in
+    let two = g.W.Loads.words ws c.lay-to-2.new.hand in
     let lay = c.lay-to-2.ensures in
     let same = same_layout nb one two lay.layout in
     let before = same.before c.lay-to-2.result.block in
@@ -84,9 +84,9 @@ pub returns-clause-spliced : goal.returns-clause-spliced
 returns-clause-spliced g c =
     let ws = c.args.words.now in
     let nb = c.args.blocks in
-    let one = g.W.Words.words ws c.args.hand.now in
-    let two = g.W.Words.words ws c.lay-to-2.new.hand in
-    let three = g.W.Words.words ws c.cut.new.hand in
+    let one = g.W.Loads.words ws c.args.hand.now in
+    let two = g.W.Loads.words ws c.lay-to-2.new.hand in
+    let three = g.W.Loads.words ws c.cut.new.hand in
     let more = c.args.more.now in
     let gone = c.args.gone in
     let d : ℕ = gone - length more in
