@@ -1,142 +1,203 @@
--- The slots in which rows stand: the numbers below the row count, in order. The lemmas over words that show kinds tell
--- of rows by their slots alone; where proofs of other crates read rows and store one, they need to know no more of the
--- layout.
-use Rattle.std.proofs.Common.{◌≡◌, ℕ, zero, suc, ◌+◌, ◌<◌, List, [], ◌∷◌, drop, take, length, get_or, set, length-set, sym, refl, ap, ◌∙◌, subst, arith}
-use Rattle.std.proofs.Math.Seq.{take-set-lt}
-use Rattle.std.proofs.lemmas.List.{get_or-drop, get_or-set_other, get_or-take, drop-set-add, length-drop, length-take-le}
+-- The slots in which rows stand: those of the blocks in use, in order. The lemmas over words that show kinds tell of
+-- rows by their slots alone; proofs of other crates need to know no more of the layout where they read rows and store
+-- one.
+use Rattle.std.proofs.Common.{◌≡◌, ℕ, suc, ◌+◌, ◌-◌, ◌*◌, ◌/◌, ◌%◌, ◌<◌, ◌≤◌, List, ◌∷◌, drop, take, length, get_or, set, length-set}
+use Rattle.std.proofs.Common.{sym, refl, ap, ◌∙◌, subst, arith, ⊎_elim}
+use Rattle.std.proofs.lemmas.List.{get_or-drop, get_or-take, get_or-map, get_or-set_other, drop-set-add, length-drop, length-take-le}
 use Rattle.std.proofs.lemmas.List.Elements.{All-set}
-use Rattle.std.specs.Prelude.{All, Option, Some, None, slice_index}
-use mathlib.Core.Option.{some, some-injective, some-ne-none}
+use Rattle.std.specs.Prelude.{All, Option, slice_index}
+use mathlib.Core.Option.{some, some-injective}
 use lib.ListN.{get_elem?}
+use Rattle.lock_core.proofs.ByPlace.{below, there, at_or}
 use Rattle.page_types.specs.declared.calls.Kind.{Kind}
 use Rattle.space_model.specs.declared.areas.Area.{Area}
 use Rattle.space_model.specs.declared.entries.Entry.{Entry}
 use Rattle.row_plans.specs.RowLists.{ShowFrom, IsBareGap}
+use Rattle.row_blocks.specs.Blocks.{pieces, run, blocks_of, rows_of, IsLaidOut, slots_of as slots_by, slots_in as slots_all, rows_in as rows_by}
+use Rattle.row_blocks.proofs.Pieces.{same_pieces}
+use Rattle.row_blocks.proofs.Slots.{rows_are as words_are, length-slots_in, length-rows_in, kth_slot, slot_below, slots_differ, at_slot, laid_stored, stored}
+use Rattle.row_blocks.proofs.Slots.{layout_stays as told_stays}
 use Rattle.area_guard.specs.declared.guard.Pass.{Pass}
-use Rattle.area_guard.specs.Rows.{layout_in, slots_from, slots_of, slots_in, rows_in, IsOneOf, IsFirstOf, IsSlot, IsInReach, RowsShow}
-use Rattle.area_guard.specs.Reads.{slots_by, counts_of}
-use Rattle.area_guard.specs.History.{StillLaid, IsPart}
-use Rattle.area_guard.specs.Parts.{none_is, some_is}
+use Rattle.area_guard.specs.Rows.{nb_in, layout_in, block_slots, slots_of, slots_in, rows_in, IsFirstOf, IsSlot, IsInReach, RowsShow}
+use Rattle.area_guard.specs.History.{IsPart}
+use Rattle.area_guard.specs.Stands.{nb_stays, layout_stays}
 
--- as many numbers as were asked for
-pub numbers_many : (first n : ℕ) → length (slots_from first n) ≡ n
-numbers_many first zero = refl
-numbers_many first (suc n) = ap suc (numbers_many (first + 1) n)
+module _ (words : List ℕ) (room : 21 + 129 * nb_in words ≤ length words) where
+  -- the layout has two words and one for each block
+  pub layout_long : length (layout_in words) ≡ nb_in words + 2
+  layout_long =
+      let d = length-drop (3 + 128 * nb_in words) words in
+      let t = length-take-le (nb_in words + 1) (drop (3 + 128 * nb_in words) words) (omega arith) in
+      omega arith
 
--- the number at each place of numbers that rise from one on
-at_place : (first n k : ℕ) → k < n → get_elem? (slots_from first n) k ≡ some (first + k)
-at_place first zero k lt = absurd (omega arith)
-at_place first (suc n) zero lt = let same : first ≡ first + 0 = omega arith in ap some same
-at_place first (suc n) (suc k) lt =
-    let same : first + 1 + k ≡ first + suc k = omega arith in at_place (first + 1) n k (omega arith) ∙ ap some same
+  -- behind the row count it has the words behind the slots
+  pub layout_word : (i : ℕ) → i ≤ nb_in words → slice_index (layout_in words) (suc i) ≡ slice_index (drop 3 words) (128 * nb_in words + i)
+  layout_word i le =
+      let e : 3 + 128 * nb_in words + i ≡ 3 + (128 * nb_in words + i) = omega arith in
+      get_or-take (nb_in words + 1) (drop (3 + 128 * nb_in words) words) i 0 (omega arith)
+      ∙ (get_or-drop (3 + 128 * nb_in words) words i 0
+      ∙ (ap (slice_index words) e ∙ sym (get_or-drop 3 words (128 * nb_in words + i) 0)))
 
--- of those from 0 on it is the place itself
-pub at_zero : (n k : ℕ) → k < n → get_elem? (slots_from 0 n) k ≡ some k
-at_zero n k lt = let same : 0 + k ≡ k = omega arith in at_place 0 n k lt ∙ ap some same
+  pub layout_blocks : slice_index (layout_in words) 1 ≡ blocks_of (nb_in words) (drop 3 words)
+  layout_blocks =
+      let e : 128 * nb_in words + 0 ≡ 128 * nb_in words = omega arith in
+      layout_word 0 (omega arith) ∙ ap (slice_index (drop 3 words)) e
 
--- and no other number stands there
-pub place_of : (first n k slot : ℕ) → get_elem? (slots_from first n) k ≡ some slot → (slot ≡ first + k) × (k < n)
-place_of first zero k slot at = absurd (some-ne-none slot (sym at))
-place_of first (suc n) zero slot at = let same = some-injective first slot at in (omega arith, omega arith)
-place_of first (suc n) (suc k) slot at = let rest = place_of (first + 1) n k slot at in let e = rest.0 in let lt = rest.1 in (omega arith, omega arith)
+  pub layout_told : (i : ℕ) → i < nb_in words
+      → slice_index (layout_in words) (2 + i) ≡ slice_index (drop 3 words) (128 * nb_in words + 1 + i)
+  layout_told i lt =
+      let a : 2 + i ≡ suc (1 + i) = omega arith in
+      let b : 128 * nb_in words + (1 + i) ≡ 128 * nb_in words + 1 + i = omega arith in
+      ap (slice_index (layout_in words)) a ∙ (layout_word (1 + i) (omega arith) ∙ ap (slice_index (drop 3 words)) b)
 
--- a slot is a number below the row count
-pub slot_few : (layout : List ℕ) (slot : ℕ) → IsOneOf (slots_of layout) slot → slot < slice_index layout 0
-slot_few layout slot is = let at = place_of 0 (slice_index layout 0) is.0 slot is.1 in let e = at.0 in let lt = at.1 in omega arith
-
--- where as many rows are known as there are, their slots are the numbers below that
-pub known_slot : (laid : Option (List ℕ)) (n k : ℕ) → counts_of laid ≡ Some n → k < n → get_elem? (slots_by laid) k ≡ some k
-known_slot None n k counts lt = absurd (none_is n counts)
-known_slot (Some layout) n k counts lt =
-    let many = numbers_many 0 (slice_index layout 0) in
-    let same = some_is (length (slots_of layout)) n counts in at_zero (slice_index layout 0) k (omega arith)
-
-pub slot_known : (laid : Option (List ℕ)) (n k slot : ℕ) → counts_of laid ≡ Some n → get_elem? (slots_by laid) k ≡ some slot
-    → (slot ≡ k) × (k < n)
-slot_known None n k slot counts at = absurd (none_is n counts)
-slot_known (Some layout) n k slot counts at =
-    let many = numbers_many 0 (slice_index layout 0) in
-    let same = some_is (length (slots_of layout)) n counts in
-    let is = place_of 0 (slice_index layout 0) k slot at in let e = is.0 in let lt = is.1 in (omega arith, omega arith)
-
--- the row count that is known is so still
-pub counts_now : (words : List ℕ) (laid : Option (List ℕ)) (n : ℕ) → StillLaid words laid → counts_of laid ≡ Some n → slice_index words 2 ≡ n
-counts_now words None n still counts = absurd (none_is n counts)
-counts_now words (Some layout) n still counts =
-    ap (λ (l : List ℕ). slice_index l 0) (still layout refl)
-    ∙ (sym (numbers_many 0 (slice_index layout 0)) ∙ some_is (length (slots_of layout)) n counts)
+  -- so its slots are those of the blocks
+  pub slots_as : IsLaidOut (nb_in words) (drop 3 words) → slots_in words ≡ slots_all (nb_in words) (drop 3 words)
+  slots_as laid =
+      let layout : List ℕ = layout_in words in
+      let first : length layout - 2 ≡ nb_in words = let l = layout_long in omega arith in
+      let spare = laid.spare in
+      ap (pieces (block_slots layout)) layout_blocks
+      ∙ same_pieces (slots_by (nb_in words) (drop 3 words)) (block_slots layout) (blocks_of (nb_in words) (drop 3 words)) (λ i lt.
+      let e = layout_told i (omega arith) in
+      (λ j. i ∷ run (first j + 127 * (e j / 128)) (e j % 128)))
 
 module _ (words : List ℕ) (kinds : ℕ → Option Kind) (s : RowsShow words kinds) where
+  abbrev nb : ℕ
+  nb = nb_in words
+
+  abbrev blocks : List ℕ
+  blocks = drop 3 words
+
+  slots_same : slots_in words ≡ slots_all nb blocks
+  slots_same = slots_as words s.room s.laid
+
   -- there are as many rows as the row count says
   pub rows_many : length (rows_in words) ≡ slice_index words 2
-  rows_many = let r = s.room in let d = length-drop 3 words in length-take-le (slice_index words 2) (drop 3 words) (omega arith)
+  rows_many = length-rows_in nb blocks s.laid ∙ (sym (length-slots_in nb blocks) ∙ (sym (ap length slots_same) ∙ sym s.counted))
 
   -- and each stands in one slot
   pub slots_many : length (slots_in words) ≡ length (rows_in words)
-  slots_many = numbers_many 0 (slice_index words 2) ∙ sym rows_many
+  slots_many = sym s.counted ∙ sym rows_many
+
+  -- a place of the slots
+  place_in : (k slot : ℕ) → get_elem? (slots_in words) k ≡ some slot → (k < length (slots_all nb blocks)) × (slice_index (slots_all nb blocks) k ≡ slot)
+  place_in k slot at =
+      let in_blocks : get_elem? (slots_all nb blocks) k ≡ some slot = ap (λ (l : List ℕ). get_elem? l k) (sym slots_same) ∙ at in
+      (below (slots_all nb blocks) k slot in_blocks, at_or (slots_all nb blocks) k slot 0 in_blocks)
 
   -- the row at a place is the word of the slot at that place
   pub rows_are : (k slot : ℕ) → get_elem? (slots_in words) k ≡ some slot → get_or (rows_in words) k 0 ≡ slice_index words (3 + slot)
   rows_are k slot at =
-      let is = place_of 0 (slice_index words 2) k slot at in
-      let e = is.0 in
-      let same : k ≡ slot = omega arith in
-      get_or-take (slice_index words 2) (drop 3 words) k 0 is.1 ∙ (get_or-drop 3 words k 0 ∙ ap (λ (n : ℕ). slice_index words (3 + n)) same)
+      let p = place_in k slot at in
+      ap (λ (l : List ℕ). get_or l k 0) (sym (words_are nb blocks s.laid))
+      ∙ (get_or-map (slice_index blocks) (slots_all nb blocks) k 0 0 p.0
+      ∙ (ap (slice_index blocks) p.1 ∙ get_or-drop 3 words slot 0))
 
   -- at two places there are different slots
   pub slots_apart : (j k slot : ℕ) → get_elem? (slots_in words) j ≡ some slot → get_elem? (slots_in words) k ≡ some slot → j ≡ k
   slots_apart j k slot one two =
-      let a = place_of 0 (slice_index words 2) j slot one in
-      let b = place_of 0 (slice_index words 2) k slot two in
-      let e = a.0 in let f = b.0 in omega arith
+      let a = place_in j slot one in
+      let b = place_in k slot two in
+      slots_differ nb blocks j k s.laid a.0 b.0 (a.1 ∙ sym b.1)
 
-  -- the first slot is 0
-  pub first_slot : IsFirstOf (slots_in words) 0
-  first_slot = at_zero (slice_index words 2) 0 s.some
+  -- a slot is one of the blocks, before the layout
+  pub slot_in : (slot : ℕ) → IsSlot words slot → slot < 128 * nb_in words
+  slot_in slot is =
+      let p = place_in is.0 slot is.1 in
+      let k = kth_slot nb blocks is.0 p.0 in
+      subst (λ (n : ℕ). n < 128 * nb_in words) p.1 (slot_below nb blocks k.i k.j (slice_index (slots_all nb blocks) is.0) s.laid k.is)
 
   -- there is a word for the row of a slot
   pub slot_there : (slot : ℕ) → IsSlot words slot → 3 + slot < length words
-  slot_there slot is =
-      let at = place_of 0 (slice_index words 2) is.0 slot is.1 in
-      let e = at.0 in let lt = at.1 in let room = s.room in omega arith
+  slot_there slot is = let b = slot_in slot is in let r = s.room in omega arith
 
   -- and it is in reach of a caller of the space
   pub slot_reach : (start : List Area) (history : List Entry) (worker : ℕ) (pass : Pass) → IsPart start history words worker pass
-      → (slot : ℕ) → IsSlot words slot → IsInReach pass.room slot
-  slot_reach start history worker pass part slot is =
-      let at = place_of 0 (slice_index words 2) is.0 slot is.1 in
-      let e = at.0 in let lt = at.1 in let room = s.room in let few = s.few in let wide = part.room in (omega arith, omega arith)
+      → (slot : ℕ) → IsSlot words slot → IsInReach pass.blocks slot
+  slot_reach start history worker pass part slot is = let b = slot_in slot is in let nb = part.room.0 in omega arith
 
-  -- a store in a slot leaves the layout
-  pub slots_stay : (slot value : ℕ) → IsSlot words slot → layout_in (set words (3 + slot) value) ≡ layout_in words
-  slots_stay slot value is = ap (λ (n : ℕ). n ∷ []) (get_or-set_other words (3 + slot) 2 value 0 (λ e. omega arith))
+  -- the first slot is 0
+  pub first_slot : IsFirstOf (slots_in words) 0
+  first_slot =
+      let some_block = s.laid.some in
+      let some_row = s.some in
+      let counted = s.counted in
+      let same = ap length slots_same in
+      let at = there (slots_all nb blocks) 0 (omega arith) in
+      let zero_is : slice_index (slots_all nb blocks) 0 ≡ 0 = (at_slot nb blocks 0 0 some_block (omega arith)).head refl in
+      ap (λ (l : List ℕ). get_elem? l 0) slots_same ∙ (at.1 ∙ ap some (sym (at_or (slots_all nb blocks) 0 at.0 0 at.1) ∙ zero_is))
 
-  -- and sets the row of that slot alone
+  module _ (slot value : ℕ) (is : IsSlot words slot) where
+    abbrev two : List ℕ
+    two = set words (3 + slot) value
+
+    low : 3 + slot + 17 < length words
+    low = let b = slot_in slot is in let r = s.room in omega arith
+
+    -- a store in a slot leaves the layout
+    pub slots_stay : layout_in (set words (3 + slot) value) ≡ layout_in words
+    slots_stay = let b = slot_in slot is in layout_stays words (3 + slot) value (λ e. omega arith) (omega arith) low
+
+    -- and sets the word of the blocks
+    both_set : ◌≡◌ {A = ℕ × List ℕ} (nb_in two, drop 3 two) (nb, set blocks slot value)
+    both_set i = (nb_stays words (3 + slot) value low i, drop-set-add 3 words slot value i)
+
+    -- they stay laid out
+    kept_laid : IsLaidOut nb (set blocks slot value)
+    kept_laid =
+        let p = place_in is.0 slot is.1 in
+        let k = kth_slot nb blocks is.0 p.0 in
+        subst (λ (n : ℕ). IsLaidOut nb (set blocks n value)) p.1
+        (laid_stored nb blocks k.i k.j (slice_index (slots_all nb blocks) is.0) value s.laid k.is)
+
+    -- and their layout is as it was
+    kept_told : (t : ℕ) → 128 * nb ≤ t → slice_index (set blocks slot value) t ≡ slice_index blocks t
+    kept_told t le = let b = slot_in slot is in get_or-set_other blocks slot t value 0 (λ e. omega arith)
+
+  -- a store in a slot sets the row of that slot alone
   pub row_set : (k slot value : ℕ) → get_elem? (slots_in words) k ≡ some slot → rows_in (set words (3 + slot) value) ≡ set (rows_in words) k value
   row_set k slot value at =
-      let is = place_of 0 (slice_index words 2) k slot at in
-      let e = is.0 in
-      let same : slot ≡ k = omega arith in
-      let stays = get_or-set_other words (3 + slot) 2 value 0 (λ e. omega arith) in
-      (λ i. take (stays i) (drop 3 (set words (3 + same i) value)))
-      ∙ (ap (take (slice_index words 2)) (drop-set-add 3 words k value) ∙ take-set-lt (slice_index words 2) (drop 3 words) k value is.1)
+      let p = place_in k slot at in
+      ap (λ (z : ℕ × List ℕ). rows_by z.0 z.1) (both_set slot value (k, at))
+      ∙ (ap (λ (n : ℕ). rows_by nb (set blocks n value)) (sym p.1) ∙ stored nb blocks k value s.laid p.0)
 
   -- so the words show the kinds that the rows show then
   pub shows_set : (others : ℕ → Option Kind) (k slot value : ℕ) → get_elem? (slots_in words) k ≡ some slot
       → ShowFrom 0 (set (rows_in words) k value) others → IsBareGap value → RowsShow (set words (3 + slot) value) others
   shows_set others k slot value at show bare =
+      let is : IsSlot words slot = (k, at) in
       let stays : slice_index (set words (3 + slot) value) 2 ≡ slice_index words 2 = get_or-set_other words (3 + slot) 2 value 0 (λ e. omega arith) in
       let wide = length-set words (3 + slot) value in
+      let same = nb_stays words (3 + slot) value (low slot value is) in
       let room = s.room in let some_row = s.some in let few = s.few in
       let rows = row_set k slot value at in
+      let back : ◌≡◌ {A = ℕ × List ℕ} (nb, set blocks slot value) (nb_in (set words (3 + slot) value), drop 3 (set words (3 + slot) value)) =
+      sym (both_set slot value is) in
+      let first : rows_of nb (set blocks slot value) 0 ≡ rows_of nb blocks 0 =
+      ap (λ (n : ℕ). n % 128) (kept_told slot value is (128 * nb + 1 + 0) (omega arith)) in
       record {
         room = omega arith;
         some = omega arith;
         few = omega arith;
         show = subst (λ (l : List ℕ). ShowFrom 0 l others) (sym rows) show;
         gaps = subst (All IsBareGap) (sym rows) (All-set IsBareGap (rows_in words) k value bare s.gaps);
+        laid = subst (λ (z : ℕ × List ℕ). IsLaidOut z.0 z.1) back (kept_laid slot value is);
+        counted = stays ∙ (s.counted ∙ ap (λ (l : List ℕ). length (slots_of l)) (sym (slots_stay slot value is)));
+        free = subst (λ (z : ℕ × List ℕ). blocks_of z.0 z.1 < z.0) back
+            (subst (λ (n : ℕ). n < nb) (sym (kept_told slot value is (128 * nb) (omega arith))) s.free);
+        short = subst (λ (z : ℕ × List ℕ). rows_of z.0 z.1 0 < 64) back (subst (λ (n : ℕ). n < 64) (sym first) s.short);
       }
 
   -- words that show kinds show any others that their rows show
   pub shows_others : (others : ℕ → Option Kind) → ShowFrom 0 (rows_in words) others → RowsShow words others
-  shows_others others show = record { room = s.room; some = s.some; few = s.few; show = show; gaps = s.gaps }
+  shows_others others show = record {
+    room = s.room;
+    some = s.some;
+    few = s.few;
+    show = show;
+    gaps = s.gaps;
+    laid = s.laid;
+    counted = s.counted;
+    free = s.free;
+    short = s.short;
+  }

@@ -1,6 +1,6 @@
 -- A run is legal, and the history of the rule is stored once.
 use Rattle.std.proofs.Common.{◌≡◌, ℕ, zero, suc, ◌+◌, ◌<◌, Bool, true, false, cond, eqb, List, [], ◌∷◌, ◌++◌, length}
-use Rattle.std.proofs.Common.{sym, refl, ap, ◌∙◌, subst, arith, inl, inr}
+use Rattle.std.proofs.Common.{sym, refl, ap, ◌∙◌, subst, arith, inl, inr, ⊎_elim}
 use Rattle.std.proofs.lemmas.Bool.{cases_lt}
 use mathlib.Core.Option.{some, some-injective, some-ne-none}
 use lib.ListN.{get_elem?}
@@ -14,15 +14,17 @@ use Rattle.area_guard.specs.declared.guard.Pending.{Pending}
 use Rattle.area_guard.specs.declared.guard.Pending.TheVariants.{AtRest, Planned, OneRow}
 use Rattle.area_guard.specs.History.{FitsAndReplies, entries_of, entry_of, rows_after, HoldsFor, IsOwed, IsRunningSpace, Backs, AreBacked, Here}
 use Rattle.area_guard.specs.History.{Allowed, IsNew, MayLoad, MayStore, MayWrite, MayAdd}
-use Rattle.area_guard.specs.History.MayLoad.{number, glance, sequence, count, row}
-use Rattle.area_guard.specs.History.MayStore.{store_row, store_count}
+use Rattle.area_guard.specs.History.MayLoad.{number, glance, sequence, layout, row}
+use Rattle.area_guard.specs.History.MayStore.{store_row, store_count, store_layout}
 use Rattle.area_guard.specs.History.MayAdd.{draw, raise}
+use Rattle.area_guard.specs.declared.guard.Splice.{Splice}
+use Rattle.area_guard.specs.Rows.{nb_in, IsLayoutPlace}
 use Rattle.area_guard.specs.Draws.{draw_seen, draw_drew, leaves_plan}
 use Rattle.lock_core.specs.Grants.{Grants}
 use Rattle.lock_core.specs.Client.{ClientStep, loads, stores, adds, exchanges}
 use Rattle.lock_core.specs.declared.range.Held.{Held}
 use Rattle.std.specs.Prelude.{Option}
-use Rattle.area_guard.specs.Stored.{Stores, IsStoredOnce, IsStored, HistoryIsStored, IsCountStore, CountIsOfWhole}
+use Rattle.area_guard.specs.Stored.{Stores, IsStoredOnce, IsStored, HistoryIsStored, IsOfWhole, CountIsOfWhole, LayoutIsOfWhole}
 use Rattle.area_guard.specs.Stored.{StoresAreNew, RunsAreLegal, DrawsHold, KeepsDraw, IsNoDraw, LastDrawIsKept}
 use Rattle.lock_core.proofs.ByPlace.{there}
 use Rattle.area_guard.proofs.Entries.{runs_number, own_at, at_own}
@@ -108,40 +110,60 @@ module _ (grants : Grants) (start : List Area) (history : List Entry) (state : L
 pub all_stored : HistoryIsStored
 all_stored grants words passes h = (h.1, h.0, h.2, is_stored grants h.0 h.1 h.2 words passes h.3 h.4)
 
+-- what a caller that has a plan to write holds, and its last entry
+module _ (grants : Grants) (words : List ℕ) (passes : List Pass) (worker : ℕ) (here : Here grants words passes worker) (plan : Splice)
+    (is : here.pass.pending ≡ Planned plan) where
+  owed_here : IsOwed here.start here.history here.pass.mine (Planned plan)
+  owed_here = subst (IsOwed here.start here.history here.pass.mine) is (here.running.parts worker here.pass here.own).owed
+
+  of_whole : IsOfWhole grants passes worker plan
+  of_whole = record {
+    pass = here.pass;
+    there = here.own;
+    planned = is;
+    holds = (subst (Backs grants here.state worker) is (here.backed worker here.pass here.own).pending).0;
+    others = owed_here.others;
+    entry = owed_here.entry;
+    last = owed_here.own;
+    under = (leaves_plan owed_here.found owed_here.left owed_here.entry.under plan owed_here.leaves).0;
+  }
+
 -- what a caller that stores the row count has to write
 count_of : (grants : Grants) (words : List ℕ) (passes : List Pass) (worker value : ℕ) (here : Here grants words passes worker)
     (pending : Pending) (after : Pass) → here.pass.pending ≡ pending → MayWrite words pending 2 value here.pass after
-    → IsCountStore grants passes worker value
+    → (plan : Splice) × IsOfWhole grants passes worker plan × (value ≡ length (rows_after plan))
 count_of grants words passes worker value here AtRest after is may = absurd may
-count_of grants words passes worker value here (Planned plan) after is (store_row index lt e v same, new) = absurd (omega arith)
-count_of grants words passes worker value here (Planned plan) after is (store_count e v same, new) =
-    let owed : IsOwed here.start here.history here.pass.mine (Planned plan) =
-    subst (IsOwed here.start here.history here.pass.mine) is (here.running.parts worker here.pass here.own).owed in
-    let backs : Backs grants here.state worker (Planned plan) = subst (Backs grants here.state worker) is (here.backed worker here.pass here.own).pending in
-    record {
-      pass = here.pass;
-      there = here.own;
-      plan = plan;
-      planned = is;
-      counted = v;
-      holds = backs.0;
-      others = owed.others;
-      entry = owed.entry;
-      last = owed.own;
-      under = (leaves_plan owed.found owed.left owed.entry.under plan owed.leaves).0;
-    }
+count_of grants words passes worker value here (Planned plan) after is (store_row index slot e v same, new) = absurd (omega arith)
+count_of grants words passes worker value here (Planned plan) after is (store_count e v same, new) = (plan, of_whole grants words passes worker here plan is, v)
+count_of grants words passes worker value here (Planned plan) after is (store_layout index few e same, new) = absurd (omega arith)
 count_of grants words passes worker value here (OneRow c) after is may = let e : 2 ≡ 3 + c.index = may.0 in absurd (omega arith)
+
+-- and one that stores another word of the layout
+layout_of : (grants : Grants) (words : List ℕ) (passes : List Pass) (worker place value : ℕ) (here : Here grants words passes worker)
+    (pending : Pending) (after : Pass) → IsLayoutPlace (nb_in words) place → here.pass.pending ≡ pending
+    → MayWrite words pending place value here.pass after → (plan : Splice) × IsOfWhole grants passes worker plan
+layout_of grants words passes worker place value here AtRest after at is may = absurd may
+layout_of grants words passes worker place value here (Planned plan) after at is may = (plan, of_whole grants words passes worker here plan is)
+layout_of grants words passes worker place value here (OneRow c) after at is may =
+    let e : place ≡ 3 + c.index = may.0 in
+    let slot = may.2.there in
+    absurd (⊎_elim (λ two. omega arith) (λ far. let from = far.0 in omega arith) at)
 
 -- what a caller stores that has a plan to write
 pub all_new : StoresAreNew
 all_new grants words passes worker place value note pass after plan own is may =
     let same : may.0.pass ≡ pass = some-injective may.0.pass pass (sym may.0.own ∙ own) in
-    subst (λ (x : Pass). MayStore (rows_after plan) place value x after × IsNew words place value) same
+    subst (λ (x : Pass). MayStore plan place value x after × IsNew words place value) same
     (subst (λ (q : Pending). MayWrite words q place value may.0.pass after) (ap (λ (x : Pass). x.pending) same ∙ is) may.1)
 
 -- the row count is stored by calls under everything alone
 pub count_stores : CountIsOfWhole
 count_stores grants words passes worker value note after may = count_of grants words passes worker value may.0 may.0.pass.pending after refl may.1
+
+-- so is each other word of the layout
+pub layout_stores : LayoutIsOfWhole
+layout_stores grants words passes worker place value note after at may =
+    layout_of grants words passes worker place value may.0 may.0.pass.pending after at refl may.1
 
 hold_of : (grants : Grants) (words : List ℕ) (passes : List Pass) (worker : ℕ) (note : Note)
     (here : Here grants words passes worker) (after : Pass) → MayAdd grants words passes worker note here 0 after
@@ -171,16 +193,17 @@ load_keeps : (own : Option Held → Type 0) (free held : Type 0) (words : List �
 load_keeps own free held words history place p after (number h o e is) = same_draw p _ after is refl refl
 load_keeps own free held words history place p after (glance f e is) = same_draw p _ after is refl refl
 load_keeps own free held words history place p after (sequence h e is) = same_draw p _ after is refl refl
-load_keeps own free held words history place p after (count h e is) = same_draw p _ after is refl refl
-load_keeps own free held words history place p after (row i h few e is) = same_draw p _ after is refl refl
+load_keeps own free held words history place p after (layout h e is) = same_draw p _ after is refl refl
+load_keeps own free held words history place p after (row i h slot e is) = same_draw p _ after is refl refl
 
-store_keeps : (rows : List ℕ) (place value : ℕ) (p after : Pass) → MayStore rows place value p after → KeepsDraw p after
-store_keeps rows place value p after (store_row i lt e v is) = same_draw p _ after is refl refl
-store_keeps rows place value p after (store_count e v is) = same_draw p _ after is refl refl
+store_keeps : (plan : Splice) (place value : ℕ) (p after : Pass) → MayStore plan place value p after → KeepsDraw p after
+store_keeps plan place value p after (store_row i slot e v is) = same_draw p _ after is refl refl
+store_keeps plan place value p after (store_count e v is) = same_draw p _ after is refl refl
+store_keeps plan place value p after (store_layout i few e is) = same_draw p _ after is refl refl
 
 write_keeps : (words : List ℕ) (pending : Pending) (place value : ℕ) (p after : Pass) → MayWrite words pending place value p after → KeepsDraw p after
 write_keeps words AtRest place value p after may = absurd may
-write_keeps words (Planned plan) place value p after may = store_keeps (rows_after plan) place value p after may.0
+write_keeps words (Planned plan) place value p after may = store_keeps plan place value p after may.0
 write_keeps words (OneRow c) place value p after may = same_draw p _ after may.3 refl refl
 
 raise_keeps : (grants : Grants) (words : List ℕ) (passes : List Pass) (worker place : ℕ) (note : Note)

@@ -2,7 +2,7 @@
 -- over pages that it doesn't hold. These are parts of the proofs in `Keeping`; a reader who trusts the check may pass
 -- them over.
 use Rattle.std.specs.Prelude.{All, Option, slice_index}
-use Rattle.std.proofs.Common.{◌≡◌, ℕ, ◌+◌, ◌<◌, ◌≤◌, Bool, true, false, true≢false, List, length, set, sym, refl, ap, ◌∙◌, subst, arith, inl, inr, ⊎_elim}
+use Rattle.std.proofs.Common.{◌≡◌, ℕ, ◌+◌, ◌*◌, ◌<◌, ◌≤◌, Bool, true, false, true≢false, List, length, set, sym, refl, ap, ◌∙◌, subst, arith, inl, inr, ⊎_elim}
 use Rattle.std.proofs.lemmas.Bool.{cases_lt}
 use Rattle.std.proofs.lemmas.List.{get_or-set_same, get_or-set_other}
 use Rattle.std.proofs.lemmas.List.Elements.{All-weaker}
@@ -20,9 +20,10 @@ use Rattle.lock_core.specs.Grants.{Grants, Holds, IsExclusive}
 use Rattle.area_guard.specs.declared.guard.Change.{Change}
 use Rattle.area_guard.specs.declared.guard.ReadRow.{ReadRow}
 use Rattle.row_plans.specs.RowWords.{row_start, row_kind}
-use Rattle.area_guard.specs.Rows.{slots_from, slots_in, AreNeighbours, IsOneOf, IsRowOf}
+use Rattle.area_guard.specs.Rows.{nb_in, slots_of, slots_in, AreNeighbours, IsOneOf, IsRowOf}
 use Rattle.area_guard.specs.Reads.{everything, IsHeldPage, StillStands}
 use Rattle.area_guard.specs.Changes.{IsIn, alone, new_word, MayReplace}
+use Rattle.area_guard.specs.Stands.{nb_stays, layout_stays}
 
 kind_by : (a b : Option Kind) (t : Bool) → same_option a b ≡ t → ((a ≡ b → ⊥) → ⊥) → a ≡ b
 kind_by a b true e not_not = same_option-true a b e
@@ -37,17 +38,21 @@ apart_pages grants worker other span exclusive differ holds held at page h i =
     let a = h.2 in let b = h.3 in let l = i.0 in let r = i.1 in
     exclusive worker other (alone span) h.0 (λ e. differ (sym e)) holds (at ∙ ap some h.1) ((omega arith, omega arith), inl refl)
 
-module _ (held : Option Held) (words : List ℕ) (c : Change) (m : MayReplace words c) (room : 3 + c.index < length words)
+module _ (held : Option Held) (words : List ℕ) (c : Change) (m : MayReplace words c) (room : 21 + 129 * nb_in words ≤ length words)
     (below : (page : ℕ) → IsHeldPage held page → page < LIMIT)
     (apart : (page : ℕ) → IsHeldPage held page → IsIn c.span page → ⊥) where
   here : slice_index (set words (3 + c.index) (new_word c)) (3 + c.index) ≡ new_word c
-  here = get_or-set_same words (3 + c.index) (new_word c) 0 room
+  here = let slot = m.there in get_or-set_same words (3 + c.index) (new_word c) 0 (omega arith)
+
+  blocks : nb_in (set words (3 + c.index) (new_word c)) ≡ nb_in words
+  blocks = let slot = m.there in nb_stays words (3 + c.index) (new_word c) (omega arith)
 
   else : (i : ℕ) → (i ≡ c.index → ⊥) → slice_index (set words (3 + c.index) (new_word c)) (3 + i) ≡ slice_index words (3 + i)
   else i differ = get_or-set_other words (3 + c.index) (3 + i) (new_word c) 0 (λ e. differ (omega arith))
 
   slots : slots_in (set words (3 + c.index) (new_word c)) ≡ slots_in words
-  slots = ap (slots_from 0) (get_or-set_other words (3 + c.index) 2 (new_word c) 0 (λ e. omega arith))
+  slots = let slot = m.there in
+      ap slots_of (layout_stays words (3 + c.index) (new_word c) (λ e. omega arith) (omega arith) (omega arith))
 
   at_index : (i : ℕ) → i ≡ c.index → slice_index (set words (3 + c.index) (new_word c)) (3 + i) ≡ new_word c
   at_index i same = ap (λ n. slice_index (set words (3 + c.index) (new_word c)) (3 + n)) same ∙ here
@@ -98,6 +103,7 @@ module _ (held : Option Held) (words : List ℕ) (c : Change) (m : MayReplace wo
 
   stands_on : (r : ReadRow) → StillStands held words r → StillStands held (set words (3 + c.index) (new_word c)) r
   stands_on r s = record {
+    slot = subst (λ (n : ℕ). r.index < 128 * n) (sym blocks) s.slot;
     side = λ page h. (λ le. new_start r.index page h ((s.side page h).0 le), λ le. (s.side page h).1 (old_start r.index page h le));
     start = λ page h at. dite (ℕ_discrete r.index c.index)
         (λ same.

@@ -2,7 +2,7 @@
 -- Dice and Issa, EuroSys 2020: pages of one area get another kind, so the area changes whole, or the boundary to a
 -- neighbour moves, and either is one store. Its caller holds the area and a page on each side, so calls elsewhere go
 -- on.
-use Rattle.std.specs.Prelude.{ℕ, ◌≡◌, ◌≢◌, ◌<◌, ◌≤◌, ◌+◌, ◌-◌, ◌⊎◌, min, if◌then◌else◌, Option, Some, List, length, slice_index, slice_set}
+use Rattle.std.specs.Prelude.{ℕ, ◌≡◌, ◌≢◌, ◌<◌, ◌≤◌, ◌+◌, ◌-◌, ◌*◌, ◌⊎◌, min, if◌then◌else◌, Option, Some, List, slice_index, slice_set}
 use Rattle.page_types.specs.declared.TheConstants.{LIMIT}
 use Rattle.page_types.specs.declared.calls.Kind.{Kind}
 use Rattle.page_types.specs.declared.pages.Span.{Span}
@@ -12,7 +12,7 @@ use Rattle.lock_core.specs.declared.range.Mode.TheVariants.{Writer}
 use Rattle.lock_core.specs.declared.range.Held.{Held}
 use Rattle.area_guard.specs.declared.guard.Change.{Change}
 use Rattle.row_plans.specs.RowWords.{row_start, row_kind, row_word}
-use Rattle.area_guard.specs.Rows.{RowsShow, IsSlot, IsRowOf}
+use Rattle.area_guard.specs.Rows.{nb_in, RowsShow, IsSlot, IsRowOf}
 
 -- the page lies in the span
 abbrev pub IsIn : Span → ℕ → Type 0
@@ -46,7 +46,7 @@ pub record IsChange (state : List Area) (span : Span) (c : Change) (left : List 
 -- the row of a change may get its new word: the rows then show the changed kinds. Its start moves over held pages
 -- alone, and from a page that is held on both sides; and it gets another kind only where all its pages are held
 pub record MayReplace (words : List ℕ) (c : Change) : Type 0 where
-  pub there : 3 + c.index < length words
+  pub there : c.index < 128 * nb_in words
   pub used : IsSlot words c.index
   pub up : (page : ℕ) → row_start (slice_index words (3 + c.index)) ≤ page → page < row_start (new_word c) → IsIn c.span page
   pub down : (page : ℕ) → row_start (new_word c) ≤ page → page < row_start (slice_index words (3 + c.index)) → IsIn c.span page

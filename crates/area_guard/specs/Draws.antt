@@ -32,14 +32,15 @@ use Rattle.area_guard.specs.declared.guard.Pending.{Pending}
 use Rattle.area_guard.specs.declared.guard.Splice.{Splice}
 use Rattle.area_guard.specs.declared.guard.Pending.TheVariants.{AtRest, Planned, OneRow}
 use Rattle.row_plans.specs.Plans.{PlanShows}
+use Rattle.area_guard.specs.Rows.{nb_in, room_of}
 use Rattle.area_guard.specs.Reads.{everything, StillStands}
 use Rattle.area_guard.specs.Changes.{alone, IsChange}
 use Rattle.area_guard.specs.History.{with_whole, IsPart, planned_calls, planned_count, IsShown}
 use Rattle.area_guard.specs.History.{RowsStandFor, IsRunningSpace, Backs, IsBacked, AreBacked, HoldsFor, Leaves, after_draw}
 use Rattle.area_guard.specs.History.{Runs, IsRight, FitsIn, IsOfLastEntry, IsOwed, rows_after}
 use Rattle.area_guard.specs.Replies.{all_more, reply_named, left_named, left_few}
-use Rattle.area_guard.specs.Stands.{all_stand, layout_stays, same_low, low_rows, shown_set}
-use Rattle.area_guard.specs.Parts.{own_more, own_same, count_set, most_set, room_kept, rows_fit, rows_fit_more, no_wrap}
+use Rattle.area_guard.specs.Stands.{nb_stays, room_stays, all_stand, layout_stays, same_low, low_rows, shown_set}
+use Rattle.area_guard.specs.Parts.{own_more, own_same, count_set, most_set, room_kept, rows_fit_more, no_wrap}
 use Rattle.area_guard.specs.Parts.{whole_more, planned_set, resting_of, none_is}
 use Rattle.area_guard.specs.Writes.{everything_pages, span_pages, clash, plan_length}
 use Rattle.area_guard.specs.RowStores.{shown_after_draw, others_back}
@@ -108,10 +109,10 @@ module _ (history : List Entry) (e : Entry) (held : Option Held) (p : Pass) wher
   draw_start (Planned plan) = refl
   draw_start (OneRow c) = refl
 
-  pub draw_room : (pending : Pending) → (after_draw history e pending held p).room ≡ p.room
-  draw_room AtRest = refl
-  draw_room (Planned plan) = refl
-  draw_room (OneRow c) = refl
+  pub draw_blocks : (pending : Pending) → (after_draw history e pending held p).blocks ≡ p.blocks
+  draw_blocks AtRest = refl
+  draw_blocks (Planned plan) = refl
+  draw_blocks (OneRow c) = refl
 
   pub draw_most : (pending : Pending) → (after_draw history e pending held p).most ≡ p.most
   draw_most AtRest = refl
@@ -177,9 +178,9 @@ others_part start history words value worker p e differ own = record {
   seen = (own.seen.0 ++ e ∷ [], ap (λ l. l ++ e ∷ []) own.seen.1 ∙ append_assoc p.seen own.seen.0 (e ∷ []));
   mine = own_same worker history e differ ∙ own.mine;
   few = own.few;
-  room = own.room ∙ sym (length-set words 0 value);
+  room = room_stays words p.blocks 0 value (omega arith) own.room;
   owed = owed_on start history p.mine p.pending e own.owed;
-  laid = λ l k. layout_stays words 0 value (λ same. omega arith) ∙ own.laid l k;
+  laid = λ l k. layout_stays words 0 value (λ same. omega arith) (omega arith) (let w = own.room.1 in omega arith) ∙ own.laid l k;
   sequence = λ n c. get_or-set_other words 0 1 value 0 (λ same. omega arith) ∙ own.sequence n c;
 }
 
@@ -193,7 +194,7 @@ own_part start history state left words value worker p e AtRest held is few runs
   seen = ([], sym (append-nil (history ++ e ∷ [])));
   mine = own_more worker history e is ∙ ap (λ l. l ++ e ∷ []) own.mine;
   few = let l = length-append p.mine (e ∷ []) in omega arith;
-  room = own.room ∙ sym (length-set words 0 value);
+  room = room_stays words p.blocks 0 value (omega arith) own.room;
   owed = tt;
   laid = λ l none. absurd (none_is l none);
   sequence = λ n none. absurd (none_is n none);
@@ -203,9 +204,9 @@ own_part start history state left words value worker p e (Planned plan) held is 
   seen = ([], sym (append-nil (history ++ e ∷ [])));
   mine = own_more worker history e is ∙ ap (λ l. l ++ e ∷ []) own.mine;
   few = let l = length-append p.mine (e ∷ []) in omega arith;
-  room = own.room ∙ sym (length-set words 0 value);
+  room = room_stays words p.blocks 0 value (omega arith) own.room;
   owed = last_drawn start history p.mine state left (Planned plan) e runs right leaves;
-  laid = λ l k. layout_stays words 0 value (λ same. omega arith) ∙ own.laid l k;
+  laid = λ l k. layout_stays words 0 value (λ same. omega arith) (omega arith) (let w = own.room.1 in omega arith) ∙ own.laid l k;
   sequence = λ n c. get_or-set_other words 0 1 value 0 (λ same. omega arith) ∙ own.sequence n c;
 }
 own_part start history state left words value worker p e (OneRow c) held is few runs right leaves own = record {
@@ -213,9 +214,9 @@ own_part start history state left words value worker p e (OneRow c) held is few 
   seen = ([], sym (append-nil (history ++ e ∷ [])));
   mine = own_more worker history e is ∙ ap (λ l. l ++ e ∷ []) own.mine;
   few = let l = length-append p.mine (e ∷ []) in omega arith;
-  room = own.room ∙ sym (length-set words 0 value);
+  room = room_stays words p.blocks 0 value (omega arith) own.room;
   owed = last_drawn start history p.mine state left (OneRow c) e runs right leaves;
-  laid = λ l k. layout_stays words 0 value (λ same. omega arith) ∙ own.laid l k;
+  laid = λ l k. layout_stays words 0 value (λ same. omega arith) (omega arith) (let w = own.room.1 in omega arith) ∙ own.laid l k;
   sequence = λ n k. get_or-set_other words 0 1 value 0 (λ same. omega arith) ∙ own.sequence n k;
 }
 
@@ -261,7 +262,7 @@ module _ (grants : Grants) (start : List Areas) (history : List Entry) (state le
       let s = planned_set passes worker p q at in let z = resting_of p.pending rest in
       let c = ap planned_calls (draw_pending history e held p pending) in omega arith in
       let grown : length q.mine ≡ length p.mine + 1 = ap length (draw_mine history e held p pending) ∙ length-append p.mine (e ∷ []) in
-      let fits_rows = rows_fit start history state words passes r in
+      let wide_words = (r.parts worker p at).room.1 in
       let there : 0 < length words = omega arith in
       let rows_more = spare_rows state e.call e.reply left r.in_order answers in
       record {
@@ -280,7 +281,7 @@ module _ (grants : Grants) (start : List Areas) (history : List Entry) (state le
             let c = leaves_counts state left e.under pending leaves in omega arith;
         small = let m = most_set passes worker p q at (draw_most history e held p pending) in let f = r.small in omega arith;
         room = room_kept words (set words 0 value) (row_count start) passes worker p q at (draw_most history e held p pending)
-            (length-set words 0 value) r.room;
+            (nb_stays words 0 value (omega arith)) r.room;
         rows = λ none. shown_drawn grants history state left words passes worker value p e pending held backed exclusive has holds
             at rest leaves (omega arith) (r.rows (omega arith));
         parts = λ other x there. ⊎_elim
@@ -297,26 +298,25 @@ module _ (grants : Grants) (start : List Areas) (history : List Entry) (state le
 pub plan_fits : (start : List Areas) (history : List Entry) (state left : List Areas) (words : List ℕ) (passes : List Pass)
     (worker : ℕ) (p : Pass) (call : Call) (reply : Reply) (under : Under) (pending : Pending)
     → IsRunningSpace start history state words passes → get_elem? passes worker ≡ some p → length p.mine + 1 ≤ p.most
-    → Answers state call reply left → Leaves state under pending left → FitsIn pending p.room
+    → Answers state call reply left → Leaves state under pending left → FitsIn pending p.blocks
 plan_fits start history state left words passes worker p call reply under AtRest r at few answers leaves = tt
 plan_fits start history state left words passes worker p call reply under (Planned plan) r at few answers leaves =
     let shown = leaves_plan state left under plan leaves in
     let long = plan_length (rows_after plan) left (leaves_areas state call reply left r.in_order answers) shown.1 in
     let more = spare_rows state call reply left r.in_order answers in
     let limit = left_few state left call reply r.limit answers in
-    let room = (r.parts worker p at).room in
-    let fits = rows_fit_more start history state words passes worker (row_count left) p r at few more limit in
-    omega arith
+    subst (λ (n : ℕ). length (rows_after plan) ≤ room_of n) (sym (r.parts worker p at).room.0)
+    (subst (λ (n : ℕ). n ≤ room_of (nb_in words)) (sym long) (rows_fit_more start history state words passes worker (row_count left) p r at few more limit))
 plan_fits start history state left words passes worker p call reply under (OneRow c) r at few answers leaves = tt
 
 -- the rule's part on grants, after a draw
-module _ (grants : Grants) (state left : List Areas) (words : List ℕ) (value : ℕ) where
+module _ (grants : Grants) (state left : List Areas) (words : List ℕ) (value : ℕ) (wide : 19 < length words) where
   -- a caller that makes no step
   other_backed : (worker : ℕ) (x : Pass) → Backs grants left worker x.pending → IsBacked grants words state worker x
       → IsBacked grants (set words 0 value) left worker x
   other_backed worker x backs b = record {
     reads = b.reads;
-    rows = λ held has. all_stand held words (set words 0 value) (same_low words 0 value (omega arith)) x.rows (b.rows held has);
+    rows = λ held has. all_stand held words (set words 0 value) (same_low words 0 value (omega arith) wide) x.rows (b.rows held has);
     pending = backs;
   }
 
@@ -353,7 +353,7 @@ module _ (grants : Grants) (state left : List Areas) (words : List ℕ) (value :
       ⊎_elim
       (λ t. subst (λ (z : ℕ × Pass). IsBacked grants (set words 0 value) left z.0 z.1) (λ i. (sym t.0 i, t.1 i)) (record {
         reads = inr (everything, own, everything_pages);
-        rows = λ held mine. all_stand held words (set words 0 value) (same_low words 0 value (omega arith)) p.rows ((all worker p at).rows held mine);
+        rows = λ held mine. all_stand held words (set words 0 value) (same_low words 0 value (omega arith) wide) p.rows ((all worker p at).rows held mine);
         pending = (own, shown.1);
       }))
       (λ t. other_backed other x (others_rest worker other x.pending exclusive t.0 own (all other x t.1).pending) (all other x t.1))
@@ -365,7 +365,8 @@ module _ (grants : Grants) (state left : List Areas) (words : List ℕ) (value :
       ⊎_elim
       (λ t. subst (λ (z : ℕ × Pass). IsBacked grants (set words 0 value) left z.0 z.1) (λ i. (sym t.0 i, t.1 i)) (record {
         reads = inr (alone c.span, mine, span_pages c.span);
-        rows = λ held own_held. all_stand held words (set words 0 value) (same_low words 0 value (omega arith)) p.rows ((all worker p at).rows held own_held);
+        rows = λ held own_held. all_stand held words (set words 0 value) (same_low words 0 value (omega arith) wide) p.rows
+            ((all worker p at).rows held own_held);
         pending = (mine, l.2.inside, l.2.after);
       }))
       (λ t. other_backed other x (others_back grants state left passes worker p p l.0 c words all exclusive at own l.2 other

@@ -2,8 +2,8 @@
 -- rows stand for the state after it. It is stored in the callers' lists, by number, so it isn't just some history that
 -- exists. It is legal as a sequential history of an object (Herlihy and Wing, TOPLAS 1990), and each entry was
 -- numbered under the range that it names.
-use Rattle.std.specs.Prelude.{ℕ, ◌≡◌, ◌≢◌, ◌<◌, ◌≤◌, ◌+◌, ◌-◌, ◌*◌, ◌^◌, ◌==◌, ◌⊎◌, All, Option, Some, None, List, []}
-use Rattle.std.specs.Prelude.{◌∷◌, ◌++◌, not, filter, length, slice_index, sum_by}
+use Rattle.std.specs.Prelude.{ℕ, suc, ◌≡◌, ◌≢◌, ◌<◌, ◌≤◌, ◌+◌, ◌-◌, ◌*◌, ◌^◌, ◌==◌, ◌⊎◌, All, Option, Some, None, List, []}
+use Rattle.std.specs.Prelude.{◌∷◌, ◌++◌, not, filter, length, slice_index, slice_set, sum_by}
 use mathlib.Core.Option.{some}
 use lib.ListN.{get_elem?}
 use Rattle.page_types.specs.declared.TheConstants.{LIMIT, ROWS, SPARE}
@@ -32,7 +32,7 @@ use Rattle.area_guard.specs.declared.guard.Pending.{Pending}
 use Rattle.area_guard.specs.declared.guard.Splice.{Splice}
 use Rattle.area_guard.specs.declared.guard.Pending.TheVariants.{AtRest, Planned, OneRow}
 use Rattle.row_plans.specs.RowLists.{areas_from}
-use Rattle.area_guard.specs.Rows.{rows_in, layout_in, slots_in, IsSlot, RowsShow}
+use Rattle.area_guard.specs.Rows.{nb_in, rows_in, room_of, layout_in, slots_to, IsLayoutPlace, IsOneOf, IsSlot, RowsShow}
 use Rattle.row_plans.specs.Plans.{PlanShows}
 use Rattle.area_guard.specs.Reads.{everything, StillStands, noted_at}
 use Rattle.std.specs.List.{splice}
@@ -78,10 +78,10 @@ own_most pass = pass.most
 abbrev pub most_count : List Pass → ℕ
 most_count passes = sum_by own_most passes
 
--- so many client words have room for as many rows as there may be, or for those of the start and SPARE more for each
--- entry that the callers may have
+-- so many blocks have room for as many rows as there may be, or for those of the start and SPARE more for each entry
+-- that the callers may have
 abbrev pub HasRoom : ℕ → ℕ → ℕ → Type 0
-HasRoom wide rows most = (19 + ROWS ≤ wide) ⊎ (19 + (rows + SPARE * most) ≤ wide)
+HasRoom nb rows most = (ROWS ≤ room_of nb) ⊎ (rows + SPARE * most ≤ room_of nb)
 
 -- the layout that a caller has read under its range is so
 abbrev pub StillLaid : List ℕ → Option (List ℕ) → Type 0
@@ -117,11 +117,11 @@ Leaves state (Reader span) (OneRow change) left = ⊥
 Leaves state (Area span) (OneRow change) left = IsChange state span change left
 Leaves state Whole (OneRow change) left = ⊥
 
--- there is room for the rows that are to be written
+-- so many blocks have room for the rows that are to be written
 abbrev pub FitsIn : Pending → ℕ → Type 0
-FitsIn AtRest room = Unit {0}
-FitsIn (Planned plan) room = length (rows_after plan) ≤ room
-FitsIn (OneRow change) room = Unit {0}
+FitsIn AtRest nb = Unit {0}
+FitsIn (Planned plan) nb = length (rows_after plan) ≤ room_of nb
+FitsIn (OneRow change) nb = Unit {0}
 
 -- what is to be written is what one entry leaves: the last one of its caller. The entries before it lead to a state at
 -- which it is right, and from that state to the one that it leaves the change is the one that is to be written
@@ -145,15 +145,19 @@ IsOwed start history mine AtRest = Unit {0}
 IsOwed start history mine (Planned plan) = IsOfLastEntry start history mine (Planned plan)
 IsOwed start history mine (OneRow change) = IsOfLastEntry start history mine (OneRow change)
 
+-- so many blocks are those that the words tell, and there is room for them before the last seventeen words
+abbrev pub HasBlocks : List ℕ → ℕ → Type 0
+HasBlocks words nb = (nb ≡ nb_in words) × (21 + 129 * nb_in words ≤ length words)
+
 -- one caller's part: it began with the same areas, has seen a beginning of the history, stores just its own entries,
--- no more of them than it may have, knows the room for rows, what it has to write is what the last of these entries
--- leaves, and what it has read of the layout and the sequence word is still so
+-- no more of them than it may have, knows how many blocks there is room for, what it has to write is what the last of
+-- these entries leaves, and what it has read of the layout and the sequence word is still so
 pub record IsPart (start : List Areas) (history : List Entry) (words : List ℕ) (worker : ℕ) (pass : Pass) : Type 0 where
   pub began : pass.start ≡ start
   pub seen : StartsWith history pass.seen
   pub mine : entries_of worker history ≡ pass.mine
   pub few : length pass.mine ≤ pass.most
-  pub room : 19 + pass.room ≡ length words
+  pub room : HasBlocks words pass.blocks
   pub owed : IsOwed start history pass.mine pass.pending
   pub laid : StillLaid words pass.laid
   pub sequence : StillRaised words pass.sequence
@@ -211,7 +215,7 @@ pub record IsRunningSpace (start : List Areas) (history : List Entry) (state : L
   pub number : slice_index words 0 ≡ length history
   pub sequence : slice_index words 1 + planned_count passes ≡ whole_count history
   pub small : most_count passes < 2 ^ 40
-  pub room : HasRoom (length words) (row_count start) (most_count passes)
+  pub room : HasRoom (nb_in words) (row_count start) (most_count passes)
   pub rows : planned_count passes ≡ 0 → RowsStandFor state passes words
   pub parts : (worker : ℕ) (pass : Pass) → get_elem? passes worker ≡ some pass → IsPart start history words worker pass
   -- no entry is of another caller
@@ -259,7 +263,7 @@ HasHistory grants words passes = (start : List Areas) × (history : List Entry) 
 abbrev pub newcomer : List ℕ → ℕ → Pass
 newcomer words number = record {
   start = areas_from (rows_in words);
-  room = length words - 19;
+  blocks = nb_in words;
   most = slice_index words (length words - 16 + number);
   seen = [];
   mine = [];
@@ -327,13 +331,19 @@ after_look history held p = record p { seen = history; looks = record { found = 
 abbrev pub after_sequence : ℕ → Pass → Pass
 after_sequence n p = record p { sequence = Some n }
 
--- the pass after a load of a word of the layout, with which the caller notes all of it, and all rows as they stand
+-- the pass after a load of a word of the layout, with which the caller notes all of it, and the words of all slots,
+-- also of those in which no row stands
 abbrev pub after_seen : List ℕ → Pass → Pass
-after_seen words p = record p { laid = Some (layout_in words); rows = noted_at words (slots_in words) ++ p.rows }
+after_seen words p = record p { laid = Some (layout_in words); rows = noted_at words (slots_to (nb_in words)) ++ p.rows }
 
--- the pass after a store of the row count, which is the whole layout
-abbrev pub after_count : ℕ → Pass → Pass
-after_count n p = record p { laid = Some (n ∷ []) }
+-- a layout that was read, with one of its words changed
+abbrev pub laid_with : ℕ → ℕ → Option (List ℕ) → Option (List ℕ)
+laid_with index word None = None
+laid_with index word (Some layout) = Some (slice_set layout index word)
+
+-- the pass after a store of a word of the layout
+abbrev pub after_layout : ℕ → ℕ → Pass → Pass
+after_layout index word p = record p { laid = laid_with index word p.laid }
 
 -- the pass after a load of a row
 abbrev pub after_row : ℕ → ℕ → Pass → Pass
@@ -352,7 +362,7 @@ after_store index word p = record p { rows = record { index = index; word = word
 abbrev pub after_draw : List Entry → Entry → Pending → Option Held → Pass → Pass
 after_draw history e AtRest held p = record {
   start = p.start;
-  room = p.room;
+  blocks = p.blocks;
   most = p.most;
   seen = history ++ e ∷ [];
   mine = p.mine ++ e ∷ [];
@@ -365,7 +375,7 @@ after_draw history e AtRest held p = record {
 }
 after_draw history e (Planned plan) held p = record {
   start = p.start;
-  room = p.room;
+  blocks = p.blocks;
   most = p.most;
   seen = history ++ e ∷ [];
   mine = p.mine ++ e ∷ [];
@@ -378,7 +388,7 @@ after_draw history e (Planned plan) held p = record {
 }
 after_draw history e (OneRow change) held p = record {
   start = p.start;
-  room = p.room;
+  blocks = p.blocks;
   most = p.most;
   seen = history ++ e ∷ [];
   mine = p.mine ++ e ∷ [];
@@ -400,15 +410,15 @@ after_change p = record p { laid = None; rows = []; sequence = None; pending = A
 
 -- the loads that a caller may make: the number word and the sequence word at any time. What it has read of the sequence
 -- word, of the layout and of a row it remembers, and it reads the last two only while it holds pages. With a word of
--- the layout it remembers all of it and all rows of the moment; those that others may change beside its range stand
--- still as far as it can tell, and all of them where it holds everything. Of a load of the number word it remembers
--- what it found and held
+-- the layout it remembers all of it and the words of all slots at the moment; those that others may change beside its
+-- range stand still as far as it can tell, and all of them where it holds everything. Of a load of the number word it
+-- remembers what it found and held
 pub data MayLoad (own : Option Held → Type 0) (free held : Type 0) (words : List ℕ) (history : List Entry) (place : ℕ) (p after : Pass) : Type 0 where
   number : (h : Option Held) → own h → place ≡ 0 → after ≡ after_look history h p → MayLoad own free held words history place p after
   glance : free → place ≡ 1 → after ≡ p → MayLoad own free held words history place p after
   sequence : held → place ≡ 1 → after ≡ after_sequence (slice_index words 1) p → MayLoad own free held words history place p after
-  count : held → place ≡ 2 → after ≡ after_seen words p → MayLoad own free held words history place p after
-  row : (index : ℕ) → held → index < ROWS → place ≡ 3 + index → after ≡ after_row index (slice_index words (3 + index)) p
+  layout : held → IsLayoutPlace p.blocks place → after ≡ after_seen words p → MayLoad own free held words history place p after
+  row : (index : ℕ) → held → index < 128 * p.blocks → place ≡ 3 + index → after ≡ after_row index (slice_index words (3 + index)) p
       → MayLoad own free held words history place p after
 
 -- the caller of that number holds this, or nothing
@@ -431,15 +441,23 @@ pub record MayDraw (grants : Grants) (words : List ℕ) (passes : List Pass) (wo
   pub held : (h : Option Held) × (get_elem? grants worker ≡ some h) × HoldsFor h note.under
   pub few : length here.pass.mine + 1 ≤ here.pass.most
 
--- the stores of a call under everything: a row of its plan, or the count of its rows
-pub data MayStore (rows : List ℕ) (place value : ℕ) (p after : Pass) : Type 0 where
-  store_row : (index : ℕ) → index < length rows → place ≡ 3 + index → value ≡ slice_index rows index
-      → after ≡ after_store index value p → MayStore rows place value p after
-  store_count : place ≡ 2 → value ≡ length rows → after ≡ after_count value p → MayStore rows place value p after
+-- a word is one of the rows of a plan: of those that stood, or of those that it leaves
+abbrev pub IsPlanRow : Splice → ℕ → Type 0
+IsPlanRow plan word = IsOneOf plan.old word ⊎ IsOneOf (rows_after plan) word
 
--- a place in use: that of the row count, or of a slot in which a row stands
+-- the stores of a call under everything: a row of its plan in a slot, the count of the rows that it leaves, or another
+-- word of the layout
+pub data MayStore (plan : Splice) (place value : ℕ) (p after : Pass) : Type 0 where
+  store_row : (index : ℕ) → index < 128 * p.blocks → place ≡ 3 + index → IsPlanRow plan value
+      → after ≡ after_store index value p → MayStore plan place value p after
+  store_count : place ≡ 2 → value ≡ length (rows_after plan) → after ≡ after_layout 0 value p → MayStore plan place value p after
+  store_layout : (index : ℕ) → index ≤ p.blocks → place ≡ 3 + 128 * p.blocks + index → after ≡ after_layout (suc index) value p
+      → MayStore plan place value p after
+
+-- a place in use: that of the row count, or of a slot in which a row stands. While the layout is being written it may
+-- name slots that there aren't; none of these is meant
 abbrev pub IsInUse : List ℕ → ℕ → Type 0
-IsInUse words place = (place ≡ 2) ⊎ ((slot : ℕ) × (place ≡ 3 + slot) × IsSlot words slot)
+IsInUse words place = (place ≡ 2) ⊎ ((slot : ℕ) × (place ≡ 3 + slot) × (slot < 128 * nb_in words) × IsSlot words slot)
 
 -- a word is new at its place: where that is in use, another word stands there
 abbrev pub IsNew : List ℕ → ℕ → ℕ → Type 0
@@ -448,7 +466,7 @@ IsNew words place value = IsInUse words place → slice_index words place ≢ va
 -- what a caller that has something to write may store
 abbrev pub MayWrite : List ℕ → Pending → ℕ → ℕ → Pass → Pass → Type 0
 MayWrite words AtRest place value p after = ⊥
-MayWrite words (Planned plan) place value p after = MayStore (rows_after plan) place value p after × IsNew words place value
+MayWrite words (Planned plan) place value p after = MayStore plan place value p after × IsNew words place value
 MayWrite words (OneRow change) place value p after = (place ≡ 3 + change.index) × (value ≡ new_word change)
     × MayReplace words change × (after ≡ after_change p)
 

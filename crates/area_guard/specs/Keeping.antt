@@ -2,7 +2,7 @@
 -- are the proofs that `Guard` of `lock_core` asks for. They stand here, and not among the proofs, since the guard cites
 -- them; a reader who trusts the check may pass them over.
 use Rattle.std.specs.Prelude.{All, Option, Some, None, slice_index}
-use Rattle.std.proofs.Common.{◌≡◌, ℕ, ◌+◌, ◌%◌, ◌^◌, inl, inr, List, [], ◌∷◌, ◌++◌, length, set, sym, refl, ◌∙◌, subst, ⊎_elim}
+use Rattle.std.proofs.Common.{◌≡◌, ℕ, ◌+◌, ◌*◌, ◌%◌, ◌^◌, ◌<◌, arith, inl, inr, List, [], ◌∷◌, ◌++◌, length, set, sym, refl, ◌∙◌, subst, ⊎_elim}
 use Rattle.std.proofs.lemmas.List.Elements.{All-nil, All-cons, All-append}
 use mathlib.Core.Option.{some, some-injective}
 use mathlib.Core.Logic.{dite}
@@ -22,14 +22,14 @@ use Rattle.area_guard.specs.declared.guard.Note.{Note}
 use Rattle.area_guard.specs.declared.guard.ReadRow.{ReadRow}
 use Rattle.area_guard.specs.declared.guard.Pass.{Pass}
 use Rattle.area_guard.specs.declared.guard.Pending.{Pending}
-use Rattle.area_guard.specs.Rows.{slots_in}
+use Rattle.area_guard.specs.Rows.{nb_in, slots_to}
 use Rattle.area_guard.specs.declared.guard.Pending.TheVariants.{AtRest, Planned, OneRow}
 use Rattle.area_guard.specs.Reads.{everything, noted_at, StillStands}
 use Rattle.area_guard.specs.Changes.{alone}
 use Rattle.area_guard.specs.History.{IsRunningSpace, HoldsPages, HoldsJust, HoldsNothing, Backs, IsBacked, AreBacked, HasHistory}
 use Rattle.area_guard.specs.History.{rest_of, IsAtRest, entry_of, after_look, after_seen, after_sequence, after_row}
 use Rattle.area_guard.specs.History.{Here, MayLoad, MayWrite, MayAdd, Allowed}
-use Rattle.area_guard.specs.History.MayLoad.{number, glance, sequence, count, row}
+use Rattle.area_guard.specs.History.MayLoad.{number, glance, sequence, layout, row}
 use Rattle.area_guard.specs.History.MayAdd.{draw, raise}
 use Rattle.area_guard.specs.Stands.{exact_stands, noted_stand}
 use Rattle.area_guard.specs.Parts.{none_is, looked, counted, raised, read, rested, replaced}
@@ -51,22 +51,23 @@ backed_set grants words state passes worker q all own other x there = ⊎_elim
     (at_set passes worker other q x there)
 
 module _ (grants : Grants) (words : List ℕ) (history : List Entry) (state : List Areas) (worker place : ℕ) (p after : Pass)
-    (b : IsBacked grants words state worker p) where
+    (b : IsBacked grants words state worker p) (blocks : p.blocks ≡ nb_in words) where
   load_backed : MayLoad (HoldsJust grants worker) (HoldsNothing grants worker) (HoldsPages grants worker) words history place p after
       → IsBacked grants words state worker after
   load_backed (number h o e is) = subst (IsBacked grants words state worker) (sym is) (record { reads = b.reads; rows = b.rows; pending = b.pending })
   load_backed (glance free e is) = subst (IsBacked grants words state worker) (sym is) b
   load_backed (sequence h e is) = subst (IsBacked grants words state worker) (sym is) (record { reads = inr h; rows = b.rows; pending = b.pending })
-  load_backed (count h e is) = subst (IsBacked grants words state worker) (sym is) (record {
+  load_backed (layout h e is) = subst (IsBacked grants words state worker) (sym is) (record {
     reads = inr h;
-    rows = λ held has. All-append (StillStands held words) (noted_at words (slots_in words)) p.rows (noted_stand held words (slots_in words)) (b.rows held has);
+    rows = λ held has. All-append (StillStands held words) (noted_at words (slots_to (nb_in words))) p.rows (noted_stand held words) (b.rows held has);
     pending = b.pending;
   })
-  load_backed (row index h few e is) = subst (IsBacked grants words state worker) (sym is) (record {
+  load_backed (row index h slot e is) = subst (IsBacked grants words state worker) (sym is) (record {
     reads = inr h;
     rows = λ held has.
         let r : ReadRow = record { index = index; word = slice_index words (3 + index) } in
-        All-cons (StillStands held words) r p.rows (exact_stands held words r refl) (b.rows held has);
+        All-cons (StillStands held words) r p.rows
+        (exact_stands held words r (subst (λ (n : ℕ). index < 128 * n) blocks slot) refl) (b.rows held has);
     pending = b.pending;
   })
 
@@ -85,11 +86,11 @@ module _ (mine : Option Held → Type 0) (free held : Type 0) (start : List Area
       subst (λ (q : Pass). IsRunningSpace start history state words (set passes worker q)) (sym is)
       (replaced start history state words worker p (r.parts worker p at) passes (after_sequence (slice_index words 1) p) r at
       (raised start history state words worker p (r.parts worker p at)) refl refl refl)
-  loads_keep (count h e is) =
+  loads_keep (layout h e is) =
       subst (λ (q : Pass). IsRunningSpace start history state words (set passes worker q)) (sym is)
       (replaced start history state words worker p (r.parts worker p at) passes (after_seen words p) r at
       (counted start history state words worker p (r.parts worker p at)) refl refl refl)
-  loads_keep (row index h few e is) =
+  loads_keep (row index h slot e is) =
       subst (λ (q : Pass). IsRunningSpace start history state words (set passes worker q)) (sym is)
       (replaced start history state words worker p (r.parts worker p at) passes
       (after_row index (slice_index words (3 + index)) p) r at
@@ -107,7 +108,8 @@ adds_keep grants words passes worker note here place after (draw zero_is d is) =
       drawn grants here.start here.history here.state d.left words passes worker here.pass e note.pending d.held.0 here.running
           here.backed here.exclusive d.held.1 d.held.2 here.own refl refl d.leaves d.rest d.named d.right.fits d.right.answers
           d.few,
-      drawn_backed grants here.state d.left words ((slice_index words 0 + 1) % 2 ^ 64) here.history passes worker here.pass e
+      drawn_backed grants here.state d.left words ((slice_index words 0 + 1) % 2 ^ 64)
+          (let wide = (here.running.parts worker here.pass here.own).room.1 in omega arith) here.history passes worker here.pass e
           note.under note.pending d.held.0 here.backed here.exclusive here.own d.held.1 d.held.2 d.leaves,
     )
 adds_keep grants words passes worker note here place after (raise plan one_is pends written is) =
@@ -151,7 +153,8 @@ steps_keep grants words passes worker (loads i) note after kept may =
       loads_keep (HoldsJust grants worker) (HoldsNothing grants worker) (HoldsPages grants worker)
           h.start h.history h.state words passes worker i h.pass after h.running h.own may.1,
       backed_set grants words h.state passes worker after h.backed
-          (load_backed grants words h.history h.state worker i h.pass after (h.backed worker h.pass h.own) may.1),
+          (load_backed grants words h.history h.state worker i h.pass after (h.backed worker h.pass h.own)
+          (h.running.parts worker h.pass h.own).room.0 may.1),
     )
 steps_keep grants words passes worker (stores i value) note after kept may =
     writes_keep grants words passes worker may.0 may.0.pass.pending i value after refl may.1

@@ -1,7 +1,7 @@
 -- How many entries and how many unwritten calls the callers have together, and one caller's part of the rule, after its
 -- pass has changed. These are parts of the proofs in `Keeping`; a reader who trusts the check may pass them over.
 use Rattle.std.specs.Prelude.{Option, Some, None, slice_index, sum_by}
-use Rattle.std.proofs.Common.{◌≡◌, ◌≢◌, ℕ, suc, ◌+◌, ◌^◌, ◌<◌, ◌≤◌, inl, inr, Bool, true, false, cond, eqb, List, [], ◌∷◌}
+use Rattle.std.proofs.Common.{◌≡◌, ◌≢◌, ℕ, suc, ◌+◌, ◌*◌, ◌^◌, ◌<◌, ◌≤◌, inl, inr, Bool, true, false, cond, eqb, List, [], ◌∷◌}
 use Rattle.std.proofs.Common.{◌++◌, length, set, sym, refl, ap, ◌∙◌, subst, arith, length-set, eq-eqb, ne_eqb, ⊎_elim}
 use Rattle.std.proofs.lemmas.List.{append-nil, get_or-set_same, get_or-set_other}
 use Rattle.std.proofs.lemmas.List.Sums.{sum_by-cons, sum_by-set}
@@ -22,13 +22,13 @@ use Rattle.lock_core.specs.declared.range.Held.{Held}
 use Rattle.area_guard.specs.declared.guard.Pass.{Pass}
 use Rattle.area_guard.specs.declared.guard.Pending.{Pending}
 use Rattle.area_guard.specs.declared.guard.Splice.{Splice}
-use Rattle.area_guard.specs.Rows.{layout_in}
+use Rattle.area_guard.specs.Rows.{nb_in, room_of, layout_in}
 use Rattle.area_guard.specs.declared.guard.Pending.TheVariants.{AtRest, Planned}
-use Rattle.area_guard.specs.History.{entries_of, with_whole, whole_count, own_count, entry_count, own_most, most_count, HasRoom, IsPart, planned_calls}
+use Rattle.area_guard.specs.History.{entries_of, with_whole, whole_count, own_count, entry_count, own_most, most_count, HasRoom, HasBlocks, IsPart, planned_calls}
 use Rattle.area_guard.specs.History.{own_planned, planned_count, RowsStandFor, IsRunningSpace, HasReadNothing, rest_of}
-use Rattle.area_guard.specs.History.{after_look, after_seen, after_count, after_sequence, after_row, after_store, after_raise}
+use Rattle.area_guard.specs.History.{StillLaid, laid_with, after_look, after_seen, after_layout, after_sequence, after_row, after_store, after_raise}
 use Rattle.area_guard.specs.History.{after_change}
-use Rattle.area_guard.specs.Stands.{layout_stays, shown_set}
+use Rattle.area_guard.specs.Stands.{room_stays, layout_stays, layout_counted, layout_told, shown_set}
 
 keep_end : {A : Type 0} (b : Bool) (x : A) (xs ys zs : List A) → ys ≡ xs ++ zs → cond b (x ∷ ys) ys ≡ cond b (x ∷ xs) xs ++ zs
 keep_end true x xs ys zs e = ap (λ l. x ∷ l) e
@@ -66,13 +66,13 @@ pub most_set : (passes : List Pass) (worker : ℕ) (p q : Pass) → get_elem? pa
     → most_count (set passes worker q) ≡ most_count passes
 most_set passes worker p q at same = let s = sum_set own_most passes worker p q at in omega arith
 
--- so there is room as before, where there are as many words
+-- so there is room as before, where there are as many blocks
 pub room_kept : (words others : List ℕ) (rows : ℕ) (passes : List Pass) (worker : ℕ) (p q : Pass) → get_elem? passes worker ≡ some p
-    → q.most ≡ p.most → length others ≡ length words → HasRoom (length words) rows (most_count passes)
-    → HasRoom (length others) rows (most_count (set passes worker q))
-room_kept words others rows passes worker p q at same wide room =
+    → q.most ≡ p.most → nb_in others ≡ nb_in words → HasRoom (nb_in words) rows (most_count passes)
+    → HasRoom (nb_in others) rows (most_count (set passes worker q))
+room_kept words others rows passes worker p q at same blocks room =
     let m = most_set passes worker p q at same in
-    ⊎_elim (λ all. inl (omega arith)) (λ some_rows. inr (omega arith)) room
+    subst (λ (z : ℕ × ℕ). HasRoom z.0 rows z.1) (λ i. (sym blocks i, sym m i)) room
 
 -- the callers' entries together are no more than they may have
 count_most : (passes : List Pass) → ((worker : ℕ) (p : Pass) → get_elem? passes worker ≡ some p → length p.mine ≤ p.most)
@@ -84,7 +84,7 @@ count_most (x ∷ xs) all =
 
 -- there is room for the rows of the state
 pub rows_fit : (start : List Areas) (history : List Entry) (state : List Areas) (words : List ℕ) (passes : List Pass)
-    → IsRunningSpace start history state words passes → 19 + row_count state ≤ length words
+    → IsRunningSpace start history state words passes → row_count state ≤ room_of (nb_in words)
 rows_fit start history state words passes r =
     let b = count_most passes (λ i p at. (r.parts i p at).few) in let t = r.total in let g = r.grown in let l = r.limit in
     ⊎_elim (λ all. omega arith) (λ some_rows. omega arith) r.room
@@ -92,7 +92,7 @@ rows_fit start history state words passes r =
 -- and for SPARE more, or as many as there may be, where a caller may have one entry more
 pub rows_fit_more : (start : List Areas) (history : List Entry) (state : List Areas) (words : List ℕ) (passes : List Pass)
     (worker rows : ℕ) (p : Pass) → IsRunningSpace start history state words passes → get_elem? passes worker ≡ some p
-    → length p.mine + 1 ≤ p.most → rows ≤ row_count state + SPARE → rows ≤ ROWS → 19 + rows ≤ length words
+    → length p.mine + 1 ≤ p.most → rows ≤ row_count state + SPARE → rows ≤ ROWS → rows ≤ room_of (nb_in words)
 rows_fit_more start history state words passes worker rows p r at more few limit =
     let own : Pass = record p { mine = no_entry ∷ p.mine } in
     let all : (i : ℕ) (q : Pass) → get_elem? (set passes worker own) i ≡ some q → length q.mine ≤ q.most =
@@ -156,29 +156,36 @@ none_is a e = cc
 
 -- the part of a caller that has read nothing of what changes
 pub blank_part : (start : List Areas) (history : List Entry) (words others : List ℕ) (worker : ℕ) (x : Pass) → HasReadNothing x
-    → length others ≡ length words → IsPart start history words worker x → IsPart start history others worker x
-blank_part start history words others worker x n wide own = record {
+    → HasBlocks others x.blocks → IsPart start history words worker x → IsPart start history others worker x
+blank_part start history words others worker x n room own = record {
   began = own.began;
   seen = own.seen;
   mine = own.mine;
   few = own.few;
-  room = own.room ∙ sym wide;
+  room = room;
   owed = own.owed;
   laid = λ l e. absurd (none_is l (sym n.0 ∙ e));
   sequence = λ m e. absurd (none_is m (sym n.2 ∙ e));
 }
 
+-- the layout that was read, after it and the words have changed alike
+laid_still : (words others : List ℕ) (index word : ℕ) (laid : Option (List ℕ)) → StillLaid words laid
+    → layout_in others ≡ set (layout_in words) index word → StillLaid others (laid_with index word laid)
+laid_still words others index word None still now layout e = absurd (none_is layout e)
+laid_still words others index word (Some stood) still now layout e =
+    now ∙ (ap (λ (l : List ℕ). set l index word) (still stood refl) ∙ some_is (set stood index word) layout e)
+
 -- the part of a caller that makes no step while another stores a row
-pub beside_part : (start : List Areas) (history : List Entry) (words : List ℕ) (worker index value : ℕ) (x : Pass)
+pub beside_part : (start : List Areas) (history : List Entry) (words : List ℕ) (worker index value : ℕ) (x : Pass) → index < 128 * nb_in words
     → IsPart start history words worker x → IsPart start history (set words (3 + index) value) worker x
-beside_part start history words worker index value x own = record {
+beside_part start history words worker index value x slot own = record {
   began = own.began;
   seen = own.seen;
   mine = own.mine;
   few = own.few;
-  room = own.room ∙ sym (length-set words (3 + index) value);
+  room = room_stays words x.blocks (3 + index) value (omega arith) own.room;
   owed = own.owed;
-  laid = λ l e. layout_stays words (3 + index) value (λ same. omega arith) ∙ own.laid l e;
+  laid = λ l e. layout_stays words (3 + index) value (λ same. omega arith) (omega arith) (let w = own.room.1 in omega arith) ∙ own.laid l e;
   sequence = λ n e. get_or-set_other words (3 + index) 1 value 0 (λ same. omega arith) ∙ own.sequence n e;
 }
 
@@ -244,49 +251,68 @@ module _ (start : List Areas) (history : List Entry) (state : List Areas) (words
     sequence = λ n e. absurd (none_is n e);
   }
 
-  pub stored : (index value : ℕ) → IsPart start history (set words (3 + index) value) worker (after_store index value p)
-  stored index value = record {
+  pub stored : (index value : ℕ) → index < 128 * p.blocks → IsPart start history (set words (3 + index) value) worker (after_store index value p)
+  stored index value slot = let is = own.room.0 in let wide = own.room.1 in record {
     began = own.began;
     seen = own.seen;
     mine = own.mine;
     few = own.few;
-    room = own.room ∙ sym (length-set words (3 + index) value);
+    room = room_stays words p.blocks (3 + index) value (omega arith) own.room;
     owed = own.owed;
-    laid = λ l e. layout_stays words (3 + index) value (λ same. omega arith) ∙ own.laid l e;
+    laid = λ l e. layout_stays words (3 + index) value (λ same. omega arith) (omega arith) (omega arith) ∙ own.laid l e;
     sequence = λ n e. get_or-set_other words (3 + index) 1 value 0 (λ same. omega arith) ∙ own.sequence n e;
   }
 
-  pub stored_count : (value : ℕ) → 2 < length words → IsPart start history (set words 2 value) worker (after_count value p)
-  stored_count value there = record {
+  pub stored_count : (value : ℕ) → IsPart start history (set words 2 value) worker (after_layout 0 value p)
+  stored_count value = let wide = own.room.1 in record {
     began = own.began;
     seen = own.seen;
     mine = own.mine;
     few = own.few;
-    room = own.room ∙ sym (length-set words 2 value);
+    room = room_stays words p.blocks 2 value (omega arith) own.room;
     owed = own.owed;
-    laid = λ l e. ap (λ (n : ℕ). n ∷ []) (get_or-set_same words 2 value 0 there) ∙ some_is (value ∷ []) l e;
+    laid = laid_still words (set words 2 value) 0 value p.laid own.laid (layout_counted words value (omega arith));
     sequence = λ n e. get_or-set_other words 2 1 value 0 (λ same. omega arith) ∙ own.sequence n e;
   }
 
+  pub stored_layout : (index value : ℕ) → index ≤ p.blocks
+      → IsPart start history (set words (3 + 128 * p.blocks + index) value) worker (after_layout (suc index) value p)
+  stored_layout index value below =
+      let is = own.room.0 in
+      let wide = own.room.1 in
+      let at : 3 + 128 * nb_in words + index ≡ 3 + 128 * p.blocks + index = omega arith in
+      record {
+        began = own.began;
+        seen = own.seen;
+        mine = own.mine;
+        few = own.few;
+        room = room_stays words p.blocks (3 + 128 * p.blocks + index) value (omega arith) own.room;
+        owed = own.owed;
+        laid = laid_still words (set words (3 + 128 * p.blocks + index) value) (suc index) value p.laid own.laid
+            (subst (λ (n : ℕ). layout_in (set words n value) ≡ set (layout_in words) (suc index) value) at
+            (layout_told words index value (omega arith) wide));
+        sequence = λ n e. get_or-set_other words (3 + 128 * p.blocks + index) 1 value 0 (λ same. omega arith) ∙ own.sequence n e;
+      }
+
   pub raised_after : (value : ℕ) → IsPart start history (set words 1 value) worker (after_raise p)
-  raised_after value = record {
+  raised_after value = let wide = own.room.1 in record {
     began = own.began;
     seen = own.seen;
     mine = own.mine;
     few = own.few;
-    room = own.room ∙ sym (length-set words 1 value);
+    room = room_stays words p.blocks 1 value (omega arith) own.room;
     owed = tt;
-    laid = λ l e. layout_stays words 1 value (λ same. omega arith) ∙ own.laid l e;
+    laid = λ l e. layout_stays words 1 value (λ same. omega arith) (omega arith) (omega arith) ∙ own.laid l e;
     sequence = λ n e. absurd (none_is n e);
   }
 
-  pub changed : (others : List ℕ) → length others ≡ length words → IsPart start history others worker (after_change p)
-  changed others wide = record {
+  pub changed : (others : List ℕ) → HasBlocks others p.blocks → IsPart start history others worker (after_change p)
+  changed others room = record {
     began = own.began;
     seen = own.seen;
     mine = own.mine;
     few = own.few;
-    room = own.room ∙ sym wide;
+    room = room;
     owed = tt;
     laid = λ l e. absurd (none_is l e);
     sequence = λ n e. absurd (none_is n e);

@@ -29,6 +29,7 @@ use Rattle.area_guard.specs.Reads.{IsHeldPage, StillStands}
 use Rattle.area_guard.specs.Changes.{IsIn, alone, new_word, IsInside, with_change, IsChange, MayReplace}
 use Rattle.area_guard.specs.History.{IsPart, planned_calls, planned_count, LagsAt, ShowsBefore, IsShown, RowsStandFor}
 use Rattle.area_guard.specs.History.{IsRunningSpace, Backs, IsBacked, AreBacked, HasReadNothing, after_change}
+use Rattle.area_guard.specs.Stands.{nb_stays, room_stays}
 use Rattle.area_guard.specs.Parts.{some_is, count_set, most_set, room_kept, planned_set, beside_part, changed}
 use Rattle.area_guard.specs.Writes.{span_pages, clash}
 use Rattle.area_guard.specs.Beside.{apart_pages, all_stand_on}
@@ -170,6 +171,9 @@ module _ (grants : Grants) (start : List Areas) (history : List Entry) (state : 
   change_keeps may =
       let q : Pass = after_change p in
       let value = new_word c in
+      let slot = may.there in
+      let room = (r.parts worker p at).room in
+      let wide_words = room.1 in
       let wide : length (set passes worker q) ≡ length passes = length-set passes worker q in
       let none : planned_calls p.pending ≡ 0 = ap planned_calls pends in
       let pending : planned_count (set passes worker q) ≡ planned_count passes = let s = planned_set passes worker p q at in omega arith in
@@ -188,14 +192,14 @@ module _ (grants : Grants) (start : List Areas) (history : List Entry) (state : 
             ∙ (ap (λ n. slice_index words 1 + n) pending ∙ r.sequence);
         small = let m = most_set passes worker p q at refl in let f = r.small in omega arith;
         room = room_kept words (set words (3 + c.index) value) (row_count start) passes worker p q at refl
-            (length-set words (3 + c.index) value) r.room;
+            (nb_stays words (3 + c.index) value (omega arith)) r.room;
         rows = λ no_plan. let s : RowsStandFor state passes words = r.rows (sym pending ∙ no_plan) in
             (with_change c s.0, shown_after_store s.0 s.1, may.shows s.0 s.2);
         parts = λ other x there. ⊎_elim
             (λ t. subst (λ (z : ℕ × Pass). IsPart start history (set words (3 + c.index) value) z.0 z.1) (λ i. (sym t.0 i, t.1 i))
             (changed start history state words worker p (r.parts worker p at) (set words (3 + c.index) value)
-            (length-set words (3 + c.index) value)))
-            (λ t. beside_part start history words other c.index value x (r.parts other x t.1))
+            (room_stays words p.blocks (3 + c.index) value (omega arith) room)))
+            (λ t. beside_part start history words other c.index value x slot (r.parts other x t.1))
             (at_set passes worker other q x there);
         no_other = λ other le. r.no_other other (omega arith);
         total = r.total ∙ (let s = count_set passes worker p q 0 at (omega arith) in omega arith);
@@ -211,7 +215,7 @@ module _ (grants : Grants) (start : List Areas) (history : List Entry) (state : 
         rows = λ held has. ⊎_elim
             (λ n. subst (All (StillStands held (set words (3 + c.index) (new_word c)))) (sym n.1)
             (All-nil (StillStands held (set words (3 + c.index) (new_word c)))))
-            (λ low. all_stand_on held words c may may.there low
+            (λ low. all_stand_on held words c may (r.parts other x there).room.1 low
             (λ page h i. apart_pages grants worker other c.span exclusive differ change_backs.0 held has page h i) x.rows
             (b.rows held has))
             (held_below grants words state other x b held has);

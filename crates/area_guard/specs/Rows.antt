@@ -1,7 +1,7 @@
--- The row words among the client words, and what they show: the kind of each page. `RowsShow` takes the kinds as a
--- function from pages, so that rows which lag behind the history at some pages are said by another function and not by
--- another definition.
-use Rattle.std.specs.Prelude.{ℕ, zero, suc, ◌≡◌, ◌<◌, ◌≤◌, ◌+◌, ◌-◌, ◌*◌, ◌/◌, All, Option, Some, None, List, [], ◌∷◌, length, min, take, drop, slice_index}
+-- The row words among the client words, and what they show: the kind of each page. Rows stand in blocks, as
+-- `row_blocks` has it, in words from client word 3 on. `RowsShow` takes the kinds as a function from pages, so that
+-- rows which lag behind the history at some pages are said by another function and not by another definition.
+use Rattle.std.specs.Prelude.{ℕ, ◌≡◌, ◌<◌, ◌≤◌, ◌+◌, ◌-◌, ◌*◌, ◌/◌, ◌%◌, ◌==◌, ◌⊎◌, if◌then◌else◌, All, Option, Some, None, List, ◌∷◌, length, take, drop, slice_index}
 use mathlib.Core.Option.{some}
 use lib.ListN.{get_elem?}
 use Rattle.atomic_table.specs.Seated.{TableId}
@@ -9,47 +9,70 @@ use Rattle.page_types.specs.declared.TheConstants.{ROWS}
 use Rattle.page_types.specs.declared.calls.Kind.{Kind}
 use Rattle.row_plans.specs.RowWords.{row_start}
 use Rattle.row_plans.specs.RowLists.{ShowFrom, IsBareGap}
+use Rattle.row_blocks.specs.Blocks.{pieces, run, blocks_of, rows_of, IsLaidOut, rows_in as rows_by}
 
--- the row words among the client words: word 2 counts them, and they stand from word 3 on
+-- how many blocks there is room for: the last word before the sixteen quotas tells it. It is never stored after the
+-- opening
+abbrev pub nb_in : List ℕ → ℕ
+nb_in words = slice_index words (length words - 17)
+
+-- the row words among the client words: those of the blocks, which stand from word 3 on
 abbrev pub rows_in : List ℕ → List ℕ
-rows_in words = take (slice_index words 2) (drop 3 words)
+rows_in words = rows_by (nb_in words) (drop 3 words)
 
--- how many rows a table has room for. Its words are 1 + 65 for each seat of the lock's, once for each list, the three
--- counts, the rows, and behind them one for each of sixteen callers. There are 1 to 16 seats and the room comes in
--- steps of 1024, so where there is one list how many words there are tells it. A space of several lists has room for
--- 131072 rows, the most that there is, and has more words than one of one list with as much room
-unfoldable pub room_of : TableId → ℕ
-room_of table = min ((table.words - 85) / 1024 * 1024) 131072
+-- how many blocks a table has room for: 8 to 2048, in steps of 8. The opening chooses the number of words so that it
+-- tells this, with any number of lists
+unfoldable pub blocks_by : TableId → ℕ
+blocks_by table = 8 * (table.words % 257)
 
--- the row words show these kinds of the pages below LIMIT; there is room for them before the last sixteen words
-pub record RowsShow (words : List ℕ) (kinds : ℕ → Option Kind) : Type 0 where
-  pub room : 19 + slice_index words 2 ≤ length words
-  pub some : 0 < slice_index words 2
-  pub few : slice_index words 2 ≤ ROWS
-  pub show : ShowFrom 0 (rows_in words) kinds
-  pub gaps : All IsBareGap (rows_in words)
+-- how many rows there is always room for in so many blocks
+abbrev pub room_of : ℕ → ℕ
+room_of nb = (129 * (nb - 2) - 1) / 2
 
--- so many numbers from one on
-abbrev pub slots_from : ℕ → ℕ → List ℕ
-slots_from first zero = []
-slots_from first (suc n) = first ∷ slots_from (first + 1) n
-
--- the layout: the words that say which words are rows, and in which order. It is the row count alone
+-- the layout: the words that say which words are rows, and in which order. They are the row count, the block count, and
+-- a body word for each block
 abbrev pub layout_in : List ℕ → List ℕ
-layout_in words = slice_index words 2 ∷ []
+layout_in words = slice_index words 2 ∷ take (nb_in words + 1) (drop (3 + 128 * nb_in words) words)
 
--- the slots in which rows stand by a layout, in order of pages: the row of slot s is client word 3 + s. They are the
--- first ones, as many as the row count
+-- the place of a word of the layout, among the client words over so many blocks
+abbrev pub IsLayoutPlace : ℕ → ℕ → Type 0
+IsLayoutPlace nb place = (place ≡ 2) ⊎ ((3 + 128 * nb ≤ place) × (place < 4 + 129 * nb))
+
+-- the slots of a block by a layout: its head, and those of its body
+abbrev pub block_slots : List ℕ → ℕ → List ℕ
+block_slots layout i = i ∷ run (length layout - 2 + 127 * (slice_index layout (2 + i) / 128)) (slice_index layout (2 + i) % 128)
+
+-- the slots in which rows stand by a layout, in order of pages: the row of slot s is client word 3 + s
 abbrev pub slots_of : List ℕ → List ℕ
-slots_of layout = slots_from 0 (slice_index layout 0)
+slots_of layout = pieces (block_slots layout) (slice_index layout 1)
 
--- the slot of the row of that number by a layout. The number rises with the order of pages
+-- the slot of the row of that number by a layout: place j of block i has the number 128 * i + j, which rises with the
+-- order of pages
 abbrev pub slot_at : List ℕ → ℕ → ℕ
-slot_at layout index = index
+slot_at layout index =
+    if index % 128 == 0 then index / 128
+    else (length layout - 2 + 127 * (slice_index layout (2 + index / 128) / 128) + index % 128 - 1)
 
 -- the slots in which rows stand
 abbrev pub slots_in : List ℕ → List ℕ
 slots_in words = slots_of (layout_in words)
+
+-- all slots of so many blocks, in use or not
+abbrev pub slots_to : ℕ → List ℕ
+slots_to nb = run 0 (128 * nb)
+
+-- the row words show these kinds of the pages below LIMIT. They stand in blocks, as many as the row count; there is
+-- room for these before the last seventeen words; one block is free, and block 0 has at most 64 rows
+pub record RowsShow (words : List ℕ) (kinds : ℕ → Option Kind) : Type 0 where
+  pub room : 21 + 129 * nb_in words ≤ length words
+  pub some : 0 < slice_index words 2
+  pub few : slice_index words 2 ≤ ROWS
+  pub show : ShowFrom 0 (rows_in words) kinds
+  pub gaps : All IsBareGap (rows_in words)
+  pub laid : IsLaidOut (nb_in words) (drop 3 words)
+  pub counted : slice_index words 2 ≡ length (slots_in words)
+  pub free : blocks_of (nb_in words) (drop 3 words) < nb_in words
+  pub short : rows_of (nb_in words) (drop 3 words) 0 < 64
 
 -- one of these slots
 abbrev pub IsOneOf : List ℕ → ℕ → Type 0
@@ -77,9 +100,9 @@ abbrev pub IsPreviousOf : List ℕ → ℕ → Option ℕ → Type 0
 IsPreviousOf slots slot None = IsFirstOf slots slot
 IsPreviousOf slots slot (Some previous) = AreNeighbours slots previous slot
 
--- a slot is in reach of a table with room for so many rows: there is a client word for a row in it
+-- a slot is in reach of a table with room for so many blocks: there is a client word for a row in it
 abbrev pub IsInReach : ℕ → ℕ → Type 0
-IsInReach room slot = (slot < ROWS) × (slot < room)
+IsInReach nb slot = slot < 128 * nb
 
 -- a row stands in that slot
 abbrev pub IsSlot : List ℕ → ℕ → Type 0

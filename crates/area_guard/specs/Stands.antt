@@ -2,10 +2,11 @@
 -- a caller's pass is replaced by one with as much to write. These are parts of the proofs in `Keeping`; a reader who
 -- trusts the check may pass them over.
 use Rattle.std.specs.Prelude.{All, Option, Some, slice_index}
-use Rattle.std.proofs.Common.{◌≡◌, ◌≢◌, ℕ, zero, suc, ◌+◌, ◌<◌, ◌≤◌, Bool, true, false, not, cond, eqb, List, [], ◌∷◌}
-use Rattle.std.proofs.Common.{length, set, sym, refl, ap, ◌∙◌, subst, arith, ⊎_elim}
+use Rattle.std.proofs.Common.{◌≡◌, ◌≢◌, ℕ, zero, suc, ◌+◌, ◌-◌, ◌*◌, ◌<◌, ◌≤◌, Bool, true, false, not, cond, eqb, List, [], ◌∷◌}
+use Rattle.std.proofs.Common.{length, take, drop, set, sym, refl, ap, ◌∙◌, subst, arith, length-set, ◌⊎◌, ⊎_elim}
 use Rattle.std.proofs.lemmas.Bool.{eqb-false}
-use Rattle.std.proofs.lemmas.List.{get_or-set_same, get_or-set_other}
+use Rattle.std.proofs.lemmas.List.{get_or-set_same, get_or-set_other, drop-set-lt, drop-set-add}
+use Rattle.std.proofs.Math.Seq.{take-set-lt}
 use Rattle.std.proofs.lemmas.List.Elements.{All-nil, All-cons, All-head, All-tail, All-weaker}
 use mathlib.Core.Option.{some, some-injective}
 use mathlib.Core.Logic.{dite}
@@ -20,51 +21,106 @@ use Rattle.area_guard.specs.declared.guard.ReadRow.{ReadRow}
 use Rattle.area_guard.specs.declared.guard.Pass.{Pass}
 use Rattle.area_guard.specs.declared.guard.Pending.{Pending}
 use Rattle.row_plans.specs.RowWords.{row_start, row_kind}
-use Rattle.area_guard.specs.Rows.{layout_in, slots_from, slots_in, AreNeighbours, IsOneOf, IsRowOf, RowsShow}
+use Rattle.row_plans.specs.RowLists.{ShowFrom, IsBareGap}
+use Rattle.row_blocks.specs.Blocks.{run, blocks_of, rows_of, IsLaidOut, rows_in as rows_by}
+use Rattle.area_guard.specs.Rows.{nb_in, layout_in, slots_of, slots_in, slots_to, AreNeighbours, IsOneOf, IsRowOf, RowsShow}
 use Rattle.area_guard.specs.Reads.{everything, noted_at, StillStands}
-use Rattle.area_guard.specs.History.{LagsAt, ShowsBefore, IsShown, without}
+use Rattle.area_guard.specs.History.{HasBlocks, LagsAt, ShowsBefore, IsShown, without}
 
--- the layout and the row words are the same
-abbrev pub HasSameWords : List ℕ → List ℕ → Type 0
-HasSameWords words others = (i : ℕ) → 2 ≤ i → slice_index others i ≡ slice_index words i
+-- a store before the last seventeen words leaves how many blocks there is room for
+pub nb_stays : (words : List ℕ) (place value : ℕ) → place + 17 < length words → nb_in (set words place value) ≡ nb_in words
+nb_stays words place value low =
+    ap (λ (n : ℕ). slice_index (set words place value) (n - 17)) (length-set words place value)
+    ∙ get_or-set_other words place (length words - 17) value 0 (λ e. omega arith)
 
--- a store of another word leaves the layout
-pub layout_stays : (words : List ℕ) (place value : ℕ) → place ≢ 2 → layout_in (set words place value) ≡ layout_in words
-layout_stays words place value differ = ap (λ (n : ℕ). n ∷ []) (get_or-set_other words place 2 value 0 (λ e. differ (sym e)))
+-- so does one among the words of the blocks, and before them
+pub room_stays : (words : List ℕ) (nb place value : ℕ) → place < 4 + 129 * nb_in words → HasBlocks words nb → HasBlocks (set words place value) nb
+room_stays words nb place value low has =
+    let wide = has.1 in
+    let long = length-set words place value in
+    let same = nb_stays words place value (omega arith) in
+    (has.0 ∙ sym same, omega arith)
+
+-- a store before the layout, but for the row count, leaves the layout
+pub layout_stays : (words : List ℕ) (place value : ℕ) → place ≢ 2 → place < 3 + 128 * nb_in words → place + 17 < length words
+    → layout_in (set words place value) ≡ layout_in words
+layout_stays words place value differ below low =
+    let two : List ℕ = set words place value in
+    let count : slice_index two 2 ≡ slice_index words 2 = get_or-set_other words place 2 value 0 (λ e. differ (sym e)) in
+    let told : drop (3 + 128 * nb_in words) two ≡ drop (3 + 128 * nb_in words) words = drop-set-lt (3 + 128 * nb_in words) words place value below in
+    ap (λ (n : ℕ). n ∷ take (nb_in two + 1) (drop (3 + 128 * nb_in two) two)) count
+    ∙ (ap (λ (n : ℕ). slice_index words 2 ∷ take (n + 1) (drop (3 + 128 * n) two)) (nb_stays words place value low)
+    ∙ ap (λ (l : List ℕ). slice_index words 2 ∷ take (nb_in words + 1) l) told)
+
+-- a store of the row count changes the first word of the layout
+pub layout_counted : (words : List ℕ) (value : ℕ) → 19 < length words → layout_in (set words 2 value) ≡ set (layout_in words) 0 value
+layout_counted words value wide =
+    let two : List ℕ = set words 2 value in
+    let told : drop (3 + 128 * nb_in words) two ≡ drop (3 + 128 * nb_in words) words =
+    drop-set-lt (3 + 128 * nb_in words) words 2 value (omega arith) in
+    ap (λ (n : ℕ). n ∷ take (nb_in two + 1) (drop (3 + 128 * nb_in two) two)) (get_or-set_same words 2 value 0 (omega arith))
+    ∙ (ap (λ (n : ℕ). value ∷ take (n + 1) (drop (3 + 128 * n) two)) (nb_stays words 2 value (omega arith))
+    ∙ ap (λ (l : List ℕ). value ∷ take (nb_in words + 1) l) told)
+
+-- and one of another of its words changes that one
+pub layout_told : (words : List ℕ) (index value : ℕ) → index ≤ nb_in words → 21 + 129 * nb_in words ≤ length words
+    → layout_in (set words (3 + 128 * nb_in words + index) value) ≡ set (layout_in words) (suc index) value
+layout_told words index value few wide =
+    let at : ℕ = 3 + 128 * nb_in words in
+    let two : List ℕ = set words (at + index) value in
+    let count : slice_index two 2 ≡ slice_index words 2 = get_or-set_other words (at + index) 2 value 0 (λ e. omega arith) in
+    ap (λ (n : ℕ). n ∷ take (nb_in two + 1) (drop (3 + 128 * nb_in two) two)) count
+    ∙ (ap (λ (n : ℕ). slice_index words 2 ∷ take (n + 1) (drop (3 + 128 * n) two)) (nb_stays words (at + index) value (omega arith))
+    ∙ ap (λ (l : List ℕ). slice_index words 2 ∷ l)
+    (ap (take (nb_in words + 1)) (drop-set-add at words index value) ∙ take-set-lt (nb_in words + 1) (drop at words) index value (omega arith)))
+
+-- the words of the slots and the layout are the same
+pub record HasSameWords (words others : List ℕ) : Type 0 where
+  pub blocks : nb_in others ≡ nb_in words
+  pub layout : layout_in others ≡ layout_in words
+  pub rows : (slot : ℕ) → slice_index others (3 + slot) ≡ slice_index words (3 + slot)
 
 -- a row whose word is the same stands still
-pub exact_stands : (held : Option Held) (words : List ℕ) (r : ReadRow) → slice_index words (3 + r.index) ≡ r.word → StillStands held words r
-exact_stands held words r e = record {
+pub exact_stands : (held : Option Held) (words : List ℕ) (r : ReadRow) → r.index < 128 * nb_in words → slice_index words (3 + r.index) ≡ r.word
+    → StillStands held words r
+exact_stands held words r slot e = record {
+  slot = slot;
   side = λ page h. (λ le. subst (λ (w : ℕ). row_start w ≤ page) (sym e) le, λ le. subst (λ (w : ℕ). row_start w ≤ page) e le);
   start = λ page h at. ap row_start e;
   kind = λ page h row. ap row_kind e;
   word = λ all. e;
 }
 
--- so do all rows as they are noted with the layout
-pub noted_stand : (held : Option Held) (words slots : List ℕ) → All (StillStands held words) (noted_at words slots)
-noted_stand held words [] = All-nil (StillStands held words)
-noted_stand held words (slot ∷ rest) =
-    let r : ReadRow = record { index = slot; word = slice_index words (3 + slot) } in
-    All-cons (StillStands held words) r (noted_at words rest) (exact_stands held words r refl) (noted_stand held words rest)
+-- so do those of numbers from one on as they are noted
+noted_run : (held : Option Held) (words : List ℕ) (from n : ℕ) → from + n ≤ 128 * nb_in words → All (StillStands held words) (noted_at words (run from n))
+noted_run held words from zero few = All-nil (StillStands held words)
+noted_run held words from (suc n) few =
+    let r : ReadRow = record { index = from; word = slice_index words (3 + from) } in
+    All-cons (StillStands held words) r (noted_at words (run (suc from) n)) (exact_stands held words r (omega arith) refl)
+    (noted_run held words (suc from) n (omega arith))
+
+-- and those of all slots
+pub noted_stand : (held : Option Held) (words : List ℕ) → All (StillStands held words) (noted_at words (slots_to (nb_in words)))
+noted_stand held words = noted_run held words 0 (128 * nb_in words) (omega arith)
 
 module _ (held : Option Held) (words others : List ℕ) (same : HasSameWords words others) where
   slots : slots_in others ≡ slots_in words
-  slots = ap (slots_from 0) (same 2 (omega arith))
+  slots = ap slots_of same.layout
 
   row_back : (page i : ℕ) → IsRowOf others page i → IsRowOf words page i
   row_back page i row = record {
     there = subst (λ (l : List ℕ). IsOneOf l i) slots row.there;
-    from = subst (λ (w : ℕ). row_start w ≤ page) (same (3 + i) (omega arith)) row.from;
-    last = λ next after. subst (λ (w : ℕ). page < row_start w) (same (3 + next) (omega arith))
+    from = subst (λ (w : ℕ). row_start w ≤ page) (same.rows i) row.from;
+    last = λ next after. subst (λ (w : ℕ). page < row_start w) (same.rows next)
         (row.last next (subst (λ (l : List ℕ). AreNeighbours l i next) (sym slots) after));
   }
 
   -- a row stands still where other words change
   stands_same : (r : ReadRow) → StillStands held words r → StillStands held others r
   stands_same r s =
-      let e : slice_index others (3 + r.index) ≡ slice_index words (3 + r.index) = same (3 + r.index) (omega arith) in
+      let e : slice_index others (3 + r.index) ≡ slice_index words (3 + r.index) = same.rows r.index in
       record {
+        slot = subst (λ (n : ℕ). r.index < 128 * n) (sym same.blocks) s.slot;
         side = λ page h. (
           λ le. subst (λ (w : ℕ). row_start w ≤ page) (sym e) ((s.side page h).0 le),
           λ le. (s.side page h).1 (subst (λ (w : ℕ). row_start w ≤ page) e le),
@@ -77,25 +133,48 @@ module _ (held : Option Held) (words others : List ℕ) (same : HasSameWords wor
   pub all_stand : (rows : List ReadRow) → All (StillStands held words) rows → All (StillStands held others) rows
   all_stand rows all = All-weaker (StillStands held words) (StillStands held others) stands_same rows all
 
--- the first two words are no row words
-pub same_low : (words : List ℕ) (place value : ℕ) → place < 2 → HasSameWords words (set words place value)
-same_low words place value low i le = get_or-set_other words place i value 0 (λ e. omega arith)
+-- the first two words are no row words, and none of the layout
+pub same_low : (words : List ℕ) (place value : ℕ) → place < 2 → 19 < length words → HasSameWords words (set words place value)
+same_low words place value low wide = record {
+  blocks = nb_stays words place value (omega arith);
+  layout = layout_stays words place value (λ e. omega arith) (omega arith) (omega arith);
+  rows = λ slot. get_or-set_other words place (3 + slot) value 0 (λ e. omega arith);
+}
 
 pub low_rows : (words : List ℕ) (place value : ℕ) (kinds : ℕ → Option Kind) → place < 2 → RowsShow words kinds → RowsShow (set words place value) kinds
-low_rows [] place value kinds l s = s
-low_rows (w ∷ ws) zero value kinds l s = record { room = s.room; some = s.some; few = s.few; show = s.show; gaps = s.gaps }
-low_rows (w ∷ []) (suc zero) value kinds l s = s
-low_rows (w ∷ v ∷ ws) (suc zero) value kinds l s = record { room = s.room; some = s.some; few = s.few; show = s.show; gaps = s.gaps }
-low_rows (w ∷ ws) (suc (suc i)) value kinds l s = absurd (omega arith)
+low_rows words place value kinds low s =
+    let two : List ℕ = set words place value in
+    let wide = s.room in
+    let long = length-set words place value in
+    let nb : nb_in two ≡ nb_in words = nb_stays words place value (omega arith) in
+    let layout : layout_in two ≡ layout_in words = layout_stays words place value (λ e. omega arith) (omega arith) (omega arith) in
+    let count : slice_index two 2 ≡ slice_index words 2 = ap (λ (l : List ℕ). slice_index l 0) layout in
+    let rest : drop 3 two ≡ drop 3 words = drop-set-lt 3 words place value (omega arith) in
+    let both : ◌≡◌ {A = ℕ × List ℕ} (nb_in words, drop 3 words) (nb_in two, drop 3 two) = λ i. (sym nb i, sym rest i) in
+    record {
+      room = omega arith;
+      some = let some_row = s.some in omega arith;
+      few = let few = s.few in omega arith;
+      show = subst (λ (z : ℕ × List ℕ). ShowFrom 0 (rows_by z.0 z.1) kinds) both s.show;
+      gaps = subst (λ (z : ℕ × List ℕ). All IsBareGap (rows_by z.0 z.1)) both s.gaps;
+      laid = subst (λ (z : ℕ × List ℕ). IsLaidOut z.0 z.1) both s.laid;
+      counted = count ∙ (s.counted ∙ ap (λ (l : List ℕ). length (slots_of l)) (sym layout));
+      free = subst (λ (z : ℕ × List ℕ). blocks_of z.0 z.1 < z.0) both s.free;
+      short = subst (λ (z : ℕ × List ℕ). rows_of z.0 z.1 0 < 64) both s.short;
+    }
 
 -- a store by the caller who holds everything: of a row
-module _ (words : List ℕ) (index value : ℕ) where
+module _ (words : List ℕ) (index value : ℕ) (slot : index < 128 * nb_in words) (wide : 21 + 129 * nb_in words ≤ length words) where
+  blocks : nb_in (set words (3 + index) value) ≡ nb_in words
+  blocks = nb_stays words (3 + index) value (omega arith)
+
   stored_one : (r : ReadRow) (kept : List ReadRow) (b : Bool) → eqb r.index index ≡ b → StillStands (Some everything) words r
       → All (StillStands (Some everything) (set words (3 + index) value)) kept
       → All (StillStands (Some everything) (set words (3 + index) value)) (cond (not b) (r ∷ kept) kept)
   stored_one r kept true is s all = all
   stored_one r kept false is s all = All-cons (StillStands (Some everything) (set words (3 + index) value)) r kept
       (exact_stands (Some everything) (set words (3 + index) value) r
+      (subst (λ (n : ℕ). r.index < 128 * n) (sym blocks) s.slot)
       (get_or-set_other words (3 + index) (3 + r.index) value 0 (λ same. eqb-false r.index index is (omega arith))
       ∙ s.word refl)) all
 
@@ -105,19 +184,24 @@ module _ (words : List ℕ) (index value : ℕ) where
   stored_rest (r ∷ rest) all = stored_one r (without index rest) (eqb r.index index) refl
       (All-head (StillStands (Some everything) words) r rest all) (stored_rest rest (All-tail (StillStands (Some everything) words) r rest all))
 
-  pub stored_all : (rows : List ReadRow) → 3 + index < length words → All (StillStands (Some everything) words) rows
+  pub stored_all : (rows : List ReadRow) → All (StillStands (Some everything) words) rows
       → All (StillStands (Some everything) (set words (3 + index) value))
       (record { index = index; word = value } ∷ without index rows)
-  stored_all rows there all = All-cons (StillStands (Some everything) (set words (3 + index) value))
+  stored_all rows all = All-cons (StillStands (Some everything) (set words (3 + index) value))
       (record { index = index; word = value }) (without index rows)
       (exact_stands (Some everything) (set words (3 + index) value) (record { index = index; word = value })
-      (get_or-set_same words (3 + index) value 0 there)) (stored_rest rows all)
+      (subst (λ (n : ℕ). index < 128 * n) (sym blocks) slot)
+      (get_or-set_same words (3 + index) value 0 (omega arith))) (stored_rest rows all)
 
--- and of the row count
-pub counted_all : (words : List ℕ) (value : ℕ) (rows : List ReadRow) → All (StillStands (Some everything) words) rows
-    → All (StillStands (Some everything) (set words 2 value)) rows
-counted_all words value rows all = All-weaker (StillStands (Some everything) words) (StillStands (Some everything) (set words 2 value))
-    (λ r s. exact_stands (Some everything) (set words 2 value) r (get_or-set_other words 2 (3 + r.index) value 0 (λ e. omega arith) ∙ s.word refl)) rows all
+-- and of a word of the layout, which is in no slot
+pub laid_all : (words : List ℕ) (place value : ℕ) (rows : List ReadRow) → (place ≡ 2) ⊎ (3 + 128 * nb_in words ≤ place) → place + 17 < length words
+    → All (StillStands (Some everything) words) rows → All (StillStands (Some everything) (set words place value)) rows
+laid_all words place value rows outside low all = All-weaker (StillStands (Some everything) words) (StillStands (Some everything) (set words place value))
+    (λ r s.
+    let below = s.slot in
+    exact_stands (Some everything) (set words place value) r
+    (subst (λ (n : ℕ). r.index < 128 * n) (sym (nb_stays words place value low)) s.slot)
+    (get_or-set_other words place (3 + r.index) value 0 (λ e. ⊎_elim (λ two. omega arith) (λ far. omega arith) outside) ∙ s.word refl)) rows all
 
 -- the kinds that the rows show, after a caller's pass has changed to one with as much to write
 pub shown_set : (state : List Area) (passes : List Pass) (worker : ℕ) (p q : Pass) (kinds : ℕ → Option Kind)

@@ -17,6 +17,7 @@ use Rattle.area_guard.specs.declared.guard.Note.{Note}
 use Rattle.area_guard.specs.declared.guard.Pass.{Pass}
 use Rattle.area_guard.specs.declared.guard.Pending.TheVariants.{Planned}
 use Rattle.area_guard.specs.declared.guard.Splice.{Splice}
+use Rattle.area_guard.specs.Rows.{nb_in, IsLayoutPlace}
 use Rattle.area_guard.specs.Reads.{everything}
 use Rattle.area_guard.specs.History.{Runs, StartsWith, whole_count, planned_count, RowsStandFor, Backs, HasHistory, HoldsFor, Allowed, entry_of, rest_of}
 use Rattle.area_guard.specs.History.{IsOwed, IsInUse, MayStore, rows_after}
@@ -54,32 +55,38 @@ abbrev pub HistoryIsStored : Type 0
 HistoryIsStored = (grants : Grants) (words : List ℕ) (passes : List Pass) → HasHistory grants words passes
     → (history : List Entry) × (start : List Area) × (state : List Area) × IsStored grants words passes history start state
 
--- a store of the row count: its caller has rows to write, of which there are so many, and holds everything; its last
--- entry was numbered under everything, and leaves these rows
-pub record IsCountStore (grants : Grants) (passes : List Pass) (worker value : ℕ) : Type 0 where
+-- a caller has this plan to write, and holds everything; its last entry was numbered under everything, and leaves the
+-- rows of the plan
+pub record IsOfWhole (grants : Grants) (passes : List Pass) (worker : ℕ) (plan : Splice) : Type 0 where
   pub pass : Pass
   pub there : get_elem? passes worker ≡ some pass
-  pub plan : Splice
   pub planned : pass.pending ≡ Planned plan
-  pub counted : value ≡ length (rows_after plan)
   pub holds : Holds grants worker everything
   pub others : List Entry
   pub entry : Entry
   pub last : pass.mine ≡ others ++ entry ∷ []
   pub under : entry.under ≡ Whole
 
--- the row count is stored by calls under everything alone
+-- the row count is stored by calls under everything alone, each of which leaves so many rows
 abbrev pub CountIsOfWhole : Type 0
 CountIsOfWhole = (grants : Grants) (words : List ℕ) (passes : List Pass) (worker value : ℕ) (note : Note) (after : Pass)
-    → Allowed grants words passes worker (stores 2 value) note after → IsCountStore grants passes worker value
+    → Allowed grants words passes worker (stores 2 value) note after
+    → (plan : Splice) × IsOfWhole grants passes worker plan × (value ≡ length (rows_after plan))
 
--- while a call under everything is to be written, its caller stores the rows that it leaves, each at its place, and
--- their count, and none of these where it stands already
+-- so are the other words that say which words are rows, and in which order
+abbrev pub LayoutIsOfWhole : Type 0
+LayoutIsOfWhole = (grants : Grants) (words : List ℕ) (passes : List Pass) (worker place value : ℕ) (note : Note) (after : Pass)
+    → IsLayoutPlace (nb_in words) place → Allowed grants words passes worker (stores place value) note after
+    → (plan : Splice) × IsOfWhole grants passes worker plan
+
+-- while a call under everything is to be written, its caller stores rows that stood before it or that it leaves, in
+-- slots, their count, and words of the layout; and none of the rows, where they are in use, and no count that stands
+-- there already
 abbrev pub StoresAreNew : Type 0
 StoresAreNew = (grants : Grants) (words : List ℕ) (passes : List Pass) (worker place value : ℕ) (note : Note) (pass after : Pass)
     (plan : Splice) → get_elem? passes worker ≡ some pass → pass.pending ≡ Planned plan
     → Allowed grants words passes worker (stores place value) note after
-    → MayStore (rows_after plan) place value pass after × (IsInUse words place → slice_index words place ≢ value)
+    → MayStore plan place value pass after × (IsInUse words place → slice_index words place ≢ value)
 
 -- a run is legal, and leaves its last state
 abbrev pub RunsAreLegal : Type 0

@@ -2,7 +2,7 @@
 -- the sequence word: it holds everything, so no other caller has read anything. These are parts of the proofs in
 -- `Keeping`; a reader who trusts the check may pass them over.
 use Rattle.std.specs.Prelude.{All, Option, Some, slice_index}
-use Rattle.std.proofs.Common.{◌≡◌, ◌≢◌, ℕ, ◌+◌, ◌%◌, ◌^◌, ◌<◌, inl, inr, List, length, set, sym, refl, ap, ◌∙◌, subst, arith, length-set, ⊎_elim}
+use Rattle.std.proofs.Common.{◌≡◌, ◌≢◌, ℕ, suc, ◌+◌, ◌*◌, ◌%◌, ◌^◌, ◌<◌, inl, inr, List, length, set, sym, refl, ap, ◌∙◌, subst, arith, length-set, ⊎_elim}
 use Rattle.std.proofs.lemmas.List.{get_or-set_same, get_or-set_other}
 use Rattle.std.proofs.lemmas.List.Elements.{All-nil}
 use mathlib.Core.Option.{some, some-injective}
@@ -20,20 +20,20 @@ use Rattle.area_guard.specs.declared.guard.Pass.{Pass}
 use Rattle.area_guard.specs.declared.guard.Pending.{Pending}
 use Rattle.area_guard.specs.declared.guard.Splice.{Splice}
 use Rattle.area_guard.specs.declared.guard.Pending.TheVariants.{AtRest, Planned, OneRow}
-use Rattle.area_guard.specs.Rows.{RowsShow}
+use Rattle.area_guard.specs.Rows.{nb_in, RowsShow}
 use Rattle.row_plans.specs.Plans.{PlanShows}
 use Rattle.row_plans.specs.RowLists.{areas_from}
 use Rattle.row_plans.proofs.PlanLeft.{counted_rows}
 use Rattle.row_plans.proofs.RowLists.{areas_back}
 use Rattle.area_guard.specs.Reads.{everything, StillStands}
 use Rattle.area_guard.specs.Changes.{alone}
-use Rattle.area_guard.specs.History.{IsPart, planned_calls, planned_count, ShowsBefore, IsShown, IsRunningSpace}
-use Rattle.area_guard.specs.History.{HasPages, HoldsPages, HasReadNothing, Backs, IsBacked, AreBacked, after_count, rows_after}
+use Rattle.area_guard.specs.History.{HasBlocks, IsPart, planned_calls, planned_count, ShowsBefore, IsShown, IsRunningSpace}
+use Rattle.area_guard.specs.History.{HasPages, HoldsPages, HasReadNothing, Backs, IsBacked, AreBacked, after_layout, rows_after}
 use Rattle.area_guard.specs.History.{after_store, after_raise, MayStore}
-use Rattle.area_guard.specs.History.MayStore.{store_row, store_count}
-use Rattle.area_guard.specs.Stands.{all_stand, same_low, low_rows, stored_all, counted_all}
-use Rattle.area_guard.specs.Parts.{count_set, most_set, room_kept, rows_fit, no_wrap, whole_few, planned_set, planned_le, planned_of, blank_part}
-use Rattle.area_guard.specs.Parts.{stored, stored_count, raised_after}
+use Rattle.area_guard.specs.History.MayStore.{store_row, store_count, store_layout}
+use Rattle.area_guard.specs.Stands.{nb_stays, room_stays, all_stand, same_low, low_rows, stored_all, laid_all}
+use Rattle.area_guard.specs.Parts.{count_set, most_set, room_kept, no_wrap, whole_few, planned_set, planned_le, planned_of, blank_part}
+use Rattle.area_guard.specs.Parts.{stored, stored_count, stored_layout, raised_after}
 
 -- who holds everything as a writer holds pages alone, and nobody else does
 pub everything_pages : HasPages everything
@@ -95,16 +95,22 @@ module _ (grants : Grants) (start : List Areas) (history : List Entry) (state : 
   other_blank : (other : ℕ) (x : Pass) → other ≢ worker → get_elem? passes other ≡ some x → HasReadNothing x
   other_blank other x differ there = others_blank grants words state worker other x exclusive differ plan_held.0 (backed other x there)
 
-  other_part : (others : List ℕ) (other : ℕ) (x : Pass) → length others ≡ length words → other ≢ worker → get_elem? passes other ≡ some x
-      → IsPart start history others other x
-  other_part others other x wide differ there =
-      blank_part start history words others other x (other_blank other x differ there) wide (r.parts other x there)
+  -- there is room for the blocks
+  wide : HasBlocks words p.blocks
+  wide = (r.parts worker p at).room
 
-  store_keeps : (place value : ℕ) (q : Pass) → 1 < place → IsPart start history (set words place value) worker q
+  other_part : (place value other : ℕ) (x : Pass) → place < 4 + 129 * nb_in words → other ≢ worker → get_elem? passes other ≡ some x
+      → IsPart start history (set words place value) other x
+  other_part place value other x low differ there = let part = r.parts other x there in
+      blank_part start history words (set words place value) other x (other_blank other x differ there)
+      (room_stays words x.blocks place value low part.room) part
+
+  store_keeps : (place value : ℕ) (q : Pass) → 1 < place → place < 4 + 129 * nb_in words → IsPart start history (set words place value) worker q
       → length q.mine ≡ length p.mine → q.most ≡ p.most → q.pending ≡ p.pending
       → IsRunningSpace start history state (set words place value) (set passes worker q)
-  store_keeps place value q high part same may pended =
-      let wide : length (set passes worker q) ≡ length passes = length-set passes worker q in
+  store_keeps place value q high low part same may pended =
+      let room = wide.1 in
+      let many : length (set passes worker q) ≡ length passes = length-set passes worker q in
       let pending : planned_count (set passes worker q) ≡ planned_count passes = let s = planned_set passes worker p q at in
       let t = ap planned_calls pended in omega arith in
       let some_one : 0 < planned_count (set passes worker q) = let least = planned_le passes worker p at in
@@ -122,11 +128,11 @@ module _ (grants : Grants) (start : List Areas) (history : List Entry) (state : 
         sequence = ap (λ n. n + planned_count (set passes worker q)) (get_or-set_other words place 1 value 0 (λ e. omega arith))
             ∙ (ap (λ n. slice_index words 1 + n) pending ∙ r.sequence);
         small = let m = most_set passes worker p q at may in let f = r.small in omega arith;
-        room = room_kept words (set words place value) (row_count start) passes worker p q at may (length-set words place value) r.room;
+        room = room_kept words (set words place value) (row_count start) passes worker p q at may (nb_stays words place value (omega arith)) r.room;
         rows = λ none. absurd (omega arith);
         parts = λ other x there. ⊎_elim
             (λ t. subst (λ (z : ℕ × Pass). IsPart start history (set words place value) z.0 z.1) (λ i. (sym t.0 i, t.1 i)) part)
-            (λ t. other_part (set words place value) other x (length-set words place value) t.0 t.1)
+            (λ t. other_part place value other x low t.0 t.1)
             (at_set passes worker other q x there);
         no_other = λ other le. r.no_other other (omega arith);
         total = r.total ∙ (let s = count_set passes worker p q 0 at (omega arith) in omega arith);
@@ -144,26 +150,37 @@ module _ (grants : Grants) (start : List Areas) (history : List Entry) (state : 
       (λ t. blank_backed grants words others state other x (other_blank other x t.0 t.1) (backed other x t.1))
       (at_set passes worker other q x there)
 
-  pub stores_keep : (place value : ℕ) (after : Pass) → MayStore (rows_after plan) place value p after
+  pub stores_keep : (place value : ℕ) (after : Pass) → MayStore plan place value p after
       → IsRunningSpace start history state (set words place value) (set passes worker after)
       × AreBacked grants (set words place value) state (set passes worker after)
-  stores_keep place value after (store_row index few e v is) =
-      let fits = rows_fit start history state words passes r in
-      let long = plan_length (rows_after plan) state r.in_order plan_held.1 in
+  stores_keep place value after (store_row index slot e v is) =
+      let same = wide.0 in
       subst (λ (z : ℕ × Pass). IsRunningSpace start history state (set words z.0 value) (set passes worker z.1)
       × AreBacked grants (set words z.0 value) state (set passes worker z.1)) (λ i. (sym e i, sym is i)) (
-        store_keeps (3 + index) value (after_store index value p) (omega arith)
-            (stored start history state words worker p (r.parts worker p at) index value) refl refl refl,
+        store_keeps (3 + index) value (after_store index value p) (omega arith) (omega arith)
+            (stored start history state words worker p (r.parts worker p at) index value slot) refl refl refl,
         store_backed (set words (3 + index) value) (after_store index value p)
-            (stored_all words index value p.rows (omega arith) own_rows) (backed worker p at).pending,
+            (stored_all words index value (omega arith) wide.1 p.rows own_rows) (backed worker p at).pending,
       )
   stores_keep place value after (store_count e v is) =
-      let fits = rows_fit start history state words passes r in
+      let room = wide.1 in
       subst (λ (z : ℕ × Pass). IsRunningSpace start history state (set words z.0 value) (set passes worker z.1)
       × AreBacked grants (set words z.0 value) state (set passes worker z.1)) (λ i. (sym e i, sym is i)) (
-        store_keeps 2 value (after_count value p) (omega arith)
-            (stored_count start history state words worker p (r.parts worker p at) value (omega arith)) refl refl refl,
-        store_backed (set words 2 value) (after_count value p) (counted_all words value p.rows own_rows) (backed worker p at).pending,
+        store_keeps 2 value (after_layout 0 value p) (omega arith) (omega arith)
+            (stored_count start history state words worker p (r.parts worker p at) value) refl refl refl,
+        store_backed (set words 2 value) (after_layout 0 value p) (laid_all words 2 value p.rows (inl refl) (omega arith) own_rows)
+            (backed worker p at).pending,
+      )
+  stores_keep place value after (store_layout index few e is) =
+      let same = wide.0 in
+      let room = wide.1 in
+      let at_layout : ℕ = 3 + 128 * p.blocks + index in
+      subst (λ (z : ℕ × Pass). IsRunningSpace start history state (set words z.0 value) (set passes worker z.1)
+      × AreBacked grants (set words z.0 value) state (set passes worker z.1)) (λ i. (sym e i, sym is i)) (
+        store_keeps at_layout value (after_layout (suc index) value p) (omega arith) (omega arith)
+            (stored_layout start history state words worker p (r.parts worker p at) index value few) refl refl refl,
+        store_backed (set words at_layout value) (after_layout (suc index) value p)
+            (laid_all words at_layout value p.rows (inr (omega arith)) (omega arith) own_rows) (backed worker p at).pending,
       )
 
   -- the sequence word is raised where the rows are written: nothing lags behind then
@@ -180,8 +197,8 @@ module _ (grants : Grants) (start : List Areas) (history : List Entry) (state : 
   raise_keeps written =
       let q : Pass = after_raise p in
       let value = (slice_index words 1 + 1) % 2 ^ 64 in
-      let wide : length (set passes worker q) ≡ length passes = length-set passes worker q in
-      let fits = rows_fit start history state words passes r in
+      let room = wide.1 in
+      let many : length (set passes worker q) ≡ length passes = length-set passes worker q in
       let there : 1 < length words = omega arith in
       let one = planned_of p.pending plan pends in
       let pending : planned_count (set passes worker q) + 1 ≡ planned_count passes = let s = planned_set passes worker p q at in omega arith in
@@ -198,12 +215,12 @@ module _ (grants : Grants) (start : List Areas) (history : List Entry) (state : 
         sequence = let g : slice_index (set words 1 value) 1 ≡ value = get_or-set_same words 1 value 0 there in
             let s = r.sequence in let f = whole_few history in let w = no_wrap start history state words passes r in omega arith;
         small = let m = most_set passes worker p q at refl in let f = r.small in omega arith;
-        room = room_kept words (set words 1 value) (row_count start) passes worker p q at refl (length-set words 1 value) r.room;
+        room = room_kept words (set words 1 value) (row_count start) passes worker p q at refl (nb_stays words 1 value (omega arith)) r.room;
         rows = λ none. (kind_at state, shown_after, low_rows words 1 value (kind_at state) (omega arith) written);
         parts = λ other x there. ⊎_elim
             (λ t. subst (λ (z : ℕ × Pass). IsPart start history (set words 1 value) z.0 z.1) (λ i. (sym t.0 i, t.1 i))
             (raised_after start history state words worker p (r.parts worker p at) value))
-            (λ t. other_part (set words 1 value) other x (length-set words 1 value) t.0 t.1)
+            (λ t. other_part 1 value other x (omega arith) t.0 t.1)
             (at_set passes worker other q x there);
         no_other = λ other le. r.no_other other (omega arith);
         total = r.total ∙ (let s = count_set passes worker p q 0 at (omega arith) in omega arith);
@@ -213,4 +230,4 @@ module _ (grants : Grants) (start : List Areas) (history : List Entry) (state : 
   raise_backed =
       let value = (slice_index words 1 + 1) % 2 ^ 64 in
       store_backed (set words 1 value) (after_raise p)
-      (all_stand (Some everything) words (set words 1 value) (same_low words 1 value (omega arith)) p.rows own_rows) tt
+      (all_stand (Some everything) words (set words 1 value) (same_low words 1 value (omega arith) (let room = wide.1 in omega arith)) p.rows own_rows) tt

@@ -78,8 +78,8 @@ pub struct Look {
 pub struct Pass {
     /// The areas of the opening.
     pub start: LinkedList<Area>,
-    /// How many rows the table has room for.
-    pub room: u64,
+    /// How many blocks of rows the table has room for.
+    pub blocks: u64,
     /// How many entries the caller may have.
     pub most: u64,
     /// The beginning of the history that the caller has seen.
@@ -89,8 +89,8 @@ pub struct Pass {
     /// The words that say which words are rows, and in which order, where the caller has read one of them under the
     /// range that it holds.
     pub laid: Option<LinkedList<u64>>,
-    /// The rows that the caller has read, or stored, under the range that it holds. With the layout it has noted all
-    /// rows as they stood.
+    /// The rows that the caller has read, or stored, under the range that it holds. With the layout it has noted the
+    /// words of all slots as they stood.
     pub rows: LinkedList<ReadRow>,
     /// The sequence word, where the caller has read it under the range that it holds.
     pub sequence: Option<u64>,

@@ -1,7 +1,7 @@
 //! What the rule of a running address space comes to, in the words of the one-thread model: laws on public functions
 //! with nothing to run. Each names a statement of `specs/Stored.antt`. With `keeps_apart` of the lock a reader may
 //! rely on them between any two steps.
-ghost use Rattle.area_guard.specs.Stored.{RunsAreLegal, HistoryIsStored, CountIsOfWhole, StoresAreNew, DrawsHold, LastDrawIsKept};
+ghost use Rattle.area_guard.specs.Stored.{RunsAreLegal, HistoryIsStored, CountIsOfWhole, LayoutIsOfWhole, StoresAreNew, DrawsHold, LastDrawIsKept};
 
 /// What runs from one area list to another is a legal history of the one-thread address space, and leaves that list.
 /// It does nothing.
@@ -19,14 +19,16 @@ pub fn history_is_stored()
 {}
 
 /// The row count is stored only by a caller that holds everything and whose last entry was numbered so; it is the
-/// number of the rows that this entry leaves. It does nothing.
+/// number of the rows that this entry leaves. Each other word that says which words are rows, and in which order, is
+/// stored only by such a caller too. It does nothing.
 pub fn count_is_of_everything()
-    ensures { CountIsOfWhole }
+    ensures count { CountIsOfWhole }
+    ensures layout { LayoutIsOfWhole }
 {}
 
-/// While a call under everything has its number and isn't written yet, its caller stores nothing but the rows that this
-/// call leaves, each at its place, and their count; and of the words that are in use it stores none that stands there
-/// already. It does nothing.
+/// While a call under everything has its number and isn't written yet, its caller stores nothing but rows that stood
+/// before this call or that it leaves, in slots; their count; and the words that say which words are rows. Of the rows
+/// in use, and of the count, it stores none that stands there already. It does nothing.
 pub fn stores_are_new()
     ensures { StoresAreNew }
 {}

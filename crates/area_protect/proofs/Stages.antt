@@ -27,7 +27,7 @@ use Rattle.area_rows.specs.History.{StartsWith, Runs, whole_count, planned_calls
 use Rattle.area_rows.specs.Reads.{IsHeldPage}
 use Rattle.area_rows.specs.Callers.{CallerView, CountsWhole, IsReading, IsLook, IsDrawn, IsStoredRow, RowIs, Shows}
 use Rattle.area_rows.specs.Called.{IsCalled, IsLastPlace}
-use Rattle.area_rows.specs.Loading.{keeps_on}
+use Rattle.area_rows.specs.Callers.{keeps_on}
 use Rattle.row_plans.proofs.RowLists.{some_none}
 use Rattle.area_protect.specs.declared.steps.Request.{Request}
 use Rattle.area_protect.specs.Attempts.{IsChanged}

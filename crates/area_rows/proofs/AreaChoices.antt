@@ -45,7 +45,7 @@ use Rattle.area_rows.specs.declared.row.Row.{Row}
 use Rattle.row_plans.specs.RowWords.{row_start}
 use Rattle.row_plans.specs.RowLists.{rows_start, ShowFrom}
 use Rattle.area_guard.specs.Rows.{slots_of, slot_at, rows_in}
-use Rattle.area_guard.specs.Reads.{slots_by, IsHeldPage}
+use Rattle.area_guard.specs.Reads.{IsHeldPage}
 use Rattle.area_guard.specs.Changes.{alone, IsChange}
 use Rattle.area_rows.specs.OneStore.{IsOneStore, IsRound}
 use Rattle.area_rows.specs.OneStore.IsOneStore.{whole, first_part, last_part}
@@ -57,7 +57,7 @@ use Rattle.area_rows.specs.AreaPlans.{IsOneKind, IsAmong, IsLike, IsChosen, plan
 use Rattle.area_guard.specs.Writes.{span_pages}
 use Rattle.row_plans.proofs.RowLists.{row_says, some_none}
 use Rattle.area_rows.proofs.Moments.{first_start, nobody_plans, shows_held}
-use Rattle.area_rows.specs.Loading.{reading_on}
+use Rattle.plan_words.specs.Reading.{reading_on}
 use Rattle.area_rows.proofs.Reading.{shows_on, before_on, behind_on, as_read_on}
 use Rattle.area_rows.proofs.OneRow.{IsRowIn, shown_at, next_is}
 use Rattle.area_rows.proofs.ReplacingRows.{IsAround, around_now, row_in}
@@ -493,29 +493,28 @@ module _ (c : CallerView) (span : Span) (row : Row) (kind : Kind) (next : ℕ) (
       one_store d reply is.4 kept (sealed_as chosen false o is.0) of_d
       (subst (λ (n : ℕ). IsOneStore n next row before behind d) slot is.2) (other_kind chosen d is.1 is.3) (named_of chosen.index d of_d old new is.2)
 
--- the same of a caller that has read the count once more and the kinds beside its row
-pub plan_made : (old a b : SeatState Pass) (v : CallerView) (span : Span) (row : Row) (kind : Kind) (next : ℕ) (before behind : Option Kind)
+-- the same of a caller that has then read which slots are beside the one of its row, and the kinds there
+pub plan_made : (old a b : SeatState Pass) (v : CallerView) (span : Span) (row : Row) (kind : Kind) (own_slot next : ℕ) (before behind : Option Kind)
     (addr len : ℕ) (prot : Prot) → old.held ≡ Some (alone span) → IsAtRest old.pass → IsRound row span → row.hi ≤ LIMIT
-    → row.kind ≡ Some kind → (read : IsAsRead old.pass row)
+    → row.kind ≡ Some kind → (read : IsAsRead old.pass row) → own_slot ≡ slot_at read.layout row.index
     → AreInReach old.table (slots_of read.layout) → plain_reply (Protect addr len prot) ≡ None → page_of addr < end_page addr len → row.lo ≤ page_of addr
     → end_page addr len ≤ row.hi → Shows old (RowIs old.held (page_of addr) row) → IsReading old a
     → IsReading a b → IsReading b v.seat
-    → IsReadBefore b.pass.rows (slots_by a.pass.laid) row.index before → IsReadBehind v.seat.pass.rows (slots_by a.pass.laid) row.index next behind
+    → IsReadBefore b.pass.rows (slots_of read.layout) own_slot before → IsReadBehind v.seat.pass.rows (slots_of read.layout) own_slot next behind
     → (chosen : Change) (plan : AreaPlan) → IsOf chosen span (page_of addr) (end_page addr len) kind
     (protected_kind prot kind) → IsNamedKind kind → IsNamedKind (protected_kind prot kind)
     → IsChosen row next chosen before behind plan
-    → v.change ≡ planned_change plan → chosen.index ≡ row.index → IsAreaPlan v (Protect addr len prot) span (page_of addr) (end_page addr len) plan
-plan_made old a b v span row kind next before behind addr len prot held rest round limit is_kind read reach undecided some_page
+    → v.change ≡ planned_change plan → chosen.index ≡ own_slot → IsAreaPlan v (Protect addr len prot) span (page_of addr) (end_page addr len) plan
+plan_made old a b v span row kind own_slot next before behind addr len prot held rest round limit is_kind read is_own reach undecided some_page
     from until shows one two three read_before read_behind chosen plan of_call named named_new is kept slot =
     let on : IsReading old v.seat = reading_on old b v.seat (reading_on old a b one two) three in
     let now : IsAsRead v.seat.pass row = as_read_on old.pass v.seat.pass row on.read read in
     let same : old.held ≡ v.seat.held = sym on.held in
     plan_says v span row kind next before behind addr len prot (on.held ∙ held) (on.read.pending ∙ rest) round limit is_kind now
     (subst (λ (t : TableId). AreInReach t (slots_of read.layout)) (sym on.table) reach)
-    (before_on b.pass v.seat.pass (slots_of read.layout) row.index before three.read
-    (subst (λ (l : Option (List ℕ)). IsReadBefore b.pass.rows (slots_by l) row.index before) (one.read.laid read.layout read.laid) read_before))
-    (subst (λ (l : Option (List ℕ)). IsReadBehind v.seat.pass.rows (slots_by l) row.index next behind)
-    (one.read.laid read.layout read.laid) read_behind)
+    (before_on b.pass v.seat.pass (slots_of read.layout) (slot_at read.layout row.index) before three.read
+    (subst (λ (n : ℕ). IsReadBefore b.pass.rows (slots_of read.layout) n before) is_own read_before))
+    (subst (λ (n : ℕ). IsReadBehind v.seat.pass.rows (slots_of read.layout) n next behind) is_own read_behind)
     undecided some_page from until
     (subst (λ (h : Option Held). Shows v.seat (RowIs h (page_of addr) row)) same (shows_on old v.seat (RowIs old.held (page_of addr) row) on shows))
-    chosen plan slot of_call named named_new is kept
+    chosen plan (slot ∙ is_own) of_call named named_new is kept

@@ -3,7 +3,7 @@ use Rattle.std.proofs.Common.{◌≡◌, ℕ, zero, suc, ◌+◌, ◌<◌, ◌�
 use Rattle.std.proofs.Common.{length, map, get_or, set, sym, refl, ap, ◌∙◌, subst, arith, add-one, drop-cons}
 use Rattle.std.proofs.Common.{append_assoc, inl, inr}
 use Rattle.std.proofs.lemmas.Bool.{cases_lt}
-use Rattle.std.specs.Prelude.{Option, Some, None, replicate, slice_index}
+use Rattle.std.specs.Prelude.{Option, Some, None, replicate}
 use mathlib.Core.Logic.{dite}
 use mathlib.Core.Option.{some, some-injective, some-ne-none}
 use native.Mathlib.Decide.{ℕ_discrete}
@@ -13,13 +13,18 @@ use Rattle.space_model.specs.declared.areas.Area.{Area}
 use Rattle.space_model.specs.declared.entries.Entry.{Entry}
 use Rattle.lock_core.proofs.ByPlace.{below, there, same_lists, at_replicate}
 use Rattle.lock_core.specs.declared.range.Held.{Held}
-use Rattle.space_model.specs.Areas.{kind_at}
+use Rattle.space_model.specs.Areas.{kind_at, row_count}
 use Rattle.area_guard.specs.declared.guard.Pass.{Pass}
 use Rattle.area_guard.specs.declared.guard.Pending.{Pending}
 use Rattle.area_guard.specs.declared.guard.Pending.TheVariants.{AtRest, Planned, OneRow}
 use Rattle.area_rows.specs.declared.close.Kept.{Kept}
 use Rattle.row_plans.specs.RowLists.{areas_from, rows_start, with_row}
-use Rattle.area_guard.specs.Rows.{rows_in, RowsShow}
+use Rattle.row_blocks.specs.Blocks.{IsLaidOut}
+use Rattle.row_plans.specs.Plans.{PlanShows}
+use Rattle.row_plans.proofs.PlanLeft.{counted_rows}
+use Rattle.area_guard.specs.Rows.{nb_in, rows_in, room_of, RowsShow}
+use Rattle.area_guard.specs.Parts.{rows_fit}
+use Rattle.area_guard.proofs.Slots.{rows_many}
 use Rattle.area_guard.specs.Reads.{everything}
 use Rattle.area_guard.specs.Changes.{alone}
 use Rattle.area_guard.specs.History.{Runs, planned_calls, LagsAt, RowsStandFor, IsRunningSpace, Backs, AreBacked, HasHistory}
@@ -28,10 +33,10 @@ use Rattle.area_guard.proofs.Entries.{runs_number, own_at, at_own}
 use Rattle.area_rows.specs.Callers.{CallerView, IsWhole}
 use Rattle.area_rows.specs.Closing.{AllStand, AgreesAt, ArePlaced, AreBelow, AreKept, callers_count, caller_pass}
 use Rattle.page_types.specs.declared.calls.Kind.{Kind}
-use Rattle.std.proofs.lemmas.List.{append-nil, length-map, length-take-le, length-drop, drop_all}
+use Rattle.std.proofs.lemmas.List.{append-nil, length-map, drop_all}
 use Rattle.row_plans.specs.RowWords.{row_start, row_kind}
 use Rattle.row_plans.proofs.RowLists.{areas_back}
-use Rattle.area_rows.proofs.Moments.{at_row, none_planned, rows_agree}
+use Rattle.area_rows.proofs.Moments.{none_planned, row_list, rows_agree}
 
 kept_at : (kept : List Kept) (callers : List CallerView) (k : ℕ) (c : Kept) → AreKept kept callers → get_elem? kept k ≡ some c
     → (v : CallerView) × (get_elem? callers k ≡ some v) × (c.mine.items ≡ v.seat.pass.mine)
@@ -175,42 +180,28 @@ caller_step history kept old new mine n c at is all keeps places before k d lt t
 drop_next : (l : List ℕ) (i : ℕ) → i < length l → drop i l ≡ get_or l i 0 ∷ drop (i + 1) l
 drop_next l i lt = rw (add-one, drop-cons l i 0) refl
 
--- there are as many row words in the list as the row count says
-pub length-rows : (words : List ℕ) → 3 + slice_index words 2 ≤ length words → length (rows_in words) ≡ slice_index words 2
-length-rows words wide = let d = length-drop 3 words in length-take-le (slice_index words 2) (drop 3 words) (omega arith)
-
 row_apart : (lo : ℕ) (kind : Option Kind) (hi : ℕ) (rest : List Area) → with_row lo kind hi rest ≡ with_row lo kind hi [] ++ rest
 row_apart lo None hi rest = refl
 row_apart lo (Some kind) hi rest = refl
 
 -- the areas so far, with that of one row more, and those of the rows behind it are all the areas still
-pub row_step : (words : List ℕ) (i lo hi : ℕ) (kind : Option Kind) (out new all : List Area)
-    → 3 + slice_index words 2 ≤ length words → i < slice_index words 2 → lo ≡ row_start (slice_index words (3 + i))
-    → kind ≡ row_kind (slice_index words (3 + i)) → hi ≡ rows_start (drop (i + 1) (rows_in words))
-    → new ≡ out ++ with_row lo kind hi [] → out ++ areas_from (drop i (rows_in words)) ≡ all → new ++ areas_from (drop (i + 1) (rows_in words)) ≡ all
-row_step words i lo hi kind out new all wide lt l k h is before =
-    let rows = rows_in words in
+pub row_step : (rows : List ℕ) (i lo hi : ℕ) (kind : Option Kind) (out new all : List Area)
+    → i < length rows → lo ≡ row_start (get_or rows i 0) → kind ≡ row_kind (get_or rows i 0) → hi ≡ rows_start (drop (i + 1) rows)
+    → new ≡ out ++ with_row lo kind hi [] → out ++ areas_from (drop i rows) ≡ all → new ++ areas_from (drop (i + 1) rows) ≡ all
+row_step rows i lo hi kind out new all lt l k h is before =
     let rest = areas_from (drop (i + 1) rows) in
-    let w = slice_index words (3 + i) in
-    let here : get_or rows i 0 ≡ w = at_row words i lt in
-    let head : drop i rows ≡ w ∷ drop (i + 1) rows = drop_next rows i (let n = length-rows words wide in omega arith)
-    ∙ ap (λ x. x ∷ drop (i + 1) rows) here in
+    let head : drop i rows ≡ get_or rows i 0 ∷ drop (i + 1) rows = drop_next rows i lt in
     let one : with_row lo kind hi rest ≡ areas_from (drop i rows) = (λ j. with_row (l j) (k j) (h j) rest) ∙ sym (ap areas_from head) in
     ap (λ x. x ++ rest) is ∙ (append_assoc out (with_row lo kind hi []) rest ∙ (ap (λ x. out ++ x) (sym (row_apart lo kind hi rest) ∙ one) ∙ before))
 
 -- where no row is left, the areas so far are all of them
-pub rows_done : (words : List ℕ) (i : ℕ) (out all : List Area) → 3 + slice_index words 2 ≤ length words
-    → ¬ (i < slice_index words 2) → out ++ areas_from (drop i (rows_in words)) ≡ all → out ≡ all
-rows_done words i out all wide not_more before =
-    sym (append-nil out) ∙ (ap (λ l. out ++ areas_from l) (sym (drop_all i (rows_in words) (let n = length-rows words wide in omega arith))) ∙ before)
+pub rows_done : (rows : List ℕ) (i : ℕ) (out all : List Area) → ¬ (i < length rows) → out ++ areas_from (drop i rows) ≡ all → out ≡ all
+rows_done rows i out all not_more before =
+    sym (append-nil out) ∙ (ap (λ l. out ++ areas_from l) (sym (drop_all i rows (omega arith))) ∙ before)
 
 -- the rows behind a row start where the word of the next row says
-pub next_start : (words : List ℕ) (i : ℕ) → 3 + slice_index words 2 ≤ length words → i + 1 < slice_index words 2
-    → rows_start (drop (i + 1) (rows_in words)) ≡ row_start (slice_index words (3 + (i + 1)))
-next_start words i wide lt =
-    let d = length-drop 3 words in
-    let n = length-take-le (slice_index words 2) (drop 3 words) (omega arith) in
-    ap rows_start (drop_next (rows_in words) (i + 1) (omega arith)) ∙ ap row_start (at_row words (i + 1) lt)
+pub next_start : (rows : List ℕ) (i : ℕ) → i + 1 < length rows → rows_start (drop (i + 1) rows) ≡ row_start (get_or rows (i + 1) 0)
+next_start rows i lt = ap rows_start (drop_next rows (i + 1) lt)
 
 -- the numbers of what was kept are below the number of all entries
 pub closes_below : (n : ℕ) (words : List ℕ) (callers : List CallerView) (kept : List Kept) (passes : List Pass) (bound : ℕ)
@@ -219,3 +210,30 @@ pub closes_below : (n : ℕ) (words : List ℕ) (callers : List CallerView) (kep
 closes_below n words callers kept passes bound is h all b =
     let r = subst (λ (ps : List Pass). HasHistory (replicate n None) words ps) is h in
     kept_below r.0 r.1 r.2 words callers r.3 kept all bound b
+
+-- the words of a closed table have so many blocks, as each caller says, and so many rows at most
+pub closes_blocks : (n nb : ℕ) (words : List ℕ) (passes : List Pass) (h : HasHistory (replicate n None) words passes) → 0 < length passes
+    → ((k : ℕ) (p : Pass) → get_elem? passes k ≡ some p → p.blocks ≡ nb)
+    → (nb ≡ nb_in words) × IsLaidOut (nb_in words) (drop 3 words) × (length (rows_in words) ≤ room_of nb)
+closes_blocks n nb words passes h some_pass all =
+    let first = there passes 0 some_pass in
+    let is : nb ≡ nb_in words = sym (all 0 first.0 first.1) ∙ (h.3.parts 0 first.0 first.1).room.0 in
+    let rows = idle_rows n h.0 h.1 h.2 words passes h.3 h.4 in
+    let many = rows_many words (kind_at h.2) rows in
+    let some_row = rows.some in
+    let few = rows.few in
+    let shows : PlanShows (rows_in words) (kind_at h.2) = record { some = omega arith; few = omega arith; show = rows.show; gaps = rows.gaps } in
+    let back = areas_back (rows_in words) h.2 rows.show h.3.in_order in
+    let counted = counted_rows (rows_in words) (row_list (rows_in words) h.2 shows back) in
+    let state = ap row_count back in
+    let fits = rows_fit h.0 h.1 h.2 words passes h.3 in
+    let room = ap room_of is in (is, rows.laid, omega arith)
+
+-- each of the passes is a caller's
+pub caller_at : (callers : List CallerView) (k : ℕ) (p : Pass) → get_elem? (map caller_pass callers) k ≡ some p
+    → (c : CallerView) × (get_elem? callers k ≡ some c) × (caller_pass c ≡ p)
+caller_at callers k p at =
+    let lt = below (map caller_pass callers) k p at in
+    let many = length-map callers caller_pass in
+    let v = there callers k (omega arith) in
+    (v.0, v.1, some-injective (caller_pass v.0) p (sym (at_map caller_pass callers k v.0 v.1) ∙ at))

@@ -1,8 +1,7 @@
 -- What is so at a moment of the running space of a caller that holds pages: nobody else has a plan to write, and the
 -- rows show the state at each held page.
-use Rattle.std.proofs.Common.{◌≡◌, ℕ, suc, ◌+◌, ◌<◌, ◌≤◌, List, [], ◌∷◌, drop, length, get_or, set, sym, refl, ap, ◌∙◌, subst, arith, ⊎_elim}
+use Rattle.std.proofs.Common.{◌≡◌, ℕ, suc, ◌+◌, ◌<◌, List, [], ◌∷◌, length, get_or, set, sym, refl, ap, ◌∙◌, subst, arith, ⊎_elim}
 use Rattle.std.proofs.lemmas.Bool.{false≢true}
-use Rattle.std.proofs.lemmas.List.{get_or-take, get_or-drop, length-take-le, length-drop}
 use Rattle.std.proofs.lemmas.List.Elements.{All-head, All-tail}
 use Rattle.std.proofs.lemmas.List.Sums.{sum_by-cons}
 use Rattle.std.specs.Prelude.{All, Option, Some, None, IsSome, slice_index}
@@ -48,31 +47,10 @@ held_some (Some h) s = (h, refl)
 pub held_pages : (grants : Grants) (seat : ℕ) (held : Option Held) → get_elem? grants seat ≡ some held → IsSome held → IsHeldPages held → HoldsPages grants seat
 held_pages grants seat held at some_held pages = let h = held_some held some_held in (h.0, at ∙ ap some h.1, pages h.0 h.1)
 
--- the row word at place i of the list is the client word at place 3 + i
-pub at_row : (words : List ℕ) (i : ℕ) → i < slice_index words 2 → get_or (rows_in words) i 0 ≡ slice_index words (3 + i)
-at_row words i l = get_or-take (slice_index words 2) (drop 3 words) i 0 l ∙ get_or-drop 3 words i 0
-
 -- the first of row words that show kinds starts at page 0
 pub first_start : (rows : List ℕ) (kinds : ℕ → Option Kind) → ShowFrom 0 rows kinds → 0 < length rows → row_start (get_or rows 0 0) ≡ 0
 first_start [] kinds s l = absurd (omega arith)
 first_start (w ∷ rest) kinds s l = s.0
-
--- lists that agree at each place
-pub same_by : (a b : List ℕ) → length a ≡ length b → ((i : ℕ) → i < length b → get_or a i 0 ≡ get_or b i 0) → a ≡ b
-same_by [] [] l all = refl
-same_by [] (y ∷ ys) l all = absurd (omega arith)
-same_by (x ∷ xs) [] l all = absurd (omega arith)
-same_by (x ∷ xs) (y ∷ ys) l all =
-    let first : x ≡ y = all 0 (omega arith) in
-    let rest : xs ≡ ys = same_by xs ys (omega arith) (λ i lt. all (suc i) (omega arith)) in
-    λ i. first i ∷ rest i
-
--- row words that are known one by one are all the rows that there are
-pub rows_known : (words rows : List ℕ) → 3 + length rows ≤ length words → slice_index words 2 ≡ length rows
-    → ((i : ℕ) → i < length rows → slice_index words (3 + i) ≡ slice_index rows i) → rows_in words ≡ rows
-rows_known words rows room count all = same_by (rows_in words) rows
-    (length-take-le (slice_index words 2) (drop 3 words) (let d = length-drop 3 words in omega arith) ∙ count)
-    (λ i lt. at_row words i (omega arith) ∙ all i lt)
 
 -- rows that show kinds show others that are the same below the limit
 shows_agree : (page : ℕ) (rows : List ℕ) (kinds other : ℕ → Option Kind) → ((p : ℕ) → p < LIMIT → other p ≡ kinds p)
@@ -207,5 +185,6 @@ moment_of grants words passes seat here s granted n same = record {
     rows = λ index word h. subst (λ (x : Pass). HasRead x.rows index word) (sym same) h;
     sequence = λ k e. ap (λ (x : Pass). x.sequence) same ∙ e;
     pending = ap (λ (x : Pass). x.pending) same;
+    blocks = ap (λ (x : Pass). x.blocks) same;
   };
 }

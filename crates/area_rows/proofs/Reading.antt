@@ -2,10 +2,10 @@
 use Rattle.std.proofs.Common.{◌≡◌, ℕ, ◌+◌, ◌-◌, ◌<◌, ◌≤◌, List, [], ◌∷◌, ◌++◌, sym, refl}
 use Rattle.std.proofs.Common.{ap, ◌∙◌, subst, arith, inl, inr, ⊎_elim}
 use Rattle.std.proofs.lemmas.Bool.{cases_lt}
-use Rattle.std.specs.Prelude.{All, Option, Some, None, slice_index}
+use Rattle.std.specs.Prelude.{All, Option, slice_index}
 use Rattle.page_types.specs.declared.TheConstants.{LIMIT}
 use Rattle.page_types.specs.declared.calls.Kind.{Kind}
-use mathlib.Core.Option.{some, some-ne-none}
+use mathlib.Core.Option.{some}
 use lib.ListN.{get_elem?}
 use Rattle.space_model.specs.declared.areas.Area.{Area}
 use Rattle.space_model.specs.Areas.{kind_at}
@@ -14,13 +14,13 @@ use Rattle.range_rw.specs.Contract.{SeatState}
 use Rattle.range_rw.specs.Contract.{Record}
 use Rattle.area_guard.specs.declared.guard.Pass.{Pass}
 use Rattle.row_plans.specs.RowWords.{row_start, row_kind}
-use Rattle.area_guard.specs.Rows.{layout_in, slots_of, slot_at, slots_in, AreNeighbours, IsOneOf, IsLastOf, RowsShow, IsRowOf}
+use Rattle.area_guard.specs.Rows.{layout_in, slots_of, slot_at, slots_in, RowsShow, IsRowOf}
 use Rattle.area_guard.specs.declared.guard.ReadRow.{ReadRow}
-use Rattle.area_guard.specs.Reads.{counts_of, slots_by, IsHeldPage, HasRead, StillStands, noted_at}
-use Rattle.area_guard.specs.History.{RowsStandFor, HoldsPages, IsAtRest, StillLaid, after_seen, after_row}
+use Rattle.area_guard.specs.Reads.{IsHeldPage, HasRead, StillStands}
+use Rattle.area_guard.specs.History.{RowsStandFor, HoldsPages, IsAtRest, StillLaid, after_row}
 use Rattle.area_rows.specs.declared.row.Row.{Row}
-use Rattle.area_rows.specs.Callers.{IsHeldPages, KeepsRead, IsReadIn, IsAsRead, IsReadBefore, IsReadBehind, RowIs, Shows, IsReading, IsClientStep, IsCounted}
-pub use Rattle.area_rows.specs.Loading.{keeps_on, no_reading, reading_on}
+use Rattle.area_rows.specs.Callers.{IsHeldPages, KeepsRead, IsReadIn, IsAsRead, IsReadBefore, IsReadBehind, RowIs, Shows, IsReading, IsClientStep}
+pub use Rattle.plan_words.specs.Reading.{keeps_on, no_reading, reading_on}
 use Rattle.area_rows.proofs.Moments.{stands, nobody_plans, shows_held}
 use Rattle.area_rows.proofs.Neighbours.{next_same, none_next, word_says, before_row, behind_row}
 
@@ -109,6 +109,8 @@ abbrev pub as_read_on : (a b : Pass) (row : Row) → KeepsRead a b → IsAsRead 
 as_read_on a b row k r = record {
   layout = r.layout;
   laid = k.laid r.layout r.laid;
+  block = let lt = r.block in let same = k.blocks in omega arith;
+  place = r.place;
   in_slot =
       let i = r.in_slot in
       record {
@@ -158,27 +160,14 @@ step_reads a b place p s x y z l k = record {
 }
 
 -- what was read before is still read where rows are noted
-read_behind : (front rows : List ReadRow) (index word : ℕ) → HasRead rows index word → HasRead (front ++ rows) index word
+pub read_behind : (front rows : List ReadRow) (index word : ℕ) → HasRead rows index word → HasRead (front ++ rows) index word
 read_behind [] rows index word has = has
 read_behind (r ∷ front) rows index word has = inr (read_behind front rows index word has)
 
--- so is a load of the row count, which finds the layout that was found before
-pub count_reads : (a b : SeatState Pass) (n : ℕ) → IsCounted a n b → IsReading a b
-count_reads a b n s = step_reads a b 2 (after_seen s.words a.pass) s.step refl refl refl refl (record {
-  laid = λ layout e. ap (λ (l : List ℕ). Some l) (s.again layout e);
-  rows = λ index word h. read_behind (noted_at s.words (slots_in s.words)) a.pass.rows index word h;
-  sequence = λ m e. e;
-  pending = refl;
-})
-
--- after it the row count is known
-pub count_known : (a b : SeatState Pass) (n : ℕ) → IsCounted a n b → counts_of b.pass.laid ≡ Some n
-count_known a b n s = ap (λ (p : Pass). counts_of p.laid) s.step.pass ∙ ap (λ (m : ℕ). Some m) s.slots
-
--- so is a load of a row
+-- a load of a row is one
 pub row_reads : (a b : SeatState Pass) (index word : ℕ) → IsClientStep a (3 + index) (after_row index word a.pass) b → IsReading a b
 row_reads a b index word s = step_reads a b (3 + index) (after_row index word a.pass) s refl refl refl refl
-    (record { laid = λ layout e. e; rows = λ i w h. inr h; sequence = λ n e. e; pending = refl })
+    (record { laid = λ layout e. e; rows = λ i w h. inr h; sequence = λ n e. e; pending = refl; blocks = refl })
 
 -- what a range has shown lasts while the caller reads more rows
 pub shows_on : (a b : SeatState Pass) (what : List ℕ → List Area → Type 0) → IsReading a b → Shows a what → Shows b what
@@ -193,36 +182,3 @@ shows_on a b what r shows start history state words m = shows start history stat
   own = ap (get_elem? m.passes) (sym r.number) ∙ m.own;
   read = keeps_on a.pass b.pass m.pass r.read m.read;
 })
-
--- a slot in use by what is known is one of a layout
-known_in : (laid : Option (List ℕ)) (slot : ℕ) → IsOneOf (slots_by laid) slot → (layout : List ℕ) × (laid ≡ Some layout)
-known_in None slot there = absurd (some-ne-none slot (sym there.1))
-known_in (Some layout) slot there = (layout, refl)
-
--- a row that was read in its slot by the layout that is known is as it was read
-as_read : (p : Pass) (row : Row) → IsReadIn p.rows (slots_by p.laid) row.index row → IsAsRead p row
-as_read p row r =
-    let l = known_in p.laid row.index r.there in
-    record { layout = l.0; laid = l.1; in_slot = subst (λ (laid : Option (List ℕ)). IsReadIn p.rows (slots_by laid) row.index row) l.1 r }
-
--- so is one whose word was read, and then the word in the next slot, at which it ends
-pub found_read : (old new : SeatState Pass) (row : Row) (word next behind : ℕ)
-    → IsClientStep old (3 + next) (after_row next behind old.pass) new → IsOneOf (slots_by old.pass.laid) row.index
-    → AreNeighbours (slots_by old.pass.laid) row.index next → HasRead old.pass.rows row.index word
-    → row.lo ≡ row_start word → row.kind ≡ row_kind word → row.hi ≡ row_start behind → IsAsRead new.pass row
-found_read old new row word next behind step there are read lo kind hi =
-    subst (λ (p : Pass). IsAsRead p row) (sym step.pass) (as_read (after_row next behind old.pass) row (record {
-      there = there;
-      word = word;
-      read = inr read;
-      lo = lo;
-      kind = kind;
-      hi = inl (next, are, behind, inl (refl, refl), hi);
-    }))
-
--- and the last one, which ends at the limit
-pub last_read : (seat : SeatState Pass) (row : Row) (word : ℕ) → IsOneOf (slots_by seat.pass.laid) row.index
-    → IsLastOf (slots_by seat.pass.laid) row.index → HasRead seat.pass.rows row.index word → row.lo ≡ row_start word → row.kind ≡ row_kind word
-    → row.hi ≡ LIMIT → IsAsRead seat.pass row
-last_read seat row word there last read lo kind hi =
-    as_read seat.pass row (record { there = there; word = word; read = read; lo = lo; kind = kind; hi = inr (last, hi) })

@@ -20,8 +20,9 @@ use Rattle.area_guard.specs.declared.guard.ReadRow.{ReadRow}
 use Rattle.area_rows.specs.declared.row.Row.{Row}
 use Rattle.row_plans.specs.RowWords.{row_start, row_kind}
 use Rattle.row_plans.specs.RowLists.{ShowFrom, areas_from}
-use Rattle.area_guard.specs.Rows.{layout_in, slots_of, slot_at, slots_in, rows_in, room_of, AreNeighbours, IsOneOf, IsSlot, IsNext, IsInReach, RowsShow, IsRowOf}
-use Rattle.area_guard.proofs.Slots.{slots_many, rows_are, slots_apart, slot_there, shows_set}
+use Rattle.area_guard.specs.Rows.{layout_in, slots_of, slot_at, slots_in, rows_in, blocks_by, AreNeighbours, IsOneOf, IsSlot, IsNext, IsInReach, RowsShow, IsRowOf}
+use Rattle.area_guard.proofs.Slots.{slots_many, rows_are, slots_apart, shows_set}
+use Rattle.area_guard.proofs.Slots.{slot_in as slot_below}
 use Rattle.area_guard.specs.Reads.{IsHeldPage, HasRead, StillStands}
 use Rattle.area_guard.specs.Changes.{IsIn, alone, new_word, with_change, MayReplace}
 use Rattle.area_rows.specs.OneStore.{IsOneStore, IsRound}
@@ -246,7 +247,7 @@ module _ (words : List ℕ) (kinds : ℕ → Option Kind) (s : RowsShow words ki
       ap (λ (n : ℕ). row_start (slice_index words (3 + n))) index ∙ start_here in
       let w = named_word in
       record {
-        there = slot_there words kinds s c.index (used store);
+        there = slot_below words kinds s c.index (used store);
         used = used store;
         up = λ page low high. absurd (omega arith);
         down = λ page low high. absurd (omega arith);
@@ -261,7 +262,7 @@ module _ (words : List ℕ) (kinds : ℕ → Option Kind) (s : RowsShow words ki
       ap (λ (n : ℕ). row_start (slice_index words (3 + n))) index ∙ start_here in
       let w = named_word in
       record {
-        there = slot_there words kinds s c.index (used store);
+        there = slot_below words kinds s c.index (used store);
         used = used store;
         up = λ page low high. in_round page (omega arith) (omega arith);
         down = λ page low high. absurd (let p = c.place.ordered in omega arith);
@@ -281,7 +282,7 @@ module _ (words : List ℕ) (kinds : ℕ → Option Kind) (s : RowsShow words ki
       let b = a.round.1 in
       let w = named_word in
       record {
-        there = slot_there words kinds s c.index (used store);
+        there = slot_below words kinds s c.index (used store);
         used = used store;
         up = λ page low high. absurd (let p = c.place.ordered in omega arith);
         down = λ page low high. in_round page (omega arith) (omega arith);
@@ -314,7 +315,7 @@ slot_in rows slots slot next row before behind c there read (last_part index at 
     let n = (behind_there rows slots slot next behind c.new read is_behind).0 in subst (IsOneOf slots) (sym index) (n.0 + 1, n.2)
 
 -- its slot is in reach
-pub index_reach : (s : SeatState Pass) (c : Change) → IsReadRound s c → IsInReach (room_of s.table) c.index
+pub index_reach : (s : SeatState Pass) (c : Change) → IsReadRound s c → IsInReach (blocks_by s.table) c.index
 index_reach s c r = r.reach c.index (slot_in s.pass.rows (slots_of r.read.layout) (slot_at r.read.layout r.row.index) r.next r.row r.before r.behind c
     r.read.in_slot.there r.read_behind r.store)
 

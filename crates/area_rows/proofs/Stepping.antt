@@ -1,9 +1,9 @@
 -- The guard allows the steps by which a caller reads words and draws a number, and what each tells.
-use Rattle.std.proofs.Common.{◌≡◌, ℕ, ⊎_elim, inl, inr, ◌⊎◌, ◌+◌, ◌<◌, ◌≤◌, List, length, sym, refl, ap, ◌∙◌, subst, arith}
+use Rattle.std.proofs.Common.{◌≡◌, ℕ, ⊎_elim, inl, inr, ◌⊎◌, ◌+◌, ◌*◌, ◌<◌, ◌≤◌, List, ◌++◌, drop, length, sym, refl, ap, ◌∙◌, subst, arith}
 use Rattle.std.specs.Prelude.{◌↔◌, All, Option, Some, None, IsSome, slice_index}
 use mathlib.Core.Option.{some, some-injective}
 use lib.ListN.{get_elem?}
-use Rattle.page_types.specs.declared.TheConstants.{LIMIT, ROWS}
+use Rattle.page_types.specs.declared.TheConstants.{LIMIT}
 use Rattle.page_types.specs.Named.{IsNamedCall}
 use Rattle.atomic_table.specs.Seated.{TableId}
 use Rattle.lock_core.specs.declared.range.Held.{Held}
@@ -22,28 +22,29 @@ use Rattle.area_guard.specs.declared.guard.Pass.{Pass}
 use Rattle.area_guard.specs.declared.guard.Pending.{Pending}
 use Rattle.area_guard.specs.declared.guard.Splice.{Splice}
 use Rattle.row_plans.specs.declared.planning.Cut.{Cut}
-use Rattle.area_guard.specs.Rows.{layout_in, slots_of, slot_at, slots_in, IsOneOf, IsInReach, room_of, rows_in}
-use Rattle.area_guard.proofs.Slots.{rows_many, slots_many, first_slot, slot_reach}
-use Rattle.area_guard.specs.Writes.{everything_pages}
+use Rattle.area_guard.specs.Rows.{slots_of, slot_at, slots_to, IsOneOf, room_of, rows_in}
+use Rattle.area_guard.proofs.Slots.{first_slot}
 use Rattle.area_guard.specs.declared.guard.Pending.TheVariants.{AtRest, Planned, OneRow}
 use Rattle.row_plans.specs.RowWords.{row_start}
 use Rattle.row_plans.specs.Plans.{IsRowList}
 use Rattle.area_rows.specs.Halving.{IsOnSameSide}
-use Rattle.area_guard.specs.Reads.{everything, slots_by, counts_of, IsHeldPage, HasRead, words_of, known_rows, KnowsRows, StillStands}
+use Rattle.area_guard.specs.Reads.{everything, slots_by, layout_by, IsHeldPage, HasRead, words_of, known_rows, known_words, KnowsRows, StillStands}
+use Rattle.row_blocks.specs.declared.positions.Position.{Position}
+use Rattle.row_blocks.specs.Blocks.{IsLaidOut, blocks_of, rows_of, rows_in as rows_by}
+use Rattle.plan_words.specs.Places.{number_in, number_at}
 use Rattle.area_guard.specs.History.{Runs, StartsWith, planned_calls, RowsStandFor, HasHistory, Allowed, Here, MayLoad}
 use Rattle.area_guard.specs.History.{MayAdd, IsAtRest, IsRight, Leaves, FitsIn, HoldsFor, HoldsJust, pending_of, entry_of}
-use Rattle.area_guard.specs.History.{after_look, after_seen, after_sequence, after_row, after_draw, rows_after}
-use Rattle.area_guard.specs.History.MayLoad.{number, glance, sequence, count, row}
+use Rattle.area_guard.specs.History.{after_look, after_sequence, after_row, after_draw, rows_after}
+use Rattle.area_guard.specs.History.MayLoad.{number, glance, sequence, layout, row}
 use Rattle.area_guard.specs.History.MayAdd.{draw, raise}
 use Rattle.area_rows.specs.Callers.{CallerView, HasSameRows, plan_of, IsKnown, HasToWrite, HasToStore, IsReadIn, IsReadRound, IsReadBefore, IsReadBehind}
 use Rattle.area_rows.specs.Callers.{AreInReach, IsHeldPages, IsMoment, Shows, KeepsRead, KeepsRows, CountsWhole}
 use Rattle.area_rows.specs.Callers.{IsReading, IsLook, IsNumbered, IsDrawn, IsClientStep}
-use Rattle.area_guard.specs.Draws.{draw_pending, draw_mine, draw_seen, draw_start, draw_drew, draw_looks, draw_room, draw_most, plan_fits}
+use Rattle.area_guard.specs.Draws.{draw_pending, draw_mine, draw_seen, draw_start, draw_drew, draw_looks, draw_blocks, draw_most, plan_fits}
 use Rattle.area_guard.specs.Keeping.{no_note}
 use Rattle.area_guard.specs.Parts.{none_is}
 use Rattle.area_rows.proofs.Reading.{step_reads}
 use Rattle.area_rows.proofs.Neighbours.{slot_now, first_row, word_says}
-use Rattle.area_rows.proofs.KnownRows.{seen_known}
 use Rattle.area_rows.proofs.Moments.{held_some, held_pages, row_list, stands, only_own_plan, nobody_plans, rows_are, here_at, moment_of}
 
 module _ (own : Option Held → Type 0) (free held : Type 0) (words : List ℕ) (history : List Entry) (p after : Pass) where
@@ -52,29 +53,24 @@ module _ (own : Option Held → Type 0) (free held : Type 0) (words : List ℕ) 
   look_tells (number h o e is) = (h, o, is)
   look_tells (glance f e is) = absurd (omega arith)
   look_tells (sequence h e is) = absurd (omega arith)
-  look_tells (count h e is) = absurd (omega arith)
+  look_tells (layout h at is) = absurd (⊎_elim (λ two. omega arith) (λ t. let a = t.0 in omega arith) at)
   look_tells (row i h few e is) = absurd (omega arith)
 
   sequence_tells : MayLoad own free held words history 1 p after → (free × (after ≡ p)) ⊎ (after ≡ after_sequence (slice_index words 1) p)
   sequence_tells (number h o e is) = absurd (omega arith)
   sequence_tells (glance f e is) = inl (f, is)
   sequence_tells (sequence h e is) = inr is
-  sequence_tells (count h e is) = absurd (omega arith)
+  sequence_tells (layout h at is) = absurd (⊎_elim (λ two. omega arith) (λ t. let a = t.0 in omega arith) at)
   sequence_tells (row i h few e is) = absurd (omega arith)
 
-  count_tells : MayLoad own free held words history 2 p after → after ≡ after_seen words p
-  count_tells (number h o e is) = absurd (omega arith)
-  count_tells (glance f e is) = absurd (omega arith)
-  count_tells (sequence h e is) = absurd (omega arith)
-  count_tells (count h e is) = is
-  count_tells (row i h few e is) = absurd (omega arith)
-
-  row_tells : (index : ℕ) → MayLoad own free held words history (3 + index) p after → after ≡ after_row index (slice_index words (3 + index)) p
-  row_tells index (number h o e is) = absurd (omega arith)
-  row_tells index (glance f e is) = absurd (omega arith)
-  row_tells index (sequence h e is) = absurd (omega arith)
-  row_tells index (count h e is) = absurd (omega arith)
-  row_tells index (row i h few e is) = let same : i ≡ index = omega arith in is ∙ (λ k. after_row (same k) (slice_index words (3 + same k)) p)
+  row_tells : (index : ℕ) → index < 128 * p.blocks → MayLoad own free held words history (3 + index) p after
+      → after ≡ after_row index (slice_index words (3 + index)) p
+  row_tells index slot (number h o e is) = absurd (omega arith)
+  row_tells index slot (glance f e is) = absurd (omega arith)
+  row_tells index slot (sequence h e is) = absurd (omega arith)
+  row_tells index slot (layout h at is) = absurd (⊎_elim (λ two. omega arith) (λ t. let a = t.0 in omega arith) at)
+  row_tells index slot (row i h few e is) =
+      let same : i ≡ index = omega arith in is ∙ (λ k. after_row (same k) (slice_index words (3 + same k)) p)
 
 draw_keeps : (history : List Entry) (e : Entry) (pending : Pending) (held : Option Held) (p : Pass) → KeepsRows pending p (after_draw history e pending held p)
 draw_keeps history e AtRest held p = tt
@@ -98,33 +94,13 @@ module _ (note : Note) (seat : ℕ) (held : Option Held) (pass : Pass) where
   may_look grants words passes m lt small =
       (after_look m.met.1 held pass, (here_at grants words passes seat held pass m, number held m.grant refl refl))
 
-  -- a load of the row count, while pages are held
-  pub may_count : IsSome held → IsHeldPages held → IsAllowed HasHistory Allowed note seat held pass (loads 2)
-  may_count some_held pages grants words passes m lt small = (
-    after_seen words pass,
-    (
-      here_at grants words passes seat held pass m,
-      count (held_pages grants seat held m.grant some_held pages) refl refl,
-    ),
-  )
-
   -- a load of a row, while pages are held
-  pub may_row : (index : ℕ) → index < ROWS → IsSome held → IsHeldPages held → IsAllowed HasHistory Allowed note seat held pass (loads (3 + index))
+  pub may_row : (index : ℕ) → index < 128 * pass.blocks → IsSome held → IsHeldPages held → IsAllowed HasHistory Allowed note seat held pass (loads (3 + index))
   may_row index few some_held pages grants words passes m lt small = (
     after_row index (slice_index words (3 + index)) pass,
     (
       here_at grants words passes seat held pass m,
       row index (held_pages grants seat held m.grant some_held pages) few refl refl,
-    ),
-  )
-
-  -- a load of a row, while everything is held
-  pub may_row_all : (index : ℕ) → index < ROWS → held ≡ Some everything → IsAllowed HasHistory Allowed note seat held pass (loads (3 + index))
-  may_row_all index few all grants words passes m lt small = (
-    after_row index (slice_index words (3 + index)) pass,
-    (
-      here_at grants words passes seat held pass m,
-      row index (everything, m.grant ∙ ap some all, everything_pages) few refl refl,
     ),
   )
 
@@ -146,14 +122,14 @@ module _ (note : Note) (seat : ℕ) (held : Option Held) (pass : Pass) where
       )
 
   -- at a moment at which a caller at rest holds pages the rows show kinds
-  rows_here : (grants : Grants) (words : List ℕ) (passes : List Pass) (here : Here grants words passes seat) → IsSome held
+  pub rows_here : (grants : Grants) (words : List ℕ) (passes : List Pass) (here : Here grants words passes seat) → IsSome held
       → IsHeldPages held → get_elem? grants seat ≡ some held → IsAtRest here.pass → RowsStandFor here.state passes words
   rows_here grants words passes here some_held pages at rest =
       here.running.rows (nobody_plans grants words here.state passes seat here.pass here.exclusive here.backed here.own rest
       (held_pages grants seat held at some_held pages))
 
   -- and where it holds everything all rows of the moment are a list of rows
-  whole_list : (grants : Grants) (words : List ℕ) (passes : List Pass) (here : Here grants words passes seat) → IsAtRest here.pass
+  pub whole_list : (grants : Grants) (words : List ℕ) (passes : List Pass) (here : Here grants words passes seat) → IsAtRest here.pass
       → Holds grants seat everything → IsRowList (rows_in words)
   whole_list grants words passes here rest holds =
       let are = rows_are grants here.start here.history here.state words passes seat here.pass (rows_in words) here.running here.backed
@@ -161,49 +137,18 @@ module _ (note : Note) (seat : ℕ) (held : Option Held) (pass : Pass) where
       row_list (rows_in words) here.state are.0 are.1
 
   module _ (found : ℕ) (after : Pass) where
-    -- a load of the row count is kept in the pass, with the layout and all rows of the moment: at least one, at most as
-    -- many as there may be and as there is room for, and the layout is the one that was found before. Where everything
-    -- is held they are a list of rows. All of them are known then, and their slots are in reach
-    pub counts : IsSome held → IsHeldPages held → IsAtRest pass
-        → IsMade HasHistory Allowed note seat held pass (loads 2) found after
-        → (words : List ℕ) × (length (rows_in words) ≡ found) × (length (slots_in words) ≡ found) × (after ≡ after_seen words pass)
-        × ((layout : List ℕ) → pass.laid ≡ Some layout → layout_in words ≡ layout) × (held ≡ Some everything → IsRowList (rows_in words))
-        × (0 < found) × (found ≤ ROWS) × (found ≤ pass.room) × (known_rows after ≡ rows_in words)
-        × ((slot : ℕ) → IsOneOf (slots_by after.laid) slot → IsInReach pass.room slot)
-    counts some_held pages rest s =
-        let m = s.3 in let here = s.5.0 in
-        let same : here.pass ≡ pass = some-injective here.pass pass (sym here.own ∙ m.own) in
-        let rows : RowsStandFor here.state s.2 s.1 = rows_here s.0 s.1 s.2 here some_held pages m.grant (ap (λ (x : Pass). x.pending) same ∙ rest) in
-        let some_rows = rows.2.some in let few = rows.2.few in let fits = rows.2.room in let e = s.4 in
-        let part = here.running.parts seat here.pass here.own in
-        let room = part.room in
-        let seen : after ≡ after_seen s.1 pass = count_tells _ _ _ s.1 here.history here.pass after s.5.1 ∙ (λ i. after_seen s.1 (same i)) in (
-          s.1,
-          rows_many s.1 rows.0 rows.2 ∙ e,
-          slots_many s.1 rows.0 rows.2 ∙ (rows_many s.1 rows.0 rows.2 ∙ e),
-          seen,
-          λ layout laid. (here.running.parts seat here.pass here.own).laid layout (ap (λ (x : Pass). x.laid) same ∙ laid),
-          λ all. whole_list s.0 s.1 s.2 here (ap (λ (x : Pass). x.pending) same ∙ rest) (m.grant ∙ ap some all),
-          omega arith,
-          omega arith,
-          subst (λ (x : Pass). found ≤ x.room) same (omega arith),
-          ap known_rows seen ∙ seen_known s.1 rows.0 pass rows.2,
-          λ slot there. subst (λ (x : Pass). IsInReach x.room slot) same
-              (slot_reach s.1 rows.0 rows.2 here.start here.history seat here.pass part slot
-              (subst (λ (x : Pass). IsOneOf (slots_by x.laid) slot) seen there)),
-        )
-
     -- a load of a row is kept in the pass: the first one starts at page 0, and each that is counted below the limit
-    pub reads : (index : ℕ) → IsSome held → IsHeldPages held → IsAtRest pass
+    pub reads : (index : ℕ) → index < 128 * pass.blocks → IsSome held → IsHeldPages held → IsAtRest pass
         → IsMade HasHistory Allowed note seat held pass (loads (3 + index)) found after
         → (after ≡ after_row index found pass) × (index ≡ 0 → row_start found ≡ 0)
         × (IsOneOf (slots_by pass.laid) index → row_start found < LIMIT)
-    reads index some_held pages rest s =
+    reads index slot some_held pages rest s =
         let m = s.3 in let here = s.5.0 in
         let same : here.pass ≡ pass = some-injective here.pass pass (sym here.own ∙ m.own) in
         let rows : RowsStandFor here.state s.2 s.1 = rows_here s.0 s.1 s.2 here some_held pages m.grant (ap (λ (x : Pass). x.pending) same ∙ rest) in
         let e = s.4 in (
-          row_tells _ _ _ s.1 here.history here.pass after index s.5.1 ∙ (λ i. after_row index (e i) (same i)),
+          row_tells _ _ _ s.1 here.history here.pass after index (subst (λ (x : Pass). index < 128 * x.blocks) (sym same) slot) s.5.1
+              ∙ (λ i. after_row index (e i) (same i)),
           λ none. ap row_start (sym e ∙ ap (λ n. slice_index s.1 (3 + n)) none)
               ∙ first_row s.1 rows.0 rows.2 0 (first_slot s.1 rows.0 rows.2),
           λ there. subst (λ w. row_start w < LIMIT) e (word_says s.1 rows.0 rows.2 index
@@ -221,17 +166,6 @@ module _ (note : Note) (seat : ℕ) (held : Option Held) (pass : Pass) where
         let still = stands held s.1 here.pass.rows index old stood (subst (λ (x : Pass). HasRead x.rows index old) (sym same) has) in
         subst (λ w. (row_start old ≤ page) ↔ (row_start w ≤ page)) s.4 (still.side page h)
 
-    -- where everything is held a row that was read before has the same word
-    pub reads_again : (index word : ℕ) → held ≡ Some everything
-        → IsMade HasHistory Allowed note seat held pass (loads (3 + index)) found after → HasRead pass.rows index word → found ≡ word
-    reads_again index word all s has =
-        let m = s.3 in let here = s.5.0 in
-        let same : here.pass ≡ pass = some-injective here.pass pass (sym here.own ∙ m.own) in
-        let stood : All (StillStands (Some everything) s.1) here.pass.rows =
-        (here.backed seat here.pass here.own).rows (Some everything) (m.grant ∙ ap some all) in
-        sym s.4 ∙ (stands (Some everything) s.1 here.pass.rows index word stood
-        (subst (λ (x : Pass). HasRead x.rows index word) (sym same) has)).word refl
-
     drawn_as : (t u : SeatState Pass) → t.number ≡ seat → t.held ≡ held → t.pass ≡ pass → u.pass ≡ after → IsClientCall t 0 u
         → (s : IsMade HasHistory Allowed note seat held pass (adds 0 1) found after) → MayAdd s.0 s.1 s.2 seat note s.5.1 0 after
         → IsDrawn t (entry_of found seat note) note.pending u
@@ -248,7 +182,7 @@ module _ (note : Note) (seat : ℕ) (held : Option Held) (pass : Pass) where
         let granted : get_elem? s.0 seat ≡ some t.held = m.grant ∙ ap some (sym h) in
         let drew : u.pass.drew ≡ d.held.0 = ap (λ (x : Pass). x.drew) new ∙ draw_drew here.history f d.held.0 t.pass note.pending in
         let held_then : d.held.0 ≡ t.held = some-injective d.held.0 t.held (sym d.held.1 ∙ granted) in
-        let room_is : u.pass.room ≡ t.pass.room = ap (λ (x : Pass). x.room) new ∙ draw_room here.history f d.held.0 t.pass note.pending in
+        let blocks_are : u.pass.blocks ≡ t.pass.blocks = ap (λ (x : Pass). x.blocks) new ∙ draw_blocks here.history f d.held.0 t.pass note.pending in
         let num_is : IsNumbered t f u = record {
           history = here.history;
           state = here.state;
@@ -275,9 +209,9 @@ module _ (note : Note) (seat : ℕ) (held : Option Held) (pass : Pass) where
           looks = ap (λ (x : Pass). x.looks) new ∙ draw_looks here.history f d.held.0 t.pass note.pending;
           pools = call.pools;
           further = call.further;
-          room = room_is;
+          blocks = blocks_are;
           most = ap (λ (x : Pass). x.most) new ∙ draw_most here.history f d.held.0 t.pass note.pending;
-          fits = subst (FitsIn note.pending) (ap (λ (x : Pass). x.room) old ∙ sym room_is)
+          fits = subst (FitsIn note.pending) (ap (λ (x : Pass). x.blocks) old ∙ sym blocks_are)
               (plan_fits here.start here.history here.state d.left s.1 s.2 seat here.pass note.call note.reply note.under note.pending
               here.running here.own d.few d.right.answers d.leaves);
           writes = ap (λ (x : Pass). x.pending) new ∙ draw_pending here.history f d.held.0 t.pass note.pending;
@@ -321,10 +255,10 @@ look_is s u found call made =
 
 -- a pass that remembers the sequence word still has what it had read
 remembers : (p : Pass) (n : ℕ) → ((k : ℕ) → p.sequence ≡ Some k → n ≡ k) → KeepsRead p (after_sequence n p)
-remembers p n again = record { laid = λ layout e. e; rows = λ index word h. h; sequence = λ k e. ap Some (again k e); pending = refl }
+remembers p n again = record { laid = λ old e. e; rows = λ index word h. h; sequence = λ k e. ap Some (again k e); pending = refl; blocks = refl }
 
 keeps_all : (p : Pass) → KeepsRead p p
-keeps_all p = record { laid = λ layout e. e; rows = λ index word h. h; sequence = λ k e. e; pending = refl }
+keeps_all p = record { laid = λ old e. e; rows = λ index word h. h; sequence = λ k e. e; pending = refl; blocks = refl }
 
 -- how many entries are under everything, by the sequence word that a caller remembers
 counts_whole : (u : SeatState Pass) (found : ℕ) → u.pass.sequence ≡ Some found → IsSome u.held → IsHeldPages u.held → CountsWhole u found
@@ -377,51 +311,71 @@ sequence_is s u found pages call made =
     ))
     (sequence_tells _ _ _ made.1 here.history here.pass u.pass made.5.1)
 
--- a pass that has read the same knows the same
-knows_on : (p q : Pass) → q.laid ≡ p.laid → q.rows ≡ p.rows → KnowsRows p → KnowsRows q
-knows_on p q same_laid same_rows knows =
-    subst (λ (z : Option (List ℕ) × List ReadRow). (counts_of z.0 ≡ Some (length (words_of z.1 (slots_by z.0))))
-    × ((k slot : ℕ) → get_elem? (slots_by z.0) k ≡ some slot → HasRead z.1 slot (slice_index (words_of z.1 (slots_by z.0)) k)))
-    (λ i. (sym same_laid i, sym same_rows i)) knows
+-- a pass that has read the same over as many blocks knows the same
+pub knows_on : (p q : Pass) → q.laid ≡ p.laid → q.rows ≡ p.rows → q.blocks ≡ p.blocks → KnowsRows p → KnowsRows q
+knows_on p q same_laid same_rows same_blocks knows =
+    let words : known_words q ≡ known_words p = λ i. words_of (same_rows i) (slots_to (same_blocks i)) ++ drop 1 (layout_by (same_laid i)) in
+    let rows : known_rows q ≡ known_rows p = λ i. rows_by (same_blocks i) (words i) in
+    let both : ◌≡◌ {A = ℕ × List ℕ} (p.blocks, known_words p) (q.blocks, known_words q) = λ i. (sym same_blocks i, sym words i) in
+    let k = knows.words in
+    record {
+      words = record {
+        layout = k.layout;
+        laid = same_laid ∙ k.laid;
+        long = subst (λ (n : ℕ). length k.layout ≡ n + 2) (sym same_blocks) k.long;
+        slots = subst (λ (z : ℕ × List ReadRow). (slot : ℕ) → slot < 128 * z.0 → (word : ℕ) × HasRead z.1 slot word)
+            (λ i. (sym same_blocks i, sym same_rows i)) k.slots;
+      };
+      blocks = record {
+        laid = subst (λ (z : ℕ × List ℕ). IsLaidOut z.0 z.1) both knows.blocks.laid;
+        free = subst (λ (z : ℕ × List ℕ). blocks_of z.0 z.1 < z.0) both knows.blocks.free;
+        short = subst (λ (z : ℕ × List ℕ). rows_of z.0 z.1 0 < 64) both knows.blocks.short;
+      };
+      counted = ap (λ (l : Option (List ℕ)). slice_index (layout_by l) 0) same_laid ∙ (knows.counted ∙ ap length (sym rows));
+    }
 
 -- a caller that has drawn a number under everything has its plan to write
-pub writes_plan : (before after : CallerView) (e : Entry) (under : Under) → HasSameRows before after
-    → before.seat.pass.room ≡ room_of before.seat.table → before.seat.held ≡ Some everything
+pub writes_plan : (before after : CallerView) (e : Entry) (under : Under) → HasSameRows before after → before.seat.held ≡ Some everything
     → IsDrawn before.seat e (pending_of under (plan_of before) before.change) after.seat → under ≡ Whole
-    → IsKnown before → length (rows_after (plan_of before)) ≤ ROWS → HasToWrite after
-writes_plan before after e under same room held d whole known few =
+    → IsKnown before → 0 < length (rows_after (plan_of before)) → HasToWrite after
+writes_plan before after e under same held d whole known some_row =
     let is : pending_of under (plan_of before) before.change ≡ Planned (plan_of before) =
     ap (λ (w : Under). pending_of w (plan_of before) before.change) whole in
     let k : KeepsRows (Planned (plan_of before)) before.seat.pass after.seat.pass =
     subst (λ (q : Pending). KeepsRows q before.seat.pass after.seat.pass) is d.keeps in
-    let fits : length (rows_after (plan_of before)) ≤ after.seat.pass.room =
-    subst (λ (q : Pending). FitsIn q after.seat.pass.room) is d.fits in
-    let table : room_of after.seat.table ≡ room_of before.seat.table = ap room_of d.numbered.table in
-    let same_room = d.room in
-    let rows : known_rows after.seat.pass ≡ known_rows before.seat.pass = λ i. words_of (k.1 i) (slots_by (k.0 i)) in
+    let fits : length (rows_after (plan_of before)) ≤ room_of after.seat.pass.blocks =
+    subst (λ (q : Pending). FitsIn q after.seat.pass.blocks) is d.fits in
+    let words : known_words after.seat.pass ≡ known_words before.seat.pass =
+    λ i. words_of (k.1 i) (slots_to (d.blocks i)) ++ drop 1 (layout_by (k.0 i)) in
+    let rows : known_rows after.seat.pass ≡ known_rows before.seat.pass = λ i. rows_by (d.blocks i) (words i) in
+    let from : number_at after.seat.pass after.cut.at ≡ number_at before.seat.pass before.cut.at =
+    λ i. number_in (d.blocks i) (words i) (same.cut i).at in
+    let gone : after.cut.gone ≡ before.cut.gone = ap (λ (x : Cut Position). x.gone) same.cut in
+    let more : length after.more ≡ length before.more = ap length same.more in
     let plan : plan_of after ≡ plan_of before =
-    λ i. record { old = rows i; first = (same.cut i).at; end = (same.cut i).at + (same.cut i).gone; more = same.more i } in
-    let stood = known.fits in
-    let counted = same.count in
+    λ i. record { old = rows i; first = from i; end = from i + (same.cut i).gone; more = same.more i } in
+    let long = ap length rows in
+    let at = known.at in let there = known.there in let grows = known.grows in
     record {
       held = d.numbered.held ∙ held;
       pending = d.writes ∙ (is ∙ ap Planned (sym plan));
       known = record {
-        rows = knows_on before.seat.pass after.seat.pass k.0 k.1 known.rows;
+        rows = knows_on before.seat.pass after.seat.pass k.0 k.1 d.blocks known.rows;
         list = subst IsRowList (sym rows) known.list;
         counted = same.count ∙ (known.counted ∙ ap length (sym rows));
-        fits = omega arith;
-        at = subst (λ (z : Cut ℕ × ℕ). z.0.at < z.1) (λ i. (sym same.cut i, sym same.count i)) known.at;
-        there = subst (λ (z : Cut ℕ × ℕ). z.0.at + z.0.gone ≤ z.1) (λ i. (sym same.cut i, sym same.count i)) known.there;
+        at = omega arith;
+        there = omega arith;
+        grows = omega arith;
+        stays = λ some_rows. let s = known.stays (omega arith) in omega arith;
       };
-      few = subst (λ (s : Splice). length (rows_after s) ≤ ROWS) (sym plan) few;
-      fits = subst (λ (s : Splice). length (rows_after s) ≤ room_of after.seat.table) (sym plan) (omega arith);
+      some = subst (λ (s : Splice). 0 < length (rows_after s)) (sym plan) some_row;
+      fits = subst (λ (s : Splice). length (rows_after s) ≤ room_of after.seat.pass.blocks) (sym plan) fits;
     }
 
 -- what was read round a change is read still where the range and the rows are the same
 pub round_on : (a b : SeatState Pass) (change : Change) → b.table ≡ a.table → b.held ≡ a.held → b.pass.laid ≡ a.pass.laid
-    → b.pass.rows ≡ a.pass.rows → IsReadRound a change → IsReadRound b change
-round_on a b change same_table same_held same_laid same_rows r =
+    → b.pass.rows ≡ a.pass.rows → b.pass.blocks ≡ a.pass.blocks → IsReadRound a change → IsReadRound b change
+round_on a b change same_table same_held same_laid same_rows same_blocks r =
     let read = r.read in
     record {
       row = r.row;
@@ -435,6 +389,8 @@ round_on a b change same_table same_held same_laid same_rows r =
       read = record {
         layout = read.layout;
         laid = same_laid ∙ read.laid;
+        block = let lt = read.block in let kept = same_blocks in omega arith;
+        place = read.place;
         in_slot = subst (λ (l : List ReadRow). IsReadIn l (slots_of read.layout) (slot_at read.layout r.row.index) r.row) (sym same_rows) read.in_slot;
       };
       reach = subst (λ (t : TableId). AreInReach t (slots_of read.layout)) (sym same_table) r.reach;
@@ -457,14 +413,14 @@ writes_row before after e under span change same d over chosen round =
     record {
       pending = d.writes ∙ is;
       chosen = same ∙ chosen;
-      round = round_on before.seat after.seat change d.numbered.table d.numbered.held k.0 k.1 round;
+      round = round_on before.seat after.seat change d.numbered.table d.numbered.held k.0 k.1 d.blocks round;
     }
 
 -- a load of a row was one step of the seat, after which its pass has that row as well
-pub row_loaded : (s u : SeatState Pass) (index found : ℕ) → IsClientCall s (3 + index) u
+pub row_loaded : (s u : SeatState Pass) (index found : ℕ) → index < 128 * s.pass.blocks → IsClientCall s (3 + index) u
     → IsMade HasHistory Allowed no_note s.number s.held s.pass (loads (3 + index)) found u.pass
     → IsClientStep s (3 + index) (after_row index found s.pass) u
-row_loaded s u index found call made =
+row_loaded s u index found slot call made =
     let m = made.3 in let here = made.5.0 in
     let same : here.pass ≡ s.pass = some-injective here.pass s.pass (sym here.own ∙ m.own) in
     record {
@@ -473,6 +429,7 @@ row_loaded s u index found call made =
       held = call.held;
       pools = call.pools;
       further = call.further;
-      pass = row_tells _ _ _ made.1 here.history here.pass u.pass index made.5.1 ∙ (λ i. after_row index (made.4 i) (same i));
+      pass = row_tells _ _ _ made.1 here.history here.pass u.pass index (subst (λ (x : Pass). index < 128 * x.blocks) (sym same) slot) made.5.1
+          ∙ (λ i. after_row index (made.4 i) (same i));
       trace = call.trace;
     }

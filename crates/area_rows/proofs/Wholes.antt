@@ -1,6 +1,7 @@
 -- A call in one piece: its parts make the whole, whether its arguments decide it or the rows do.
-use Rattle.std.proofs.Common.{◌≡◌, ℕ, ◌+◌, List, [], ◌∷◌, ◌++◌, sym, refl, ap, ◌∙◌, subst, arith, inl}
+use Rattle.std.proofs.Common.{◌≡◌, ℕ, ◌+◌, List, [], ◌∷◌, ◌++◌, length, sym, refl, ap, ◌∙◌, subst, arith, inl}
 use Rattle.std.specs.Prelude.{All, Option, Some, None, MatchOption}
+use Rattle.std.specs.List.{splice}
 use mathlib.Core.Option.{some}
 use lib.ListN.{get_elem?}
 use Rattle.page_types.specs.declared.calls.Call.{Call}
@@ -18,16 +19,22 @@ use Rattle.area_guard.specs.declared.guard.Pass.{Pass}
 use Rattle.area_guard.specs.declared.guard.Pending.{Pending}
 use Rattle.row_plans.specs.RowLists.{areas_from}
 use Rattle.space_model.specs.Areas.{kind_at}
-use Rattle.row_plans.specs.Plans.{PlanShows, spliced, IsPlan}
+use Rattle.row_plans.specs.declared.planning.Cut.{Cut}
+use Rattle.row_plans.specs.Plans.{PlanShows, spliced, IsPlan, LeavesRows}
 use Rattle.page_types.specs.Classes.{IsFault}
 use Rattle.area_guard.specs.Rows.{rows_in}
 use Rattle.area_guard.specs.Reads.{everything, known_rows, KnowsRows, StillStands}
-use Rattle.area_guard.specs.History.{StartsWith, Runs, RowsStandFor, IsAtRest, HoldsFor, rest_of}
+use Rattle.area_guard.specs.History.{HasBlocks, StartsWith, Runs, RowsStandFor, IsAtRest, HoldsFor, rest_of}
 use Rattle.area_guard.specs.Writes.{everything_pages}
 use Rattle.area_rows.specs.Callers.{CallerView, IsMoment, MayNumber, IsKnown, HasPlanned, IsReading, IsNumbered, IsDrawn, IsWritten}
 use Rattle.area_rows.specs.Called.{IsLastStep, IsCalled}
 use Rattle.area_rows.proofs.Moments.{stands, nobody_plans, rows_are}
-use Rattle.area_rows.proofs.KnownRows.{known_now}
+use Rattle.area_guard.proofs.Slots.{layout_long}
+use Rattle.row_blocks.specs.declared.positions.Position.{Position}
+use Rattle.row_blocks.proofs.RowSplices.{splice_none}
+use Rattle.plan_words.specs.Places.{number_at}
+use Rattle.plan_words.proofs.Knowing.{known_at}
+use Rattle.plan_words.proofs.Seeing.{known_blocks}
 
 -- what is held fits a call where its arguments don't decide it, and where they do
 pub match_none : (o : Option Reply) (P : Type 0) (Q : Reply → Type 0) → o ≡ None → P → MatchOption o P Q
@@ -68,8 +75,15 @@ rows_now c held rest knows start history state words m =
     let stand : RowsStandFor state m.passes words =
     m.running.rows (nobody_plans m.grants words state m.passes c.seat.number m.pass m.exclusive m.backed m.own
     (m.read.pending ∙ rest) (everything, granted, everything_pages)) in
-    known_now words stand.0 c.seat.pass stand.2 (λ layout e. part.laid layout (m.read.laid layout e)) knows
-    (λ slot word has. (stands (Some everything) words m.pass.rows slot word stood (m.read.rows slot word has)).word refl)
+    let w = knows.words in
+    let still = ap length (part.laid w.layout (m.read.laid w.layout w.laid)) in
+    let all = layout_long words stand.2.room in
+    let long = w.long in
+    let has : HasBlocks words c.seat.pass.blocks = (omega arith, stand.2.room) in
+    let at = known_at words c.seat.pass has w
+    (λ slot word read. (stands (Some everything) words m.pass.rows slot word stood (m.read.rows slot word read)).word refl)
+    (λ layout e. part.laid layout (m.read.laid layout e)) in
+    sym (known_blocks words stand.0 c.seat.pass has stand.2 w at).1
 
 -- and may be numbered with what its plan says
 pub planned_right : (c : CallerView) (call : Call) (reply : Reply) (count : ℕ) → HasPlanned call reply count c
@@ -82,13 +96,14 @@ planned_right c call reply count planned held rest undecided no_fault start hist
         fits = match_none (plain_reply call) (FitsByState state call Whole) (λ (_ : Reply). Whole ≡ Nothing) undecided (fits_whole state call no_fault);
         answers = p.answers;
       },
-      subst (λ (l : List ℕ). PlanShows (spliced (λ (at : ℕ). at) l c.cut c.more) (kind_at p.left)) rows p.shows,
+      subst (λ (l : List ℕ). PlanShows (spliced (λ (at : Position). number_at c.seat.pass at) l c.cut c.more) (kind_at p.left)) rows p.shows,
     )
 
 -- the plan of a call on the rows that are known is its plan at every moment until they change
 pub plan_shows : (c : CallerView) (call : Call) (reply : Reply) (count : ℕ) → c.seat.held ≡ Some everything → IsAtRest c.seat.pass
-    → IsKnown c → IsPlan call reply count (spliced (λ (at : ℕ). at) (known_rows c.seat.pass) c.cut c.more) (areas_from (known_rows c.seat.pass))
-    → HasPlanned call reply count c
+    → IsKnown c
+    → IsPlan call reply count (spliced (λ (at : Position). number_at c.seat.pass at) (known_rows c.seat.pass) c.cut c.more)
+    (areas_from (known_rows c.seat.pass)) → HasPlanned call reply count c
 plan_shows c call reply count held rest known plan = record {
   shows = λ start history state words m.
       let rows = known_rows c.seat.pass in
@@ -96,9 +111,18 @@ plan_shows c call reply count held rest known plan = record {
       let now = rows_now c held rest known.rows start history state words m in
       let are = rows_are m.grants start history state words m.passes c.seat.number m.pass rows m.running m.backed m.exclusive
       m.own granted (m.read.pending ∙ rest) now in
-      subst (λ (z : List ℕ × List Area). IsPlan call reply count (spliced (λ (at : ℕ). at) z.0 c.cut c.more) z.1) (λ i. (sym now i, are.1 i)) plan;
+      subst (λ (z : List ℕ × List Area). IsPlan call reply count (spliced (λ (at : Position). number_at c.seat.pass at) z.0 c.cut c.more) z.1)
+      (λ i. (sym now i, are.1 i)) plan;
   known = known;
 }
+
+-- where no row goes and none comes the rows are as they were
+pub rows_left : (pass : Pass) (cut : Cut Position) (more : List ℕ) → LeavesRows cut more
+    → spliced (λ (at : Position). number_at pass at) (known_rows pass) cut more ≡ known_rows pass
+rows_left pass cut more leaves =
+    let none = leaves.0 in
+    let end : number_at pass cut.at + cut.gone ≡ number_at pass cut.at = omega arith in
+    (λ i. splice (known_rows pass) (number_at pass cut.at) (end i) (leaves.1 i)) ∙ splice_none (known_rows pass) (number_at pass cut.at)
 
 -- what the lock does before leaves the call as it is
 pub called_from : (a b c : CallerView) (e : Entry) (line : ℕ) (call : Call) → a.seat.held ≡ None → IsLockCall a.seat b.seat

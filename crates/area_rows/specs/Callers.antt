@@ -1,14 +1,14 @@
 -- What contracts see of a caller and of a space, and what each call says. What a caller's range has shown of the
 -- history is stated as what is so at every moment at which the caller holds that range and has read those rows; so it
 -- lasts while the caller keeps both. The definitions are this project's own.
-use Rattle.std.specs.Prelude.{ℕ, ◌≡◌, ◌≢◌, ◌<◌, ◌≤◌, ◌+◌, ◌-◌, Option, Some, None, List, [], ◌∷◌, ◌++◌, ◌*◌, length, min, replicate, slice_index, ◌⊎◌}
+use Rattle.std.specs.Prelude.{ℕ, ◌≡◌, ◌≢◌, ◌<◌, ◌≤◌, ◌+◌, ◌-◌, ◌/◌, ◌%◌, Option, Some, None, List, [], ◌∷◌, ◌++◌, length, min, slice_index, ◌⊎◌}
 use mathlib.Core.Option.{some}
 use lib.ListN.{get_elem?}
 use Rattle.page_types.specs.declared.TheConstants.{LIMIT, ROWS, SPARE}
 use Rattle.space_model.specs.declared.areas.Area.{Area}
 use Rattle.space_model.specs.declared.entries.Entry.{Entry}
 use Rattle.space_model.specs.declared.entries.Under.{Under}
-use Rattle.space_model.specs.Areas.{IsAreaList, HasNamedKinds, kind_at, row_count}
+use Rattle.space_model.specs.Areas.{IsAreaList, HasNamedKinds, kind_at}
 use Rattle.space_model.specs.History.{HasNamedCalls}
 use Rattle.atomic_table.specs.Seated.{TableId}
 use Rattle.lock_core.specs.Grants.{Grants, IsExclusive}
@@ -31,17 +31,20 @@ use Rattle.area_rows.specs.declared.row.Row.{Row}
 use Rattle.area_rows.specs.declared.space.SpaceFault.{SpaceFault}
 use Rattle.area_rows.specs.declared.space.SpaceFault.TheVariants.{Callers, Rows, Memory}
 use Rattle.row_plans.specs.RowWords.{row_start, row_kind}
-use Rattle.row_plans.specs.RowLists.{rows_from}
 use Rattle.area_guard.specs.Rows.{layout_in, slots_of, slot_at, slots_in, AreNeighbours, IsOneOf, IsFirstOf, IsLastOf, IsNext, IsRowOf, rows_in}
-use Rattle.area_guard.specs.Rows.{room_of, IsInReach}
+use Rattle.area_guard.specs.Rows.{blocks_by, room_of, IsInReach}
 use Rattle.row_plans.specs.declared.planning.Cut.{Cut}
 use Rattle.row_plans.specs.Plans.{IsRowList, spliced, IsPlan}
 use Rattle.area_guard.specs.Reads.{everything, IsHeldPage, HasRead, known_rows, KnowsRows}
+use Rattle.row_blocks.specs.declared.positions.Position.{Position}
+use Rattle.plan_words.specs.Places.{number_at, splice_at}
+pub use Rattle.plan_words.specs.Writing.{KeepsRead, IsWritten}
+pub use Rattle.plan_words.specs.Reading.{IsReading, keeps_on, reading_on}
 use Rattle.area_guard.specs.Changes.{alone}
 use Rattle.area_rows.specs.OneStore.{IsOneStore, IsRound}
 use Rattle.area_guard.specs.History.{Runs, StartsWith, entries_of, HasNamedReplies, whole_count, planned_calls}
 use Rattle.area_guard.specs.History.{IsRunningSpace, AreBacked, HasPages, HoldsFor, IsAtRest, IsRight, Leaves, FitsIn, pending_of}
-use Rattle.area_guard.specs.History.{after_look, after_seen, rows_after}
+use Rattle.area_guard.specs.History.{after_look, rows_after}
 
 -- a caller: its seat in the lock's table, whose pass is what it knows of the space; how many numbers it may still draw;
 -- how many rows there were at its last plan, which of them go by it, and which come in their place; and the row that
@@ -50,7 +53,7 @@ pub record CallerView : Type 0 where
   pub seat : SeatState Pass
   pub left : ℕ
   pub count : ℕ
-  pub cut : Cut ℕ
+  pub cut : Cut Position
   pub more : List ℕ
   pub change : Option Change
 
@@ -61,23 +64,24 @@ pub record HasSameRows (before after : CallerView) : Type 0 where
   pub more : after.more ≡ before.more
   pub change : after.change ≡ before.change
 
--- a splice of the rows that a seat knows
-abbrev pub splice_of : SeatState Pass → Cut ℕ → List ℕ → Splice
-splice_of seat cut more = record { old = known_rows seat.pass; first = cut.at; end = cut.at + cut.gone; more = more }
+-- a splice of the rows that a seat knows: so many go from a position on
+abbrev pub splice_of : SeatState Pass → Cut Position → List ℕ → Splice
+splice_of seat cut more = splice_at seat.pass cut.at cut.gone more
 
 -- a caller's last plan under everything
 abbrev pub plan_of : CallerView → Splice
 plan_of c = splice_of c.seat c.cut c.more
 
--- a caller knows all rows, which are a list of rows, and how many there are, for which the table has room, and its plan
--- is a splice of them
+-- a caller knows all rows, which are a list of rows, and how many there are, and its plan is a splice of them: it
+-- begins at a row, brings at most SPARE rows more than go, and leaves one where the first one goes
 pub record IsKnown (c : CallerView) : Type 0 where
   pub rows : KnowsRows c.seat.pass
   pub list : IsRowList (known_rows c.seat.pass)
   pub counted : c.count ≡ length (known_rows c.seat.pass)
-  pub fits : c.count ≤ room_of c.seat.table
-  pub at : c.cut.at < c.count
-  pub there : c.cut.at + c.cut.gone ≤ c.count
+  pub at : number_at c.seat.pass c.cut.at < length (known_rows c.seat.pass)
+  pub there : number_at c.seat.pass c.cut.at + c.cut.gone ≤ length (known_rows c.seat.pass)
+  pub grows : length c.more ≤ c.cut.gone + SPARE
+  pub stays : 0 < number_at c.seat.pass c.cut.at + c.cut.gone + length c.more → 0 < number_at c.seat.pass c.cut.at + length c.more
 
 -- a closed space: the areas that are left and the whole history
 pub record ClosedView : Type 0 where
@@ -95,13 +99,6 @@ IsHeldBelow held limit = (h : Held) → held ≡ Some h → h.range.hi ≤ limit
 -- a held range has a page, and pages alone
 abbrev pub IsHeldPages : Option Held → Type 0
 IsHeldPages held = (h : Held) → held ≡ Some h → HasPages h
-
--- a pass still has what another has read: the layout, the rows and the sequence word; and it has as much to write
-pub record KeepsRead (old new : Pass) : Type 0 where
-  pub laid : (layout : List ℕ) → old.laid ≡ Some layout → new.laid ≡ Some layout
-  pub rows : (index word : ℕ) → HasRead old.rows index word → HasRead new.rows index word
-  pub sequence : (n : ℕ) → old.sequence ≡ Some n → new.sequence ≡ Some n
-  pub pending : new.pending ≡ old.pending
 
 -- a moment of the running space, at which its history is this one and leaves this state: the caller of this seat
 -- holds its range there and has read what it has read, or more, and no two held ranges conflict
@@ -138,7 +135,7 @@ MayNumber c call reply under = Shows c.seat (λ _ state. (left : List Area)
 -- reply and leaves so many rows, and they are those of the moment with the plan's splice; the caller knows all rows,
 -- and how many there are
 pub record HasPlanned (call : Call) (reply : Reply) (count : ℕ) (c : CallerView) : Type 0 where
-  pub shows : Shows c.seat (λ words state. IsPlan call reply count (spliced (λ at. at) (rows_in words) c.cut c.more) state)
+  pub shows : Shows c.seat (λ words state. IsPlan call reply count (spliced (λ (at : Position). number_at c.seat.pass at) (rows_in words) c.cut c.more) state)
   pub known : IsKnown c
 
 -- a caller has its plan to write: it holds everything, has numbered the call, knows the rows that stand there, and the
@@ -147,8 +144,8 @@ pub record HasToWrite (c : CallerView) : Type 0 where
   pub held : c.seat.held ≡ Some everything
   pub pending : c.seat.pass.pending ≡ Planned (plan_of c)
   pub known : IsKnown c
-  pub few : length (rows_after (plan_of c)) ≤ ROWS
-  pub fits : length (rows_after (plan_of c)) ≤ room_of c.seat.table
+  pub some : 0 < length (rows_after (plan_of c))
+  pub fits : length (rows_after (plan_of c)) ≤ room_of c.seat.pass.blocks
 
 -- where the row in a slot ends, by what was read: where the one in the next slot starts, or at LIMIT
 abbrev pub IsRowEnd : List ReadRow → List ℕ → ℕ → ℕ → Type 0
@@ -164,10 +161,16 @@ pub record IsReadIn (rows : List ReadRow) (slots : List ℕ) (slot : ℕ) (row :
   pub kind : row.kind ≡ row_kind word
   pub hi : IsRowEnd rows slots slot row.hi
 
+-- the row of that number stands at a place of a block in use, by a layout
+abbrev pub IsPlaceOf : List ℕ → ℕ → Type 0
+IsPlaceOf layout index = (index / 128 < slice_index layout 1) × (index % 128 ≤ slice_index layout (2 + index / 128) % 128)
+
 -- they are as the caller has read them under its range, in the row's slot by the layout that it has read
 pub record IsAsRead (pass : Pass) (row : Row) : Type 0 where
   pub layout : List ℕ
   pub laid : pass.laid ≡ Some layout
+  pub block : row.index / 128 < pass.blocks
+  pub place : IsPlaceOf layout row.index
   pub in_slot : IsReadIn pass.rows (slots_of layout) (slot_at layout row.index) row
 
 -- a page past each end of the row is held as well, by a writer, or there is none
@@ -211,7 +214,7 @@ IsKindIn rows (Some slot) kind = (word : ℕ) × HasRead rows slot word × (kind
 
 -- all of these slots are in reach of a table
 abbrev pub AreInReach : TableId → List ℕ → Type 0
-AreInReach table slots = (slot : ℕ) → IsOneOf slots slot → IsInReach (room_of table) slot
+AreInReach table slots = (slot : ℕ) → IsOneOf slots slot → IsInReach (blocks_by table) slot
 
 -- a caller holds an area and a page on each side as a writer, has read the area's row and those on both sides, and the
 -- change is one store on one of them
@@ -254,11 +257,11 @@ pub record IsStoredRow (before : SeatState Pass) (index : ℕ) (after : SeatStat
   pub further : after.further ≡ before.further
   pub trace : after.trace ≡ client_trace before.trace (3 + index)
 
--- a new pass over these areas, in a table with so much room for rows, of a caller that may have so many entries
+-- a new pass over these areas, in a table with room for so many blocks, of a caller that may have so many entries
 abbrev pub new_pass : List Area → ℕ → ℕ → Pass
-new_pass start room most = record {
+new_pass start blocks most = record {
   start = start;
-  room = room;
+  blocks = blocks;
   most = most;
   seen = [];
   mine = [];
@@ -270,34 +273,15 @@ new_pass start room most = record {
   looks = [];
 }
 
--- how many entries each of sixteen callers may have, 0 where there is no such caller
-abbrev pub quotas : List ℕ → List ℕ
-quotas calls = calls ++ replicate (16 - length calls) 0
-
--- the first client words of a space that starts with these areas: no entry, none under everything, the row count, the
--- rows, and room for more
-abbrev pub opening_rows : List Area → ℕ → List ℕ
-opening_rows start room = 0 ∷ 0 ∷ row_count start ∷ (rows_from 0 start ++ replicate (room - row_count start) 0)
-
--- all of them: behind the room for rows they say how many entries each caller may have. No step reads these or changes
--- them; they tell the callers' first passes
-abbrev pub opening_words : List Area → List ℕ → ℕ → List ℕ
-opening_words start calls room = opening_rows start room ++ quotas calls
-
--- which room for rows is enough: for as many as there may be, or for those of the start and SPARE for each of so many
--- calls
-abbrev pub IsEnough : ℕ → ℕ → ℕ → Type 0
-IsEnough room rows calls = room < ROWS → rows + SPARE * calls ≤ room
-
 -- the callers of a new space with so many lists, in order of their numbers, each with as many numbers to draw as was
 -- asked
 abbrev pub AreNewCallersIn : ℕ → TableId → List Area → List ℕ → List CallerView → Type 0
 AreNewCallersIn lists table start calls callers = (k : ℕ) (c : CallerView) → get_elem? callers k ≡ some c
     → c ≡ record {
-      seat = new_seat_in lists table (λ n. new_pass start (room_of table) (slice_index calls n)) k;
+      seat = new_seat_in lists table (λ n. new_pass start (blocks_by table) (slice_index calls n)) k;
       left = slice_index calls k;
       count = 0;
-      cut = record { at = 0; gone = 0 };
+      cut = record { at = record { block = 0; place = 0 }; gone = 0 };
       more = [];
       change = None;
     }
@@ -326,52 +310,16 @@ pub record IsClientStep (before : SeatState Pass) (place : ℕ) (left_pass : Pas
   pub pass : after.pass ≡ left_pass
   pub trace : after.trace ≡ client_trace before.trace place
 
--- steps that read words: the seat holds what it held, has seen and numbered what it had, and keeps what it had read and
--- its pools
-pub record IsReading (before after : SeatState Pass) : Type 0 where
-  pub table : after.table ≡ before.table
-  pub number : after.number ≡ before.number
-  pub held : after.held ≡ before.held
-  pub pools : after.pools ≡ before.pools
-  pub further : after.further ≡ before.further
-  pub start : after.pass.start ≡ before.pass.start
-  pub seen : after.pass.seen ≡ before.pass.seen
-  pub mine : after.pass.mine ≡ before.pass.mine
-  pub looks : after.pass.looks ≡ before.pass.looks
-  pub taken : before.trace.taken ≤ after.trace.taken
-  pub asked : after.trace.asked ≡ before.trace.asked
-  pub read : KeepsRead before.pass after.pass
-
--- a seat of this table may load all rows, of which there are so many: it holds everything, has nothing to write, and
--- knows them, and they are a list of rows
-pub record MayLoadAll (table : TableId) (count : ℕ) (seat : SeatState Pass) : Type 0 where
+-- a seat of this table may plan a call on all rows, of which there are so many: it holds everything, has nothing to
+-- write, and knows them, and they are a list of rows for which there is room
+pub record MayPlan (table : TableId) (count : ℕ) (seat : SeatState Pass) : Type 0 where
   pub table_is : seat.table ≡ table
   pub held : seat.held ≡ Some everything
   pub rest : IsAtRest seat.pass
   pub knows : KnowsRows seat.pass
   pub counted : count ≡ length (known_rows seat.pass)
-  pub fits : count ≤ room_of seat.table
+  pub fits : count ≤ room_of (blocks_by table)
   pub list : IsRowList (known_rows seat.pass)
-
--- loads by a seat that knows all rows: they read, and it knows the same rows, and the same of the table's room and of
--- how many entries it may have
-pub record HasLoaded (before after : SeatState Pass) : Type 0 where
-  pub reading : IsReading before after
-  pub room : after.pass.room ≡ before.pass.room
-  pub most : after.pass.most ≡ before.pass.most
-  pub same : known_rows after.pass ≡ known_rows before.pass
-  pub knows : KnowsRows before.pass → KnowsRows after.pass
-
--- a load of the row count: one step, with which the caller notes the layout and all rows of the moment, each in its
--- slot. The layout is the one that it has read before. Where it holds everything the rows are a list of rows
-pub record IsCounted (before : SeatState Pass) (found : ℕ) (after : SeatState Pass) : Type 0 where
-  pub words : List ℕ
-  pub all : length (rows_in words) ≡ found
-  pub slots : length (slots_in words) ≡ found
-  pub step : IsClientStep before 2 (after_seen words before.pass) after
-  pub again : (layout : List ℕ) → before.pass.laid ≡ Some layout → layout_in words ≡ layout
-  pub known : known_rows after.pass ≡ rows_in words
-  pub list : before.held ≡ Some everything → IsRowList (rows_in words)
 
 -- a look at the number word: at a moment of the running space the caller sees the history so far, and it keeps what
 -- it has read; so what its range has shown is so of the state that this history leaves. Its pass keeps how many entries
@@ -422,32 +370,12 @@ pub record IsDrawn (before : SeatState Pass) (e : Entry) (pending : Pending) (af
   pub looks : after.pass.looks ≡ before.pass.looks
   pub pools : after.pools ≡ before.pools
   pub further : after.further ≡ before.further
-  pub room : after.pass.room ≡ before.pass.room
+  pub blocks : after.pass.blocks ≡ before.pass.blocks
   pub most : after.pass.most ≡ before.pass.most
-  pub fits : FitsIn pending after.pass.room
+  pub fits : FitsIn pending after.pass.blocks
   pub writes : after.pass.pending ≡ pending
   pub keeps : KeepsRows pending before.pass after.pass
   pub trace : after.trace ≡ client_trace before.trace 0
-
--- all that a call under everything left is written, and the last step on a client word raised the sequence word, in
--- this call; what the caller holds, has seen and has numbered is as before, and its pools are
-pub record IsWritten (before after : SeatState Pass) : Type 0 where
-  pub rest : IsAtRest after.pass
-  pub step : ℕ
-  pub client : after.trace.client ≡ Some (record { place = 1; step = step })
-  pub since : before.trace.taken ≤ step
-  pub until : step < after.trace.taken
-  pub asked : after.trace.asked ≡ before.trace.asked
-  pub start : after.pass.start ≡ before.pass.start
-  pub seen : after.pass.seen ≡ before.pass.seen
-  pub mine : after.pass.mine ≡ before.pass.mine
-  pub drew : after.pass.drew ≡ before.pass.drew
-  pub looks : after.pass.looks ≡ before.pass.looks
-  pub table : after.table ≡ before.table
-  pub number : after.number ≡ before.number
-  pub held : after.held ≡ before.held
-  pub pools : after.pools ≡ before.pools
-  pub further : after.further ≡ before.further
 
 -- the whole history of callers that have stopped: it runs from what each began with to the areas that are left, which
 -- are an area list; calls, replies and areas have named bits alone; each caller's entries stand in it in order, no

@@ -8,7 +8,7 @@ use Rattle.space_model.specs.declared.entries.Entry.{Entry}
 use Rattle.range_rw.specs.Contract.{SeatState}
 use Rattle.area_guard.specs.declared.guard.Pass.{Pass}
 use Rattle.area_rows.specs.declared.close.Kept.{Kept}
-use Rattle.area_guard.specs.Rows.{room_of}
+use Rattle.area_guard.specs.Rows.{blocks_by, room_of}
 use Rattle.area_guard.specs.History.{entry_count, IsAtRest}
 use Rattle.area_rows.specs.Callers.{CallerView, IsHeldPages}
 
@@ -47,10 +47,10 @@ pub record IsPair (s : SeatState Pass) (k : Kept) (c : CallerView) : Type 0 wher
   pub mine : k.mine.items ≡ s.pass.mine
   pub room : vec_len k.mine + k.left ≤ vec_capacity k.mine
   pub few : vec_len k.mine + k.left ≤ s.pass.most
-  pub plan : s.pass.room + SPARE ≤ vec_capacity k.plan
+  pub plan : room_of s.pass.blocks + SPARE ≤ vec_capacity k.plan
   pub pages : IsHeldPages s.held
   pub rest : s.held ≡ None → IsAtRest s.pass
-  pub rows : s.pass.room ≡ room_of s.table
+  pub blocks : s.pass.blocks ≡ blocks_by s.table
   pub most : s.pass.most < 2 ^ 32
 
 -- the same of lists of them

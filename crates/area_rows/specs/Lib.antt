@@ -1,11 +1,11 @@
 pub mod Halving
+pub mod Layouts
+pub mod Opening
 pub mod OneStore
 pub mod Callers
-pub mod Loading
 pub mod AreaPlans
 pub mod Called
 pub mod Closing
-pub mod Writing
 pub use Rattle.area_guard.specs.Changes
 pub use Rattle.area_guard.specs.History
 pub use Rattle.area_guard.specs.Reads
@@ -25,3 +25,6 @@ pub use Rattle.space_model.specs.Areas
 pub use Rattle.space_model.specs.Held
 pub use Rattle.space_model.specs.Effect
 pub use Rattle.space_model.specs.Starts
+pub use Rattle.plan_words.specs.Reading
+pub use Rattle.plan_words.specs.Places
+pub use Rattle.row_blocks.specs.Blocks

@@ -3,24 +3,22 @@
 //! changes, the whole area changes, its first pages go to the area before it, or its last pages to the area behind it.
 //! This is the speculative mprotect of Kogan, Dice and Issa, EuroSys 2020; a reader may rely on `IsAreaPlan`
 //! (`specs/AreaPlans.antt`).
-ghost use Rattle.std.specs.Prelude.{ℕ, ◌≡◌, ◌<◌, ◌≤◌, IsSome, None, Some};
+ghost use Rattle.std.specs.Prelude.{◌≡◌, ◌<◌, ◌≤◌, None, Some};
 ghost use Rattle.page_types.specs.declared.TheConstants.{LIMIT};
 ghost use Rattle.page_types.specs.declared.calls.Call.TheVariants.{Protect};
 ghost use Rattle.page_types.specs.Named.{IsNamedCall, IsNamedKind};
 ghost use Rattle.page_types.specs.Pages.{page_of, end_page};
 ghost use Rattle.page_types.specs.PlainReply.{plain_reply};
-ghost use Rattle.area_guard.specs.Rows.{room_of, IsInReach};
 ghost use Rattle.area_guard.specs.Changes.{alone};
 ghost use Rattle.area_rows.specs.OneStore.{IsRound};
 ghost use Rattle.area_guard.specs.History.{IsAtRest};
-ghost use Rattle.area_rows.specs.Callers.{IsAsRead, IsKindIn, IsReading, RowIs, Shows};
+ghost use Rattle.area_rows.specs.Callers.{IsAsRead, IsReading, RowIs, Shows};
 ghost use Rattle.area_rows.specs.AreaPlans.{IsChosen, IsAreaPlan, planned_change};
 
 use crate::row::Row;
 use crate::space::{Caller, Space};
 use area_guard::Change;
 use page_types::{Kind, Prot, Reply, Span, Why};
-use row_plans::read_row;
 
 /// What a change of protection over the area that its caller holds comes to. Each that is numbered over the area has
 /// the call's reply.
@@ -50,7 +48,7 @@ fn change_in(plan: AreaPlan) -> Option<Change>
 
 /// Whether the area is sealed, and else which of the four ways it is, by the kinds of the page before the row and of
 /// the page behind it, None where there is none. `change` has the pages of the call, which lie in the row, and their
-/// kinds, and names the slot of the row as if this changed whole; `next` is the one behind it, where there is one.
+/// kinds, and names the slot of the row as if this changed whole; `next` is the one behind it.
 fn choose(
     row: &Row,
     next: u32,
@@ -97,23 +95,6 @@ fn choose(
 }
 
 impl Space {
-    /// The kind of the row in a slot, or None where there is no slot.
-    fn kind_in(&self, caller: &mut Caller, slot: Option<u32>) -> Option<Kind>
-        requires table { caller.old.seat.table ≡ self.now.table }
-        requires held { IsSome caller.old.seat.held }
-        requires rest { IsAtRest caller.old.seat.pass }
-        requires reach { (place : ℕ) → slot ≡ Some place → IsInReach (room_of caller.old.seat.table) place }
-        ensures read { IsKindIn caller.new.seat.pass.rows slot result }
-        ensures reading { IsReading caller.old.seat caller.new.seat }
-        ensures left { caller.new.left ≡ caller.old.left }
-    {
-        let Some(place) = slot else {
-            return None;
-        };
-        let (_, kind) = read_row(self.load_row(caller, place));
-        kind
-    }
-
     /// Plans a Protect of pages that lie in one area: whether the area is sealed, which refuses it, or it leaves the
     /// number of rows as it is, its reply where either is so, and which row it changes, which goes into the caller's
     /// own room. The caller is of this space, has read the area's row under the range that it holds, which is the area
@@ -147,14 +128,12 @@ impl Space {
         ensures left { caller.new.left ≡ caller.old.left }
     {
         caller.holds_pages();
-        let count = self.load_count(caller) as u32;
-        let previous = caller.previous_slot(row.index);
-        let next = caller.next_slot(row.index, count);
-        let before = self.kind_in(caller, previous);
-        let behind = self.kind_in(caller, next);
+        let beside = self.beside(caller, row.index);
+        let before = self.kind_in(caller, beside.before);
+        let behind = self.kind_in(caller, beside.behind);
         let new = Kind { prot, ..kind };
         let change = Change {
-            index: row.index,
+            index: beside.own,
             start: row.lo,
             kind: new,
             span,
@@ -162,7 +141,7 @@ impl Space {
             old: kind,
             new,
         };
-        let plan = choose(row, next.unwrap_or(0), change, before, behind);
+        let plan = choose(row, beside.behind.unwrap_or(0), change, before, behind);
         caller.change = change_in(plan);
         plan
     }

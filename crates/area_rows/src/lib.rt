@@ -1,14 +1,17 @@
-//! The rows of a running address space in atomic words, under the guard of the range lock, and its one history.
-//! Callers on many threads read rows, draw numbers and change rows, each under the range that it holds; taken by
-//! number, their calls are a legal history of the one-thread address space of `space_model`. A reader may rely on the
-//! rule of `area_guard`, which holds between any two steps, and on what `close` gives: that history, whole.
+//! The rows of a running address space in atomic words, in blocks under the guard of the range lock, and its one
+//! history. Callers on many threads read rows, draw numbers and change rows, each under the range that it holds;
+//! taken by number, their calls are a legal history of the one-thread address space of `space_model`. A reader may
+//! rely on the rule of `area_guard`, which holds between any two steps, and on what `close` gives: that history,
+//! whole.
 #![tactic(auto)]
 
 mod answer;
 mod area;
+mod beside;
 mod change;
 mod close;
 mod collect;
+mod first_words;
 mod holding;
 mod noted;
 mod opening;

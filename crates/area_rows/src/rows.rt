@@ -1,13 +1,16 @@
-//! The row of a page, looked for by halving, under a range that holds the page. Each row is read by one atomic step; a
-//! reader may rely on what they show of the history's state while the range is held. Others may move rows meanwhile,
-//! but none over a held page: so each row stays on the side of the page on which it was read (`specs/Halving.antt`).
-ghost use Rattle.std.specs.Prelude.{◌≡◌, ◌<◌, ◌≤◌, ◌+◌, ◌^◌, Some};
-ghost use Rattle.page_types.specs.declared.TheConstants.{LIMIT, ROWS, SEARCH};
+//! The row of a page, looked for by halving, under a range that holds the page: over the heads of the blocks in use,
+//! and then over the body of the block found. Each word is read by one atomic step, and none that was read is read
+//! again; a reader may rely on what they show of the history's state while the range is held. Others may move rows
+//! meanwhile, but none over a held page: so each row stays on the side of the page on which it was read
+//! (`specs/Halving.antt`).
+ghost use Rattle.std.specs.Prelude.{ℕ, ◌≡◌, ◌<◌, ◌≤◌, ◌+◌, ◌*◌, ◌/◌, ◌%◌, ◌^◌, IsSome};
+ghost use Rattle.page_types.specs.declared.TheConstants.{LIMIT, SEARCH};
 ghost use Rattle.page_types.specs.Named.{IsNamedOption};
 ghost use Rattle.area_guard.specs.History.{IsAtRest};
-ghost use Rattle.area_rows.specs.Halving.{own_slot, IsAmong};
-ghost use Rattle.area_guard.specs.Rows.{room_of, IsOneOf, IsNextOf, IsPreviousOf};
-ghost use Rattle.area_guard.specs.Reads.{counts_of, slots_by, IsHeldPage};
+ghost use Rattle.area_guard.specs.Rows.{blocks_by, IsOneOf};
+ghost use Rattle.row_plans.specs.RowWords.{row_start};
+ghost use Rattle.area_guard.specs.Reads.{slots_by, HasRead, IsHeldPage};
+ghost use Rattle.area_rows.specs.Halving.{slots_on, IsAmong};
 ghost use Rattle.area_rows.specs.Callers.{HasSameRows, IsHeldPages, IsReading, IsAsRead, RowIs, Shows};
 
 use crate::row::Row;
@@ -17,132 +20,126 @@ use row_plans::read_row;
 use std::sync::ledger::Ledger;
 use word_rows::Steps;
 
-/// Where a search goes on: at its middle row where that one starts at or before the page, and otherwise at its base.
-/// The top bit of a difference says which, so that the processor need not guess: of a comparison the compiler makes a
-/// jump.
-#[inline(always)]
-fn next_base(base: u32, half: u32, start: u64, page: u64) -> u32
-    requires room { base + half < 2 ^ 32 }
-    requires start { start < 2 ^ 63 }
-    requires page { page < 2 ^ 63 }
-    ensures upper { start ≤ page → result ≡ base + half }
-    ensures lower { page < start → result ≡ base }
-{
-    let up = ((1 << 63) + page - start) >> 63;
-    base + half * up as u32
+/// What halving comes to: a place, the word that was read of its row, unless it is the first place, and where the row
+/// behind it starts.
+#[derive(Clone, Copy)]
+struct Halved {
+    place: u32,
+    word: u64,
+    end: u64,
 }
 
-impl Caller {
-    /// The slot behind one in which a row stands, or None behind the last of so many rows, by what the caller has read.
-    pub(crate) fn next_slot(&self, slot: u32, count: u32) -> Option<u32>
-        requires counted { counts_of self.now.seat.pass.laid ≡ Some count }
-        requires there { IsOneOf (slots_by self.now.seat.pass.laid) slot }
-        ensures next { IsNextOf (slots_by self.now.seat.pass.laid) slot result }
-    {
-        let next = slot + 1;
-        if next < count { Some(next) } else { None }
-    }
+/// 1 where a row starts at or before a page, and else 0. The top bit of a difference says which, so that the processor
+/// need not guess: of a comparison the compiler makes a jump.
+#[inline(always)]
+fn starts_up_to(start: u64, page: u64) -> u64
+    requires start { start < 2 ^ 63 }
+    requires page { page < 2 ^ 63 }
+    ensures upper { start ≤ page → result ≡ 1 }
+    ensures lower { page < start → result ≡ 0 }
+{
+    ((1 << 63) + page - start) >> 63
+}
 
-    /// The slot before it, or None before the first one.
-    pub(crate) fn previous_slot(&self, slot: u32) -> Option<u32>
-        requires there { IsOneOf (slots_by self.now.seat.pass.laid) slot }
-        ensures previous { IsPreviousOf (slots_by self.now.seat.pass.laid) slot result }
-    {
-        if slot == 0 { None } else { Some(slot - 1) }
-    }
+/// One of two numbers: the first one for 0, and the second one for 1.
+#[inline(always)]
+fn pick(bit: u64, zero: u64, one: u64) -> u64
+    requires bit { bit ≤ 1 }
+    ensures zero { bit ≡ 0 → result ≡ zero }
+    ensures one { bit ≡ 1 → result ≡ one }
+{
+    zero * (1 - bit) + one * bit
 }
 
 impl Space {
-    /// The number of the row of a page, where the caller has read how many rows there are, from 1 to `ROWS`. Each step
-    /// reads the middle one of the rows that are left.
-    fn find_row<L: Ledger>(
+    /// The last of so many rows in slots one behind the other that starts at or before a page. The first one does, and
+    /// isn't read; `last` is where what is behind all of them starts. Each step reads the middle one of those that are
+    /// left.
+    fn halve<L: Ledger>(
         &self,
         caller: &mut Caller,
         page: u64,
+        from: u32,
         count: u32,
+        last: u64,
         steps: &mut Steps<L>,
-    ) -> u32
+    ) -> Halved
         requires table { caller.old.seat.table ≡ self.now.table }
         requires held { IsHeldPage caller.old.seat.held page }
         requires rest { IsAtRest caller.old.seat.pass }
         requires low { page < LIMIT }
-        requires count { counts_of caller.old.seat.pass.laid ≡ Some count }
         requires some { 0 < count }
-        requires few { count ≤ ROWS }
-        requires fits { count ≤ room_of caller.old.seat.table }
-        ensures found { IsAmong caller.new.seat.pass.rows page count own_slot result 1 }
+        requires room { from + count ≤ 128 * blocks_by caller.old.seat.table }
+        requires there { (place : ℕ) → 0 < place → place < count → IsOneOf (slots_by caller.old.seat.pass.laid) (from + place) }
+        requires limit { last ≤ LIMIT }
+        ensures found { IsAmong caller.new.seat.pass.rows page count last (slots_on from) result.place 1 result.word result.end }
+        ensures limit { result.end ≤ LIMIT }
         ensures reading { IsReading caller.old.seat caller.new.seat }
+        ensures laid { caller.new.seat.pass.laid ≡ caller.old.seat.pass.laid }
         ensures left { caller.new.left ≡ caller.old.left }
         ensures rows { HasSameRows caller.old caller.new }
-        ensures bound { caller.new.seat.trace.taken ≤ caller.old.seat.trace.taken + SEARCH }
+        ensures bound { (m : ℕ) → count ≤ 2 ^ m → caller.new.seat.trace.taken ≤ caller.old.seat.trace.taken + m }
         ensures counted { steps.new + caller.old.seat.trace.taken ≡ steps.old + caller.new.seat.trace.taken }
     {
         let mut base = 0;
         let mut size = count;
+        let mut word = 0;
+        let mut end = last;
         'halve: while size > 1 {
             let half = size / 2;
             steps.tick();
-            let word = self.load_row(caller, base + half);
-            let (start, _) = read_row(word);
-            base = next_base(base, half, start, page);
+            let read = self.load_row(caller, from + (base + half));
+            let (start, _) = read_row(read);
+            let up = starts_up_to(start, page);
+            base += half * up as u32;
+            word = pick(up, word, read);
+            end = pick(up, start, end);
             size -= half;
         }
-        base
+        Halved {
+            place: base,
+            word,
+            end,
+        }
     }
 
-    /// The row of that number, read anew with its end, where the search for the page has found it.
-    fn row_at<L: Ledger>(
+    /// The word of the row at the place that both searches have come to, over the heads and in a body. Each search has
+    /// read it, unless it came to its first place; so only the first row of all is still to be read.
+    fn word_of<L: Ledger>(
         &self,
         caller: &mut Caller,
-        page: u64,
-        count: u32,
-        index: u32,
+        heads: Halved,
+        found: Halved,
         steps: &mut Steps<L>,
-    ) -> Row
+    ) -> u64
         requires table { caller.old.seat.table ≡ self.now.table }
-        requires held { IsHeldPage caller.old.seat.held page }
-        requires pages { IsHeldPages caller.old.seat.held }
+        requires held { IsSome caller.old.seat.held }
         requires rest { IsAtRest caller.old.seat.pass }
-        requires count { counts_of caller.old.seat.pass.laid ≡ Some count }
-        requires few { count ≤ ROWS }
-        requires fits { count ≤ room_of caller.old.seat.table }
-        requires found { IsAmong caller.old.seat.pass.rows page count own_slot index 1 }
-        ensures from { result.lo ≤ page }
-        ensures until { page < result.hi }
-        ensures limit { result.hi ≤ LIMIT }
-        ensures named { IsNamedOption result.kind }
-        ensures read { IsAsRead caller.new.seat.pass result }
-        ensures shows { Shows caller.new.seat (RowIs caller.old.seat.held page result) }
+        requires some { 0 < blocks_by caller.old.seat.table }
+        ensures body { 0 < found.place → result ≡ found.word }
+        ensures head { found.place ≡ 0 → 0 < heads.place → result ≡ heads.word }
+        ensures first { found.place ≡ 0 → heads.place ≡ 0 → HasRead caller.new.seat.pass.rows 0 result × (row_start result ≡ 0) }
         ensures reading { IsReading caller.old.seat caller.new.seat }
         ensures left { caller.new.left ≡ caller.old.left }
         ensures rows { HasSameRows caller.old caller.new }
-        ensures bound { caller.new.seat.trace.taken ≤ caller.old.seat.trace.taken + 2 }
+        ensures bound { caller.new.seat.trace.taken ≤ caller.old.seat.trace.taken + 1 }
+        ensures none { 0 < heads.place → caller.new.seat.trace.taken ≡ caller.old.seat.trace.taken }
         ensures counted { steps.new + caller.old.seat.trace.taken ≡ steps.old + caller.new.seat.trace.taken }
     {
-        let behind = caller.next_slot(index, count);
+        if found.place > 0 {
+            return found.word;
+        }
+        if heads.place > 0 {
+            return heads.word;
+        }
         steps.tick();
-        let (lo, kind) = read_row(self.load_row(caller, index));
-        if let Some(next) = behind {
-            steps.tick();
-            let (hi, _) = read_row(self.load_row(caller, next));
-            return Row {
-                index,
-                lo,
-                hi,
-                kind,
-            };
-        }
-        Row {
-            index,
-            lo,
-            hi: LIMIT,
-            kind,
-        }
+        self.load_row(caller, 0)
     }
 
     /// The row of a page that the caller holds; the caller is of this space and has written what it has numbered. It is
-    /// looked for by halving, in at most `SEARCH + 3` steps: one reads how many rows there are, at most `SEARCH` each
-    /// read a row, and two read the row that was found and the one behind it.
+    /// looked for by halving, in at most `SEARCH + 3` steps: one reads how many blocks are in use, at most 11 each read
+    /// a head, one reads where the body of the block is, and at most 7 each read a row of it. In the first block, which
+    /// has at most 64 rows, these are at most 6, and its head is read where it is the row.
     /// `lo` and `hi` are as they were read. Where the caller holds a page past each of them, or up to 0 and `LIMIT`,
     /// as a writer, they are the row's own.
     pub fn row_of<L: Ledger>(&self, caller: &mut Caller, page: u64, steps: &mut Steps<L>) -> Row
@@ -163,8 +160,20 @@ impl Space {
     {
         caller.holds_pages();
         steps.tick();
-        let count = self.load_count(caller) as u32;
-        let index = self.find_row(caller, page, count, steps);
-        self.row_at(caller, page, count, index, steps)
+        let used = self.load_used(caller);
+        let heads = self.halve(caller, page, 0, used, LIMIT, steps);
+        steps.tick();
+        let told = self.load_told(caller, heads.place);
+        let body = self.blocks + 127 * (told / 128) as u32;
+        let rows = (told % 128) as u32;
+        let found = self.halve(caller, page, body - 1, rows + 1, heads.end, steps);
+        let word = self.word_of(caller, heads, found, steps);
+        let (lo, kind) = read_row(word);
+        Row {
+            index: 128 * heads.place + found.place,
+            lo,
+            hi: found.end,
+            kind,
+        }
     }
 }

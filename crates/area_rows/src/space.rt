@@ -6,6 +6,7 @@ ghost use Rattle.std.specs.Prelude.{◌≡◌, ◌≤◌, ◌<◌, ◌+◌, ◌^
 use area_guard::{Change, RowGuard};
 use page_types::{LIMIT, ROWS};
 use range_rw::{RangeTable, Seat};
+use row_blocks::Position;
 use row_plans::Cut;
 use space_model::Entry;
 use std::marker::Model;
@@ -39,20 +40,21 @@ pub enum SpaceFault {
 #[derive(Drop)]
 pub struct Space {
     pub(crate) table: RangeTable<RowGuard>,
-    /// How many rows the table has room for.
-    pub(crate) room: u32,
+    /// How many blocks of rows the table has room for.
+    pub(crate) blocks: u32,
 }
 
 impl Model for Space {
-    ghost use Rattle.std.specs.Prelude.{◌≡◌, ◌+◌};
+    ghost use Rattle.std.specs.Prelude.{◌≡◌, ◌≤◌, ◌<◌, ◌+◌, ◌*◌};
     ghost use Rattle.range_rw.specs.Contract.{TableShape};
-    ghost use Rattle.area_guard.specs.Rows.{room_of};
+    ghost use Rattle.area_guard.specs.Rows.{blocks_by};
 
     ghost Value = { TableShape };
 
     ghost view = { λ s. s.table };
 
-    ghost invariant = { λ s. (s.table.client ≡ 19 + s.room) × (s.room ≡ room_of s.table.table) };
+    ghost invariant = { λ s. (21 + 129 * s.blocks ≤ s.table.client) × (s.blocks ≡ blocks_by s.table.table) × (s.blocks ≤ 2048) × (2 < s.blocks)
+        × (0 < s.table.seats) };
 }
 
 /// One caller of a space. It holds one range at a time, and each of its calls has one entry in the history.
@@ -65,7 +67,7 @@ pub struct Caller {
     /// How many rows there were at the last plan.
     pub(crate) count: u32,
     /// Which rows go by the last plan.
-    pub(crate) cut: Cut<u32>,
+    pub(crate) cut: Cut<Position>,
     /// The row words that come in their place, with room for `SPARE` more than the table has room for: a call may
     /// change as many rows as there are. The room is touched only as far as rows come.
     pub(crate) plan: Vec<u64>,
@@ -76,7 +78,7 @@ pub struct Caller {
 impl Model for Caller {
     ghost use Rattle.std.specs.Prelude.{◌≡◌, ◌+◌, ◌≤◌, ◌<◌, ◌^◌, None, vec_len, vec_capacity};
     ghost use Rattle.page_types.specs.declared.TheConstants.{ROWS, SPARE};
-    ghost use Rattle.area_guard.specs.Rows.{room_of};
+    ghost use Rattle.area_guard.specs.Rows.{blocks_by, room_of};
     ghost use Rattle.area_guard.specs.History.{IsAtRest};
     ghost use Rattle.area_rows.specs.Callers.{CallerView, IsHeldPages};
 
@@ -86,8 +88,8 @@ impl Model for Caller {
 
     ghost invariant = { λ c. (c.seat.number ≡ c.worker) × (c.mine.items ≡ c.seat.pass.mine)
         × (vec_len c.mine + c.left ≤ vec_capacity c.mine) × (vec_len c.mine + c.left ≤ c.seat.pass.most)
-        × (c.seat.pass.room + SPARE ≤ vec_capacity c.plan) × IsHeldPages c.seat.held × (c.seat.held ≡ None → IsAtRest c.seat.pass)
-        × (c.seat.pass.room ≡ room_of c.seat.table) × (c.seat.pass.most < 2 ^ 32) };
+        × (room_of c.seat.pass.blocks + SPARE ≤ vec_capacity c.plan) × IsHeldPages c.seat.held × (c.seat.held ≡ None → IsAtRest c.seat.pass)
+        × (c.seat.pass.blocks ≡ blocks_by c.seat.table) × (c.seat.pass.most < 2 ^ 32) };
 }
 
 impl Caller {

@@ -2,7 +2,7 @@
 //! row count or a row, or adds 1 to the number word. Each is one atomic step, made at a moment of the running space,
 //! and a reader may rely on what it says being so at that moment. Which steps may be made is this project's own:
 //! `Allowed` of `area_guard`.
-ghost use Rattle.std.specs.Prelude.{ℕ, List, ◌≡◌, ◌<◌, ◌≤◌, ◌+◌, ◌^◌, IsSome, Some, length};
+ghost use Rattle.std.specs.Prelude.{ℕ, List, ◌≡◌, ◌<◌, ◌≤◌, ◌+◌, ◌*◌, ◌^◌, IsSome, Some, length};
 ghost use Rattle.page_types.specs.declared.TheConstants.{LIMIT, ROWS};
 ghost use Rattle.page_types.specs.Named.{IsNamedCall, IsNamedReply};
 ghost use Rattle.page_types.specs.declared.pages.Span.{Span};
@@ -11,11 +11,11 @@ ghost use Rattle.area_guard.specs.declared.guard.Change.{Change};
 ghost use Rattle.space_model.specs.declared.entries.Under.TheVariants.{Area as OverArea, Whole};
 ghost use Rattle.row_plans.specs.RowWords.{row_start};
 ghost use Rattle.area_rows.specs.Halving.{IsOnSameSide};
-ghost use Rattle.area_guard.specs.Rows.{room_of, IsOneOf, IsInReach};
-ghost use Rattle.area_guard.specs.Reads.{everything, slots_by, HasRead, IsHeldPage};
+ghost use Rattle.area_guard.specs.Rows.{blocks_by, IsOneOf, IsInReach};
+ghost use Rattle.area_guard.specs.Reads.{slots_by, IsHeldPage};
 ghost use Rattle.area_guard.specs.History.{HoldsFor, IsAtRest, IsRight, Leaves, pending_of, after_row, entry_note};
-ghost use Rattle.area_rows.specs.Callers.{HasSameRows, splice_of, plan_of, IsKnown, HasToWrite, HasToStore, IsReadRound, CountsWhole, IsReading, IsCounted};
-ghost use Rattle.area_rows.specs.Callers.{AreInReach};
+ghost use Rattle.area_rows.specs.Callers.{HasSameRows, splice_of, plan_of, IsKnown, HasToWrite, HasToStore, IsReadRound, CountsWhole, IsReading};
+ghost use Rattle.area_rows.specs.Layouts.{IsSeen};
 ghost use Rattle.area_rows.specs.Callers.{IsClientStep, IsLook, IsDrawn, MayNumber, Shows};
 
 use crate::noted::{By, Noted};
@@ -24,6 +24,7 @@ use crate::words::{FIRST_ROW, NUMBER, ROW_COUNT, SEQUENCE};
 use area_guard::{Change, RowGuard};
 use page_types::{Call, Reply};
 use range_rw::Seat;
+use row_blocks::Position;
 use row_plans::Cut;
 use space_model::{Entry, Under};
 use std::marker::Brand;
@@ -31,23 +32,50 @@ use std::sync::ledger::Ledger;
 use word_rows::Steps;
 
 impl Space {
-    /// Loads the row count, from 1 to `ROWS`, and no more than there is room for; with it the caller notes, in what it
-    /// knows alone, the layout and all rows of the moment. The caller is of this space, holds a range, and has written
-    /// what it has numbered.
+    /// Loads the row count, from 1 to `ROWS`; with it the caller notes, in what it knows alone, the layout and the
+    /// words of all slots of the moment. The caller is of this space, holds a range, and has written what it has
+    /// numbered.
     pub(crate) fn load_count(&self, caller: &mut Caller) -> u64
         requires table { caller.old.seat.table ≡ self.now.table }
         requires held { IsSome caller.old.seat.held }
         requires rest { IsAtRest caller.old.seat.pass }
-        ensures counted { IsCounted caller.old.seat result caller.new.seat }
+        ensures seen { IsSeen caller.old.seat 0 result caller.new.seat }
         ensures left { caller.new.left ≡ caller.old.left }
         ensures rows { HasSameRows caller.old caller.new }
         ensures some { 0 < result }
         ensures few { result ≤ ROWS }
-        ensures fits { result ≤ room_of caller.old.seat.table }
-        ensures reach { AreInReach caller.old.seat.table (slots_by caller.new.seat.pass.laid) }
     {
         self.table
             .load_as_uncounted::<By<Brand>>(&mut caller.seat, ROW_COUNT)
+    }
+
+    /// Loads how many blocks are in use; with it the caller notes, in what it knows alone, the layout and the words of
+    /// all slots of the moment. The caller is of this space, holds a range, and has written what it has numbered.
+    pub(crate) fn load_used(&self, caller: &mut Caller) -> u32
+        requires table { caller.old.seat.table ≡ self.now.table }
+        requires held { IsSome caller.old.seat.held }
+        requires rest { IsAtRest caller.old.seat.pass }
+        ensures seen { IsSeen caller.old.seat 1 result caller.new.seat }
+        ensures left { caller.new.left ≡ caller.old.left }
+        ensures rows { HasSameRows caller.old caller.new }
+    {
+        self.table
+            .load_as_uncounted::<By<Brand>>(&mut caller.seat, FIRST_ROW + 128 * self.blocks) as u32
+    }
+
+    /// Loads the body word of a block, with which the caller notes the same.
+    pub(crate) fn load_told(&self, caller: &mut Caller, block: u32) -> u64
+        requires table { caller.old.seat.table ≡ self.now.table }
+        requires held { IsSome caller.old.seat.held }
+        requires rest { IsAtRest caller.old.seat.pass }
+        requires there { block < caller.old.seat.pass.blocks }
+        ensures seen { IsSeen caller.old.seat (2 + block) result caller.new.seat }
+        ensures left { caller.new.left ≡ caller.old.left }
+        ensures rows { HasSameRows caller.old caller.new }
+    {
+        let told = FIRST_ROW + 1 + 128 * self.blocks;
+        self.table
+            .load_as_uncounted::<By<Brand>>(&mut caller.seat, told + block)
     }
 
     /// Loads the word of the row in a slot. The caller is of this space, holds a range, and has written what it has
@@ -56,7 +84,7 @@ impl Space {
         requires table { caller.old.seat.table ≡ self.now.table }
         requires held { IsSome caller.old.seat.held }
         requires rest { IsAtRest caller.old.seat.pass }
-        requires reach { IsInReach (room_of caller.old.seat.table) index }
+        requires reach { IsInReach (blocks_by caller.old.seat.table) index }
         ensures step { IsClientStep caller.old.seat (3 + index) (after_row index result caller.old.seat.pass) caller.new.seat }
         ensures left { caller.new.left ≡ caller.old.left }
         ensures rows { HasSameRows caller.old caller.new }
@@ -66,20 +94,6 @@ impl Space {
     {
         self.table
             .load_as_uncounted::<By<Brand>>(&mut caller.seat, FIRST_ROW + index)
-    }
-
-    /// Loads the word of the row in a slot, by the seat of a caller that holds everything, whether it has something
-    /// to write or not. A row that it has read, stored or noted before has the same word.
-    pub(crate) fn load_known(&self, seat: &mut Seat<RowGuard>, index: u32) -> u64
-        requires table { seat.old.table ≡ self.now.table }
-        requires held { seat.old.held ≡ Some everything }
-        requires index { index < ROWS }
-        requires room { index < room_of seat.old.table }
-        ensures step { IsClientStep seat.old (3 + index) (after_row index result seat.old.pass) seat.new }
-        ensures word { (word : ℕ) → HasRead seat.old.pass.rows index word → result ≡ word }
-    {
-        self.table
-            .load_as_uncounted::<By<Brand>>(seat, FIRST_ROW + index)
     }
 
     /// Loads the number word: how many entries the history has. The caller then has seen all of them, and what its
@@ -115,7 +129,7 @@ impl Space {
         &self,
         seat: &mut Seat<RowGuard>,
         draft: &Entry,
-        cut: Cut<u32>,
+        cut: Cut<Position>,
         more: &[u64],
         change: Option<Change>,
     ) -> u64

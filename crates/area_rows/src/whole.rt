@@ -9,120 +9,43 @@ ghost use Rattle.page_types.specs.Named.{IsNamedCall};
 ghost use Rattle.page_types.specs.PlainReply.{plain_reply};
 ghost use Rattle.space_model.specs.declared.entries.Under.TheVariants.{Whole};
 ghost use Rattle.row_plans.specs.RowLists.{areas_from};
-ghost use Rattle.row_plans.specs.Plans.{spliced, IsPlan};
+ghost use Rattle.row_plans.specs.Plans.{spliced, IsPlan, LeavesRows};
 ghost use Rattle.range_rw.specs.Contract.{AsksFor};
 ghost use Rattle.area_guard.specs.Reads.{everything, known_rows};
 ghost use Rattle.page_types.specs.Classes.{IsFault};
 ghost use Rattle.area_guard.specs.History.{IsAtRest};
-ghost use Rattle.area_rows.specs.Callers.{HasPlanned, IsKnown, IsReading, MayLoadAll};
+ghost use Rattle.plan_words.specs.Places.{number_at};
+ghost use Rattle.area_rows.specs.Callers.{HasPlanned, IsKnown, IsReading, MayPlan};
 ghost use Rattle.area_rows.specs.Called.{IsAnswered, IsCalled};
 
 use crate::answer::Answer;
 use crate::space::{Caller, Space};
-use area_guard::RowGuard;
 use lock_core::Mode;
 use page_types::{Call, LIMIT, Reply, Span, plain};
-use range_rw::Seat;
-use row_plans::{Found, Rows, plan_rows, read_row};
+use plan_words::{HeldRows, HeldWords};
+use row_plans::plan_rows;
 use space_model::{Entry, Under};
 use std::sync::Wait;
-
-/// The rows of a space, by the seat of a caller that holds everything and has loaded how many there are.
-#[derive(Drop)]
-struct AllRows<'a> {
-    space: &'a Space,
-    count: u32,
-}
-
-impl<'a> Rows for AllRows<'a> {
-    ghost use Rattle.std.specs.Prelude.{refl};
-    ghost use Rattle.area_guard.specs.Reads.{known_rows};
-    ghost use Rattle.area_rows.specs.Callers.{HasLoaded, MayLoadAll};
-    ghost use Rattle.area_rows.specs.Loading.{no_load_all, loads_on_all, same_known};
-
-    type Hand = Seat<RowGuard>;
-
-    type Place = u32;
-
-    ghost may_load = { λ rows seat. MayLoadAll rows.space.now.table rows.count seat };
-
-    ghost words = { λ rows seat. known_rows seat.pass };
-
-    ghost number = { λ rows seat at. at };
-
-    ghost loaded = { λ rows one two. HasLoaded one two };
-
-    ghost no_load = { λ rows seat. no_load_all seat };
-
-    ghost loads_on = { λ rows one two three. loads_on_all one two three };
-
-    ghost same_words = { λ rows one two. same_known rows.space.now.table rows.count one two };
-
-    ghost same_places = { λ rows one two may loaded. refl };
-
-    ghost are_rows = { λ rows seat may. may.list };
-
-    fn count(&self) -> u32 {
-        self.count
-    }
-
-    fn first(&self) -> u32 {
-        0
-    }
-
-    fn find(&self, hand: &mut Seat<RowGuard>, page: u64) -> Found<u32> {
-        let mut low = 0;
-        let mut high = self.count;
-        let mut word = 0;
-        let mut end = LIMIT;
-        'halve: while high - low > 1 {
-            let middle = low + (high - low) / 2;
-            let read = self.load(hand, middle);
-            let (start, _) = read_row(read);
-            if start <= page {
-                low = middle;
-                word = read;
-            } else {
-                high = middle;
-                end = start;
-            }
-        }
-        if low == 0 {
-            word = self.load(hand, 0);
-        }
-        Found { at: low, word, end }
-    }
-
-    fn load(&self, hand: &mut Seat<RowGuard>, at: u32) -> u64 {
-        let space = self.space;
-        space.load_known(hand, at)
-    }
-
-    fn next(&self, _hand: &mut Seat<RowGuard>, at: u32) -> Option<u32> {
-        if at + 1 < self.count {
-            return Some(at + 1);
-        }
-        None
-    }
-
-    fn previous(&self, _hand: &mut Seat<RowGuard>, at: u32) -> u32 {
-        at - 1
-    }
-}
 
 impl Caller {
     /// Plans a call, on the rows as they stand.
     fn plan_call(&mut self, space: &Space, count: u32, call: &Call) -> (Reply, u32)
-        requires may { MayLoadAll space.now.table count self.old.seat }
+        requires may { MayPlan space.now.table count self.old.seat }
         requires named { IsNamedCall call.now }
         ensures reading { IsReading self.old.seat self.new.seat }
         ensures left { self.new.left ≡ self.old.left }
         ensures known { IsKnown self.new }
-        ensures same { known_rows self.new.seat.pass ≡ known_rows self.old.seat.pass }
-        ensures plan { IsPlan call.now result.0 result.1 (spliced (λ at. at) (known_rows self.old.seat.pass) self.new.cut self.new.more)
-            (areas_from (known_rows self.old.seat.pass)) }
+        ensures plan { IsPlan call.now result.0 result.1 (spliced (λ at. number_at self.new.seat.pass at) (known_rows self.new.seat.pass)
+            self.new.cut self.new.more) (areas_from (known_rows self.new.seat.pass)) }
+        ensures leaves { (why : Why) → result.0 ≡ Refused why → LeavesRows self.new.cut self.new.more }
     {
-        let rows = AllRows { space, count };
+        let rows = HeldRows {
+            words: HeldWords {
+                table: &space.table,
+                blocks: space.blocks as usize,
+            },
+            count,
+        };
         let planned = plan_rows(&rows, &mut self.seat, call, &mut self.plan);
         self.count = count;
         self.cut = planned.cut;
@@ -134,8 +57,8 @@ impl Space {
     /// Plans a call that is no fault, by the rows as they stand: its reply, and how many rows it leaves. The splice
     /// that it makes of them goes into the caller's own room. The caller is of this space, holds everything as a
     /// writer, and has written what it has numbered. The plan is right until the caller draws a number or gives the
-    /// range back. That of a refused call leaves the rows as they are. Rows are loaded only where the plan needs them.
-    /// It takes no memory.
+    /// range back. That of a refused call leaves the rows as they are: none goes and none comes, so `write_plan` takes
+    /// one step. Rows are loaded only where the plan needs them. It takes no memory.
     pub fn plan(&self, caller: &mut Caller, call: &Call) -> (Reply, u32)
         requires table { caller.old.seat.table ≡ self.now.table }
         requires held { caller.old.seat.held ≡ Some everything }
@@ -144,7 +67,9 @@ impl Space {
         requires named { IsNamedCall call.now }
         ensures planned { HasPlanned call.now result.0 result.1 caller.new }
         ensures refused { (why : Why) → result.0 ≡ Refused why
-            → spliced (λ at. at) (known_rows caller.new.seat.pass) caller.new.cut caller.new.more ≡ known_rows caller.new.seat.pass }
+            → spliced (λ at. number_at caller.new.seat.pass at) (known_rows caller.new.seat.pass) caller.new.cut caller.new.more
+            ≡ known_rows caller.new.seat.pass }
+        ensures leaves { (why : Why) → result.0 ≡ Refused why → LeavesRows caller.new.cut caller.new.more }
         ensures reading { IsReading caller.old.seat caller.new.seat }
         ensures left { caller.new.left ≡ caller.old.left }
     {

@@ -4,7 +4,7 @@ use Rattle.lock_core.specs.declared.range.Held.{Held}
 use Rattle.lock_core.specs.declared.range.Mode.TheVariants.{Reader}
 use Rattle.area_rows.specs.AreaPlans.{IsOneKind}
 use Rattle.area_rows.specs.Callers.{held_span}
-use Rattle.area_rows.specs.Loading.{reading_on}
+use Rattle.area_rows.specs.Callers.{reading_on}
 use Rattle.range_rw.specs.Contract.{Record}
 use Rattle.range_rw.proofs.Asking.{for_kept}
 use Rattle.area_protect.proofs.Looking.{look_shows, look_counts}

@@ -25,7 +25,7 @@ pair c = let i = c.seat.invariant in record {
   plan = i.4;
   pages = i.5;
   rest = i.6;
-  rows = i.7;
+  blocks = i.7;
   most = i.8;
 }
 

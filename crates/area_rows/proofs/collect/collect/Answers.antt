@@ -1,5 +1,6 @@
-use Rattle.std.proofs.Common.{◌∙◌}
+use Rattle.std.proofs.Common.{◌∙◌, ap}
 use Rattle.std.specs.Prelude.{length}
+use Rattle.row_plans.specs.RowLists.{areas_from}
 use Rattle.area_rows.proofs.Gathering.{whole, kept_stand, idle_rows}
 use Rattle.area_rows.proofs.collect.collect.Goals as goal
 
@@ -9,4 +10,5 @@ returns c = λ callers r all wide.
     whole r.0 r.1 r.2 c.args.words.now callers r.3 c.args.kept.now all
     (idle_rows (length callers) r.0 r.1 r.2 c.args.words.now _ r.3 r.4) c.place_callers.new.out.items
     c.read_areas.result.items (c.place_callers.ensures.wide ∙ wide)
-    (c.place_callers.ensures.placed r.1 (kept_stand r.0 r.1 r.2 c.args.words.now callers r.3 c.args.kept.now all)) c.read_areas.ensures
+    (c.place_callers.ensures.placed r.1 (kept_stand r.0 r.1 r.2 c.args.words.now callers r.3 c.args.kept.now all))
+    (c.read_areas.ensures ∙ ap areas_from (c.as_slice.ensures.value ∙ c.read_rows-rows.ensures))

@@ -1,26 +1,31 @@
-use Rattle.std.proofs.Common.{ℕ, ◌∙◌, ap, sym, subst, arith}
+use Rattle.std.proofs.Common.{ℕ, ◌∙◌, List, length, ap, sym, subst, arith}
 use Rattle.row_plans.specs.RowLists.{areas_from}
 use Rattle.row_plans.specs.Plans.{spliced, IsPlan}
-use Rattle.area_guard.specs.Rows.{room_of}
+use Rattle.row_blocks.specs.declared.positions.Position.{Position}
+use Rattle.area_guard.specs.Rows.{blocks_by, room_of}
 use Rattle.area_guard.specs.Reads.{known_rows}
-use Rattle.area_rows.specs.Callers.{CallerView, IsReading, MayLoadAll}
-use Rattle.area_rows.specs.Loading.{same_known}
+use Rattle.plan_words.specs.Places.{number_at}
+use Rattle.plan_words.specs.Reading.{same_known, same_numbers, same_places, same_rows}
+use Rattle.plan_words.proofs.Plans.{plan_stays}
+use Rattle.area_rows.specs.Callers.{CallerView, IsReading}
+use Rattle.area_rows.proofs.Written.{may_load_in}
 use Rattle.area_rows.proofs.space.Caller.plan_call.Goals as goal
 
--- the caller's seat may load all rows
+-- the caller's seat may load all rows of the space
 pub plan_rows-planned-requires-clause-may : goal.plan_rows-planned-requires-clause-may
 plan_rows-planned-requires-clause-may c =
-    subst (λ (v : CallerView). MayLoadAll c.args.space.now.table c.args.count v.seat) (sym c.self.view_is) c.requires.may
+    may_load_in _ _ _ _ c.space.inside.blocks c.args.count c.space.view_is c.self.view_is c.space.invariant.0 c.space.invariant.1
+    c.space.invariant.2 c.self.invariant.7 c.requires.may
 
 -- its list has room for SPARE rows more than there are
 pub plan_rows-planned-requires-clause-room : goal.plan_rows-planned-requires-clause-room
 plan_rows-planned-requires-clause-room c =
-    let may : MayLoadAll c.args.space.now.table c.args.count c.self.inside.seat =
-    subst (λ (v : CallerView). MayLoadAll c.args.space.now.table c.args.count v.seat) (sym c.self.view_is) c.requires.may in
+    let may = may_load_in _ _ _ _ c.space.inside.blocks c.args.count c.space.view_is c.self.view_is c.space.invariant.0 c.space.invariant.1
+    c.space.invariant.2 c.self.invariant.7 c.requires.may in
     let counted = may.counted in
     let fits = may.fits in
     let room = c.self.invariant.4 in
-    let is = c.self.invariant.7 in
+    let same = ap room_of may.blocks_are in
     omega arith
 
 -- what the loads leave of the seat makes a caller still
@@ -30,8 +35,9 @@ invariant_of-self c =
     let r = l.reading in
     let i = c.self.invariant in
     let most = l.most in
-    let rows = l.room in
-    let table = ap room_of r.table in
+    let blocks = l.blocks in
+    let room = ap room_of blocks in
+    let table = ap blocks_by r.table in
     let few = i.3 in
     let wide = i.4 in
     let is = i.7 in
@@ -56,30 +62,43 @@ returns-clause-reading c =
 -- the caller knows all rows, and has a splice of them
 pub returns-clause-known : goal.returns-clause-known
 returns-clause-known c =
-    let may : MayLoadAll c.args.space.now.table c.args.count c.self.inside.seat =
-    subst (λ (v : CallerView). MayLoadAll c.args.space.now.table c.args.count v.seat) (sym c.self.view_is) c.requires.may in
-    let next = same_known c.args.space.now.table c.args.count c.self.inside.seat c.plan_rows-planned.new.hand may c.plan_rows-planned.ensures.loaded in
-    let counted = may.counted in
+    let old = c.self.inside.seat in
+    let new = c.plan_rows-planned.new.hand in
+    let p = c.plan_rows-planned.result in
+    let more = c.plan_rows-planned.new.new.items in
+    let loaded = c.plan_rows-planned.ensures.loaded in
+    let may = may_load_in _ _ _ _ c.space.inside.blocks c.args.count c.space.view_is c.self.view_is c.space.invariant.0 c.space.invariant.1
+    c.space.invariant.2 c.self.invariant.7 c.requires.may in
+    let next = same_known c.space.inside.table c.space.inside.blocks c.args.count old new may loaded in
+    let number = same_numbers old new loaded p.cut.at in
+    let long = ap length next.1 in
     let at = c.plan_rows-planned.ensures.at in
     let there = c.plan_rows-planned.ensures.there in
     record {
       rows = next.0.knows;
       list = next.0.list;
       counted = next.0.counted;
-      fits = next.0.fits;
       at = omega arith;
       there = omega arith;
+      grows = c.plan_rows-planned.ensures.few;
+      stays = λ some_row.
+          let s = plan_stays (known_rows old.pass) more c.args.call.now p.reply p.rows (number_at old.pass p.cut.at) p.cut.gone may.list
+          c.plan_rows-planned.ensures.plan there (omega arith) in
+          omega arith;
     }
-
--- they are the same as before
-pub returns-clause-same : goal.returns-clause-same
-returns-clause-same c =
-    c.plan_rows-planned.ensures.loaded.same ∙ ap (λ (v : CallerView). known_rows v.seat.pass) c.self.view_is
 
 -- and the splice is the plan of the call
 pub returns-clause-plan : goal.returns-clause-plan
 returns-clause-plan c =
+    let old = c.self.inside.seat in
+    let new = c.plan_rows-planned.new.hand in
+    let loaded = c.plan_rows-planned.ensures.loaded in
     let p = c.plan_rows-planned.result in
-    subst (λ (v : CallerView). IsPlan c.args.call.now p.reply p.rows
-    (spliced (λ (at : ℕ). at) (known_rows v.seat.pass) p.cut c.plan_rows-planned.new.new.items) (areas_from (known_rows v.seat.pass))) c.self.view_is
-    c.plan_rows-planned.ensures.plan
+    let rows = same_rows old new loaded in
+    let places = same_places old new loaded in
+    subst (λ (z : List ℕ × (Position → ℕ)). IsPlan c.args.call.now p.reply p.rows (spliced z.1 z.0 p.cut c.plan_rows-planned.new.new.items) (areas_from z.0))
+    (λ i. (sym rows i, sym places i)) c.plan_rows-planned.ensures.plan
+
+-- a refused call leaves the rows
+pub returns-clause-leaves : goal.returns-clause-leaves
+returns-clause-leaves c = c.plan_rows-planned.ensures.refused

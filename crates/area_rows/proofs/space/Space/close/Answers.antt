@@ -1,13 +1,17 @@
-use Rattle.std.specs.Prelude.{None, slice_index}
-use Rattle.std.proofs.Common.{replicate, ◌≤◌, ◌+◌, ℕ, List, map, length, sym, ap, ◌∙◌, subst, arith}
+use Rattle.std.specs.Prelude.{None}
+use Rattle.std.proofs.Common.{replicate, ◌≡◌, ◌≤◌, ℕ, List, map, drop, length, sym, ap, ◌∙◌, subst, arith}
 use Rattle.range_rw.specs.Contract.{pass_in}
 use Rattle.area_guard.specs.declared.guard.Pass.{Pass}
 use Rattle.area_rows.specs.declared.close.Kept.{Kept}
 use Rattle.area_guard.specs.History.{HasHistory}
 use Rattle.area_rows.specs.Callers.{AreIdle}
 use Rattle.area_rows.specs.Closing.{AreKept, callers_count, caller_pass}
-use Rattle.area_rows.proofs.Gathering.{closes_below, idle_rows}
-use Rattle.area_rows.proofs.Pairing.{pairs_length, pairs_passes, pairs_kept, seats_idle, join_ready}
+use Rattle.std.proofs.lemmas.List.{length-map}
+use Rattle.row_blocks.specs.Blocks.{IsLaidOut}
+use Rattle.area_guard.specs.Rows.{blocks_by, nb_in, room_of, rows_in}
+use Rattle.area_rows.proofs.Gathering.{caller_at, closes_below, closes_blocks}
+use Rattle.area_rows.proofs.Pairing.{pairs_length, pairs_passes, pairs_kept, pairs_blocks, seats_idle, join_ready}
+use Rattle.area_rows.proofs.space.Space.close.Goals.{In-Ok-close}
 use Rattle.area_rows.proofs.space.Space.close.Goals as goal
 
 -- there are as many seats as the table has
@@ -61,20 +65,40 @@ returns-in-Err-clause-refused c =
     let r = join_ready _ c.in-Err.field-0.seats.items _ c.args.callers.items c.in-Err.ensures.refused.1 c.part-callers.ensures.pairs in
     (c.in-Err.ensures.refused.0 ∙ c.self.view_is, c.join.ensures ∙ r.1)
 
--- the rows stand before the last sixteen words
-pub collect-requires-clause-wide : goal.collect-requires-clause-wide
-collect-requires-clause-wide c =
-    let h = c.in-Ok-close.ensures.guard in
-    let room = (idle_rows _ h.0 h.1 h.2 c.in-Ok-close.words.items (map pass_in c.part-callers.result.1.items) h.3 h.4).room in
-    subst (λ (w : List ℕ). 3 + slice_index w 2 ≤ length w) (sym c.as_slice-in-Ok-close.ensures.value) (omega arith)
+-- the words of the closed table have as many blocks as the space, which are laid out, and so many rows at most
+blocks_are : (c : In-Ok-close) → (c.self.inside.blocks ≡ nb_in c.in-Ok-close.words.items)
+    × IsLaidOut (nb_in c.in-Ok-close.words.items) (drop 3 c.in-Ok-close.words.items)
+    × (length (rows_in c.in-Ok-close.words.items) ≤ room_of c.self.inside.blocks)
+blocks_are c =
+    let pairs = c.part-callers.ensures.pairs in
+    let callers = c.args.callers.items in
+    let passes = pairs_passes _ _ callers pairs in
+    let seats = c.requires.count ∙ sym (ap (λ t. t.seats) c.self.view_is) in
+    let some_seats = c.self.invariant.4 in
+    let many = length-map callers caller_pass in
+    let h : HasHistory (replicate c.self.inside.table.seats None) c.in-Ok-close.words.items (map caller_pass callers) =
+    subst (λ (l : List Pass). HasHistory (replicate c.self.inside.table.seats None) c.in-Ok-close.words.items l) passes c.in-Ok-close.ensures.guard in
+    closes_blocks c.self.inside.table.seats c.self.inside.blocks c.in-Ok-close.words.items (map caller_pass callers) h (omega arith)
+    (λ k p at.
+    let v = caller_at callers k p at in
+    let idle = c.requires.idle k v.0 v.1 in
+    ap (λ (x : Pass). x.blocks) (sym v.2) ∙ (pairs_blocks _ _ callers pairs k v.0 v.1
+    ∙ (ap blocks_by (idle.0 ∙ sym (ap (λ t. t.table) c.self.view_is)) ∙ sym c.self.invariant.1)))
 
--- so there is room for their areas
+pub collect-requires-clause-blocks : goal.collect-requires-clause-blocks
+collect-requires-clause-blocks c = (blocks_are (goal.at.collect-requires-clause-blocks c).In-Ok-close).0
+    ∙ ap nb_in (sym c.as_slice-in-Ok-close.ensures.value)
+
+pub collect-requires-clause-laid : goal.collect-requires-clause-laid
+collect-requires-clause-laid c = subst (λ (l : List ℕ). IsLaidOut (nb_in l) (drop 3 l)) (sym c.as_slice-in-Ok-close.ensures.value)
+    (blocks_are (goal.at.collect-requires-clause-laid c).In-Ok-close).1
+
+-- so there is room for the rows, and for their areas
 pub collect-requires-clause-room : goal.collect-requires-clause-room
 collect-requires-clause-room c =
-    let h = c.in-Ok-close.ensures.guard in
-    let room = (idle_rows _ h.0 h.1 h.2 c.in-Ok-close.words.items (map pass_in c.part-callers.result.1.items) h.3 h.4).room in
-    let wide = c.in-Ok-close.ensures.words in
-    let own = c.self.invariant.0 in
-    let areas = c.in-Ok.ensures.room.2 in
-    let same = ap (λ (w : List ℕ). slice_index w 2) c.as_slice-in-Ok-close.ensures.value in
-    omega arith
+    let few = (blocks_are (goal.at.collect-requires-clause-room c).In-Ok-close).2 in
+    let room = c.in-Ok.ensures.room in
+    let rows = room.2 in
+    let areas = room.3 in
+    let same = ap (λ (w : List ℕ). length (rows_in w)) c.as_slice-in-Ok-close.ensures.value in
+    let made = c.room_in.ensures in (omega arith, omega arith)

@@ -5,7 +5,7 @@ use Rattle.row_plans.specs.declared.planning.Cut.{Cut}
 use Rattle.space_model.specs.declared.areas.Area.{Area}
 use Rattle.space_model.specs.declared.entries.Entry.{Entry}
 use Rattle.area_guard.specs.declared.guard.Change.{Change}
-use Rattle.area_guard.specs.Rows.{room_of}
+use Rattle.row_blocks.specs.declared.positions.Position.{Position}
 use Rattle.area_guard.specs.declared.guard.Pass.{Pass}
 use Rattle.area_guard.specs.History.{HoldsFor, IsRight, Leaves, pending_of}
 use Rattle.area_guard.specs.Replies.{reply_named}
@@ -20,7 +20,7 @@ draw_as-requires-clause-right c =
     let cut : c.caller.inside.cut ≡ c.args.caller.now.cut = ap (λ (v : CallerView). v.cut) c.caller.view_is in
     let seat : c.caller.inside.seat ≡ c.args.caller.now.seat = ap (λ (v : CallerView). v.seat) c.caller.view_is in
     let change : c.caller.inside.change ≡ c.args.caller.now.change = ap (λ (v : CallerView). v.change) c.caller.view_is in
-    subst (λ (z : SeatState Pass × Cut ℕ × List ℕ × Option Change). Shows z.0
+    subst (λ (z : SeatState Pass × Cut Position × List ℕ × Option Change). Shows z.0
     (λ (words : List ℕ) (state : List Area). (left : List Area) × IsRight state c.args.call c.args.reply c.args.under left
     × Leaves state c.args.under (pending_of c.args.under (splice_of z.0 z.1 z.2) z.3) left))
     (λ i. (sym seat i, sym cut i, sym more i, sym change i)) c.requires.right
@@ -46,8 +46,6 @@ returns-clause-write c = λ whole known.
     let drawn : IsDrawn v.seat e (pending_of c.args.under (plan_of v) v.change) c.draw_as.new.seat =
     subst (λ (z : CallerView × List ℕ). IsDrawn z.0.seat e (pending_of c.args.under (splice_of z.0.seat z.0.cut z.1) z.0.change) c.draw_as.new.seat)
     (λ i. (c.caller.view_is i, more i)) c.draw_as.ensures.drawn in
-    let room : v.seat.pass.room ≡ room_of v.seat.table =
-    subst (λ (x : CallerView). x.seat.pass.room ≡ room_of x.seat.table) c.caller.view_is c.caller.invariant.7 in
     let held = subst (HoldsFor v.seat.held) whole c.requires.held in
     let right = c.requires.right _ _ _ drawn.words drawn.moment in
     let leaves = subst (λ u. Leaves drawn.numbered.state u (pending_of u (plan_of v) v.change) right.0) whole right.2 in
@@ -56,7 +54,7 @@ returns-clause-write c = λ whole known.
       cut = ap (λ (x : CallerView). x.cut) c.caller.view_is;
       more = ap (λ (x : CallerView). x.more) c.caller.view_is;
       change = ap (λ (x : CallerView). x.change) c.caller.view_is;
-    }) room held drawn whole known leaves.few
+    }) held drawn whole known leaves.some
 
 -- over an area the caller has the row to store that it has chosen
 pub returns-clause-store : goal.returns-clause-store

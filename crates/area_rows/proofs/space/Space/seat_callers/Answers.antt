@@ -5,7 +5,7 @@ use Rattle.range_rw.specs.Contract.{SeatState}
 use Rattle.std.proofs.lemmas.List.Edits.{length-remove}
 use Rattle.area_guard.specs.declared.guard.Pass.{Pass}
 use Rattle.page_types.specs.declared.TheConstants.{SPARE}
-use Rattle.area_guard.specs.Rows.{room_of}
+use Rattle.area_guard.specs.Rows.{blocks_by, room_of}
 use Rattle.area_rows.proofs.Beginning.{first_of, first_seats, next_seat, seats_on, one_caller, new_caller}
 use Rattle.area_guard.specs.Parts.{none_is}
 use Rattle.area_rows.proofs.space.Space.seat_callers.Goals as goal
@@ -16,18 +16,18 @@ invariant_of-push_reserved c =
     let some_left : 0 < length c.seats.seats.items = search rules in
     let table = c.args.table.now.table in
     let lists = list_count c.args.table.now.cut in
-    let first = first_of c.args.start.now c.args.calls.now (room_of table) in
+    let first = first_of c.args.start.now c.args.calls.now (blocks_by table) in
     let s = next_seat lists table first c.seats.worker c.seats.seats.items c.remove-seat.result
     c.seats.invariant.rest some_left c.remove-seat.ensures.value in (
       ap (λ (x : SeatState Pass). x.number) s,
       search rules ∙ sym (ap (λ (x : SeatState Pass). x.pass.mine) s),
       search rules,
       let m = ap (λ (x : SeatState Pass). x.pass.most) s in let e : vec_len c.in_ok-mine.mine ≡ 0 = search rules in omega arith,
-      let r = ap (λ (x : SeatState Pass). x.pass.room) s in let w : c.args.room + SPARE ≤ vec_capacity c.in_ok-plan.plan = search rules in
-          let is = c.requires.room in omega arith,
+      let r = ap (λ (x : SeatState Pass). room_of x.pass.blocks) s in let w : room_of c.args.blocks + SPARE ≤ vec_capacity c.in_ok-plan.plan = search rules in
+          let is = ap room_of c.requires.blocks in omega arith,
       λ h e. absurd (none_is h (sym (ap (λ (x : SeatState Pass). x.held) s) ∙ e)),
       λ _. ap (λ (x : SeatState Pass). x.pass.pending) s,
-      ap (λ (x : SeatState Pass). x.pass.room) s ∙ ap (λ (x : SeatState Pass). room_of x.table) (sym s),
+      ap (λ (x : SeatState Pass). x.pass.blocks) s ∙ ap (λ (x : SeatState Pass). blocks_by x.table) (sym s),
       let m = ap (λ (x : SeatState Pass). x.pass.most) s in let left : slice_index c.args.calls.now c.seats.worker < 2 ^ 32 = search rules in omega arith,
     )
 
@@ -39,7 +39,7 @@ seats-init c = record {
   sum = search rules;
   new = search rules;
   rest = first_seats (list_count c.args.table.now.cut) c.args.table.now.table
-      (first_of c.args.start.now c.args.calls.now (room_of c.args.table.now.table)) c.args.seats.items c.requires.seats;
+      (first_of c.args.start.now c.args.calls.now (blocks_by c.args.table.now.table)) c.args.seats.items c.requires.seats;
 }
 
 -- one new caller more is made, and the seats that wait go on with the next number
@@ -49,7 +49,7 @@ seats-preserved c =
     let some_left : 0 < length c.seats.seats.items = search rules in
     let table = c.args.table.now.table in
     let lists = list_count c.args.table.now.cut in
-    let first = first_of c.args.start.now c.args.calls.now (room_of table) in
+    let first = first_of c.args.start.now c.args.calls.now (blocks_by table) in
     let start = c.args.start.now in
     let s = next_seat lists table first c.seats.worker c.seats.seats.items c.remove-seat.result i.rest some_left c.remove-seat.ensures.value in
     record {

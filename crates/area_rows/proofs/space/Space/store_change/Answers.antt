@@ -1,6 +1,6 @@
 use Rattle.std.proofs.Common.{◌≡◌, arith, ap, ◌∙◌, sym}
 use Rattle.range_rw.specs.Contract.{TableShape}
-use Rattle.area_guard.specs.Rows.{room_of}
+use Rattle.area_guard.specs.Rows.{blocks_by}
 use Rattle.area_guard.specs.Keeping.{no_note}
 use Rattle.area_rows.proofs.ReplacingRows.{may_store_change, change_stored, index_reach}
 use Rattle.area_rows.proofs.space.Space.store_change.Goals as goal
@@ -12,15 +12,25 @@ store_as_uncounted-requires-clause-allowed c = let w = c.requires.change in may_
 
 -- its place is a word's
 pub overflow_add-index : goal.overflow_add-index
-overflow_add-index c = let w = c.requires.change in let lt = (index_reach c.args.seat.now w.0 w.2).0 in let at = w.3 in omega arith
+overflow_add-index c =
+    let w = c.requires.change in
+    let table : blocks_by c.args.seat.now.table ≡ c.self.inside.blocks =
+    ap blocks_by (c.requires.table ∙ sym (ap (λ (t : TableShape). t.table) c.self.view_is)) ∙ sym c.self.invariant.1 in
+    let few = c.self.invariant.2 in
+    let lt = index_reach c.args.seat.now w.0 w.2 in
+    let at = w.3 in
+    omega arith
 
 -- there is a client word for the row
 pub store_as_uncounted-requires-clause-place : goal.store_as_uncounted-requires-clause-place
 store_as_uncounted-requires-clause-place c =
     let w = c.requires.change in
-    let table : room_of c.args.seat.now.table ≡ room_of c.self.inside.table.table =
-    ap room_of (c.requires.table ∙ sym (ap (λ (t : TableShape). t.table) c.self.view_is)) in
-    let wide = c.self.invariant.0 in let room = c.self.invariant.1 in let lt = (index_reach c.args.seat.now w.0 w.2).1 in let at = w.3 in omega arith
+    let table : blocks_by c.args.seat.now.table ≡ c.self.inside.blocks =
+    ap blocks_by (c.requires.table ∙ sym (ap (λ (t : TableShape). t.table) c.self.view_is)) ∙ sym c.self.invariant.1 in
+    let wide = c.self.invariant.0 in
+    let lt = index_reach c.args.seat.now w.0 w.2 in
+    let at = w.3 in
+    omega arith
 
 -- it was one step of the seat, after which all is written
 pub returns : goal.returns

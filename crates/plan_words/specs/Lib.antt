@@ -1,0 +1,11 @@
+pub mod Places
+pub mod Writing
+pub mod Reading
+pub mod Laws
+pub use Rattle.area_guard.specs.History
+pub use Rattle.area_guard.specs.Reads
+pub use Rattle.area_guard.specs.Rows
+pub use Rattle.lock_core.specs.Client
+pub use Rattle.lock_core.specs.Grants
+pub use Rattle.range_rw.specs.Contract
+pub use Rattle.row_blocks.specs.Blocks
