@@ -1,12 +1,12 @@
 //! Threads that move the boundaries of areas that touch, beside threads that fault on both sides. Whatever their order,
 //! the history is legal by the one-thread model, and each way that `protect` told is true of this history.
 use crate::claims::{closed_right, is_true, play};
-use crate::trials::{Trial, change_all};
+use crate::trials::{AREAS, FIRST, Trial, WIDE, change_all, prot_of};
 use crate::ways::Ways;
 use area_protect::Path;
 use page_types::{Call, Kind, Prot};
 use space_model::{Area, Entry, PlainSpace, have_named_kinds};
-use std::alloc::Global;
+use std::alloc::{AllocError, Global};
 use std::process::Abort;
 use std::sync::Wait;
 use std::test::Fail;
@@ -74,21 +74,28 @@ fn ways_are_true(
     Ok(counts)
 }
 
-/// Four callers change protections and two fault; how many changes were over their areas, and how many under
-/// everything.
+/// The areas that are worked on, of two kinds in turn, and below them single pages of these kinds: 29 rows.
+fn areas_of(alloc: Global) -> Result<Vec<Area>, AllocError> {
+    let mut list = Vec::new(alloc);
+    for page in 18..FIRST {
+        list.push(area(page, page + 1, prot_of(page % 2 == 0)))?;
+    }
+    for i in 0..AREAS {
+        let lo = FIRST + WIDE * i;
+        list.push(area(lo, lo + WIDE, prot_of(i % 2 == 0)))?;
+    }
+    Ok(list)
+}
+
+/// Four callers change protections, and two fault or one of them maps pages; how many changes were over their areas,
+/// and how many under everything.
 fn runs<R: Abort + Threads + Wait + Sync>(
     rt: &R,
     alloc: Global,
     trial: Trial,
 ) -> Result<Counts, Fail> {
-    let areas = [
-        area(16, 20, Prot::READ),
-        area(20, 24, Prot::WRITE),
-        area(24, 28, Prot::READ),
-        area(28, 32, Prot::WRITE),
-        area(32, 36, Prot::READ),
-    ];
-    assert!(rt; have_named_kinds(&areas));
+    let areas = areas_of(alloc)?;
+    assert!(rt; have_named_kinds(&areas) && areas.len() < 1 << 30);
     let start = PlainSpace::of_areas(alloc, &areas)?;
     let Ok((space, mut callers)) = open_crew(alloc, &[TURNS; 6], &start) else {
         panic!(rt; "no space");
@@ -111,6 +118,16 @@ fn boundaries_move_back_and_forth_over_areas_alone(rt: HostRuntime) -> Result<()
 fn splits_beside_moving_boundaries_have_true_causes(rt: HostRuntime) -> Result<(), Fail> {
     let counts = runs(&rt, rt.alloc(), Trial::Splits)?;
     assert!(rt; counts.under_everything >= 62);
+    assert_eq!(rt;
+        u64::wrapping_add(counts.over_areas, counts.under_everything),
+        2000
+    );
+    Ok(())
+}
+
+#[test]
+fn boundaries_move_beside_blocks_that_are_split_and_emptied(rt: HostRuntime) -> Result<(), Fail> {
+    let counts = runs(&rt, rt.alloc(), Trial::Blocks)?;
     assert_eq!(rt;
         u64::wrapping_add(counts.over_areas, counts.under_everything),
         2000

@@ -13,16 +13,26 @@ use page_types::{Access, Call, PAGE, Prot};
 use std::sync::Wait;
 use std::thread;
 use std::thread::Threads;
-use test_crews::make_call;
+use test_crews::{make_call, replacing};
 
-/// The first page that is worked on.
-const FIRST: u64 = 16;
+/// The first page that is worked on. Below it areas of single pages begin at page 18. So at the opening the start of
+/// the second area that is worked on is the first row of a block of rows, by which others look for theirs.
+pub const FIRST: u64 = 40;
 
 /// How many pages each of the areas has at the start.
-const WIDE: u64 = 4;
+pub const WIDE: u64 = 4;
+
+/// How many areas are worked on.
+pub const AREAS: u64 = 5;
 
 /// How many callers of a crew change protections; the others fault.
 const CHANGING: u32 = 4;
+
+/// The caller of a crew that maps pages in the trial of blocks.
+const MAPPING: u32 = 5;
+
+/// How many pages it maps before it takes them away.
+const MAPPED: u32 = 40;
 
 /// What the callers of a crew do that change protections.
 #[derive(Clone, Copy, Debug, PartialEq, Eq)]
@@ -32,10 +42,13 @@ pub enum Trial {
     /// The same, but at each eighth turn the last of them gives a page in the middle of its area another protection, or
     /// its old one, which holds everything.
     Splits,
+    /// The same as with the boundaries, but one that faults maps single pages behind the areas instead, which splits
+    /// blocks of rows, and takes all of them away at once, which empties several.
+    Blocks,
 }
 
 /// The protection of the areas, one and the other in turn.
-fn prot_of(one: bool) -> Prot
+pub fn prot_of(one: bool) -> Prot
     ensures { IsNamedProt result }
 {
     if one { Prot::READ } else { Prot::WRITE }
@@ -54,13 +67,36 @@ fn one_page(page: u64, prot: Prot) -> Call
     }
 }
 
+/// The call of a turn of the caller that maps pages: one page more, with a gap before it, or all of them go.
+fn mapping_call(turn: u32) -> Call
+    ensures { IsNamedCall result }
+{
+    let behind = FIRST + AREAS * WIDE + 2;
+    let at = turn % (MAPPED + 1);
+    if at == MAPPED {
+        return Call::Unmap {
+            addr: behind * PAGE,
+            len: 2 * u64::from(MAPPED) * PAGE,
+        };
+    }
+    Call::Map {
+        addr: (behind + 2 * u64::from(at)) * PAGE,
+        len: PAGE,
+        prot: Prot::READ,
+        flags: replacing(),
+    }
+}
+
 /// The call of a caller's turn, both counted from 0: of one that changes protections the last page of its area, which
 /// goes to the next area and comes back, and of another a read of one of the areas' pages.
 pub fn call_of(trial: Trial, worker: u32, turn: u32) -> Call
     ensures { IsNamedCall result }
 {
+    if trial == Trial::Blocks && worker == MAPPING {
+        return mapping_call(turn);
+    }
     if worker >= CHANGING {
-        let page = FIRST + u64::from(turn) % (5 * WIDE);
+        let page = FIRST + u64::from(turn) % (AREAS * WIDE);
         return Call::Fault {
             addr: page * PAGE,
             access: Access::Read,
