@@ -5,7 +5,7 @@
 # both.
 #
 # Where the table is, the opening shows: it copies the first values of all words there, the client words last. These are
-# 19 and the room for rows, which is at least as many as there are (`-v rows=`). No other row of stores, each beginning
+# more than 19 and as many as there are rows (`-v rows=`). No other row of stores, each beginning
 # where the one before ended, is as long and comes as late. Most lines are those of the opening, some twenty million, so
 # as little as can be is done for each.
 BEGIN {

@@ -1,7 +1,5 @@
 # Reads lines `SUBJECT<tab>WHAT: .. N ns .., P percent of ..` of several runs, and writes one row for each subject and
 # workload: the least figure, what it is compared with in that run, and the least and the greatest figure of all runs.
-# What a row takes that moves is told by an unmap in the middle of 4000 rows and one near their end, behind which 1992
-# rows fewer move.
 {
     split_at = index($2, ": ")
     if (!split_at || !match($2, /[0-9.]+ ns/)) next
@@ -32,9 +30,4 @@ END {
         key = order[i]
         printf "| %s | %s | %s | %s | %s | %s to %s |\n", part[1], what, threads, least[key], compared[key], least[key], most[key]
     }
-    middle = "the space" FS "rows 4000, an unmap"
-    end = "the space" FS "rows 4000 near the end, an unmap"
-    if (middle in least && end in least)
-        printf "| the space | rows 4000, each row that moves | 1 | %.1f | an unmap in the middle less one near the end, by 1992 rows | |\n",
-            (least[middle] - least[end]) / 1992
 }

@@ -25,8 +25,9 @@ fn open_one(
 }
 
 /// The first byte of the page that is read at a turn. The pages of two turns that follow each other lie an odd number
-/// of pages apart, so every other one may be read, and eighteen turns go over nearly all rows. None is in the last row,
-/// where the search ends a step earlier.
+/// of pages apart, so every other one may be read, and eighteen turns go over nearly all rows. The first is of the
+/// first row, for which a search makes as many steps as over a full block behind the first one; other rows of that
+/// block take a step less, and none of them is read.
 fn addr_at(turn: u32, rows: u32) -> u64 {
     let apart = u64::from(rows / 36 * 2 + 1);
     let last = u64::from(rows.max(2) - 1);

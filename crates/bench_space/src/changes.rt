@@ -1,6 +1,6 @@
-//! Rounds of changes by one caller that nobody hinders, and of the same changes of a map under a `Mutex`. At each turn
-//! the area in the middle goes and comes back, and its middle page becomes an area of its own and joins it again. The
-//! clock is read before and after each change; what that alone takes is measured too, and is taken off.
+//! Rounds of changes by one caller that nobody hinders, and of the same changes of a map under a `Mutex`. At each
+//! turn an area goes and comes back, and its middle page becomes an area of its own and joins it again. The clock is
+//! read before and after each change; what that alone takes is measured too, and is taken off.
 ghost use Rattle.std.specs.Prelude.{◌≡◌, ◌<◌, ◌≤◌, ◌^◌};
 ghost use Rattle.page_types.specs.Named.{IsNamedCall};
 ghost use Rattle.bench_space.specs.Ready.{IsReady};
@@ -34,8 +34,34 @@ pub enum Change {
 /// The changes of a turn, in their order.
 const TURN: [Change; 4] = [Change::Unmap, Change::Map, Change::Split, Change::Join];
 
-/// What the changes of one kind took, by kind, in nanoseconds.
-pub type Sums = [u64; 4];
+/// What the changes of a round took, by kind, in nanoseconds, and behind that what the longest one took.
+pub type Sums = [u64; 5];
+
+/// The place of the longest one.
+pub const LONGEST: usize = 4;
+
+/// The areas that are changed at the turns of a round: so many, of three pages each and with a gap of one page between
+/// them, from a page on. They come in scattered order.
+#[derive(Clone, Copy)]
+pub struct Places {
+    pub first: u64,
+    pub count: u64,
+}
+
+/// How many areas lie from one that is changed to the next one, beyond whole rounds.
+const APART: u64 = 20_011;
+
+impl Places {
+    /// The first page of the area of a turn.
+    fn of(self, turn: u32) -> u64
+        ensures { result < 2 ^ 40 }
+    {
+        let index = u64::from(turn) * APART % self.count.max(1);
+        self.first
+            .saturating_add(index.saturating_mul(4))
+            .min((1 << 40) - 1)
+    }
+}
 
 /// The call of a change of the area that begins at page `lo` and has three pages.
 fn call_of(change: Change, lo: u64) -> Call
@@ -113,6 +139,7 @@ fn lesser(one: Sums, other: Sums) -> Sums {
         one[1].min(other[1]),
         one[2].min(other[2]),
         one[3].min(other[3]),
+        one[4].min(other[4]),
     ]
 }
 
@@ -120,18 +147,19 @@ fn round_of_space<R: Wait + Clock>(
     rt: &R,
     space: &Space,
     caller: &mut Caller,
-    lo: u64,
+    places: Places,
     turns: u32,
 ) -> Result<Sums>
     requires ready { IsReady space.now caller.old }
-    requires page { lo < 2 ^ 40 }
 {
-    let mut sums = [0u64; 4];
-    'turns: for _ in 0..turns {
+    let mut sums = [0u64; 5];
+    'turns: for turn in 0..turns {
+        let lo = places.of(turn);
         for change in TURN {
             let time = time_of_call(rt, space, caller, change, lo)?;
             let i = change as usize;
             sums[i] = sums[i].saturating_add(time);
+            sums[LONGEST] = sums[LONGEST].max(time);
         }
     }
     Ok(sums)
@@ -143,60 +171,59 @@ fn sums_of_space<R: Wait + Clock>(
     size: Size,
     alloc: Global,
     start: &PlainSpace,
-    lo: u64,
-) -> Result<Sums>
-    requires { lo < 2 ^ 40 }
-{
+    places: Places,
+) -> Result<Sums> {
     let calls = size.calls.saturating_mul(4);
     let Ok((space, mut caller)) = open_first(alloc, start, 1, calls) else {
         bail!("no memory for a space");
     };
-    round_of_space(rt, &space, &mut caller, lo, size.calls)
+    round_of_space(rt, &space, &mut caller, places, size.calls)
 }
 
-/// The least that the changes of a round take in a space that starts with an area of three pages at page `lo`.
+/// The least that the changes of a round take in a space that starts with areas at these places.
 pub fn least_of_space<R: Wait + Clock>(
     rt: &R,
     size: Size,
     alloc: Global,
     start: &PlainSpace,
-    lo: u64,
-) -> Result<Sums>
-    requires { lo < 2 ^ 40 }
-{
-    let mut least = [u64::MAX; 4];
+    places: Places,
+) -> Result<Sums> {
+    let mut least = [u64::MAX; 5];
     for _ in 0..size.rounds {
-        least = lesser(least, sums_of_space(rt, size, alloc, start, lo)?);
+        least = lesser(least, sums_of_space(rt, size, alloc, start, places)?);
     }
     Ok(least)
 }
 
-fn round_of_map<R: Wait + Clock>(rt: &R, map: &Mutex<AreaMap>, lo: u64, turns: u32) -> Result<Sums>
-    requires { lo < 2 ^ 40 }
-{
-    let mut sums = [0u64; 4];
-    for _ in 0..turns {
+fn round_of_map<R: Wait + Clock>(
+    rt: &R,
+    map: &Mutex<AreaMap>,
+    places: Places,
+    turns: u32,
+) -> Result<Sums> {
+    let mut sums = [0u64; 5];
+    for turn in 0..turns {
+        let lo = places.of(turn);
         for change in TURN {
             let time = time_of_change(rt, map, change, lo)?;
             let i = change as usize;
             sums[i] = sums[i].saturating_add(time);
+            sums[LONGEST] = sums[LONGEST].max(time);
         }
     }
     Ok(sums)
 }
 
-/// The least that the changes of a round take in a map that has an area of three pages at page `lo`.
+/// The least that the changes of a round take in a map that has areas at these places.
 pub fn least_of_map<R: Wait + Clock>(
     rt: &R,
     size: Size,
     map: &Mutex<AreaMap>,
-    lo: u64,
-) -> Result<Sums>
-    requires { lo < 2 ^ 40 }
-{
-    let mut least = [u64::MAX; 4];
+    places: Places,
+) -> Result<Sums> {
+    let mut least = [u64::MAX; 5];
     for _ in 0..size.rounds {
-        least = lesser(least, round_of_map(rt, map, lo, size.calls)?);
+        least = lesser(least, round_of_map(rt, map, places, size.calls)?);
     }
     Ok(least)
 }

@@ -5,7 +5,7 @@
 //! maps. Each figure is the least of many rounds, so that other work on the machine counts little. Beside that of a
 //! fault is that of the first round.
 use crate::alone::{least_of_lookups, times_of_faults};
-use crate::changes::{Sums, least_of_clock, least_of_map, least_of_space};
+use crate::changes::{LONGEST, Places, Sums, least_of_clock, least_of_map, least_of_space};
 use crate::crowd::times_of_crowd;
 use crate::plans::least_of_plans;
 use crate::protects::{BLOCK_BITS, least_of_map_kept, least_of_map_own, least_of_own, own_areas};
@@ -52,6 +52,7 @@ pub fn measure_rows<R: Wait + Clock + Print + Eprint>(
     for (at, place) in [(1000usize, ""), (1996, " near the end")] {
         measure_changes(rt, alloc, size, 4000, at, place)?;
     }
+    measure_scattered(rt, alloc, size, 4000)?;
     println!(rt; "rows: {} rounds of {} turns each", size.rounds, size.calls)?;
     Ok(())
 }
@@ -170,12 +171,62 @@ fn measure_changes<R: Wait + Clock + Eprint>(
     ensure!(start.rows() == rows, "not so many rows");
     let map = Mutex::new(map_of(alloc, &list)?);
     let clock = least_of_clock(rt, size)?;
-    let space = least_of_space(rt, size, alloc, &start, lo)?;
-    let locked = least_of_map(rt, size, &map, lo)?;
+    let places = Places {
+        first: lo,
+        count: 1,
+    };
+    let space = least_of_space(rt, size, alloc, &start, places)?;
+    let locked = least_of_map(rt, size, &map, places)?;
     print_changes(rt, size, rows, place, clock, space, locked)?;
     let plan = least_of_plans(rt, size, alloc, &start, lo)?;
     eprintln!(rt; "rows {rows}{place}, a plan: {} ns", size.each(plan))?;
     Ok(())
+}
+
+/// Changes at scattered places of a space of so many rows, and of a map of the same areas: the mean of the four kinds,
+/// and the longest one of the space.
+pub fn measure_scattered<R: Wait + Clock + Eprint>(
+    rt: &R,
+    alloc: Global,
+    size: Size,
+    rows: u32,
+) -> Result<()> {
+    let list = spaced_areas(alloc, rows)?;
+    let Some(area) = list.first() else {
+        bail!("no area");
+    };
+    let places = Places {
+        first: area.lo,
+        count: list.len() as u64,
+    };
+    let start = space_of(alloc, &list)?;
+    ensure!(start.rows() == rows, "not so many rows");
+    let map = Mutex::new(map_of(alloc, &list)?);
+    let clock = least_of_clock(rt, size)?;
+    let space = least_of_space(rt, size, alloc, &start, places)?;
+    let locked = least_of_map(rt, size, &map, places)?;
+    let ours = mean_of(space).saturating_sub(clock);
+    let others = mean_of(locked).saturating_sub(clock);
+    eprintln!(rt;
+        "rows {rows}, a change at a scattered place: {} ns, {} percent of the same of a BTreeMap ({} ns)",
+        size.each(ours),
+        percent(ours, others),
+        size.each(others)
+    )?;
+    eprintln!(rt;
+        "rows {rows}, the longest change at a scattered place: {} ns",
+        space[LONGEST]
+    )?;
+    Ok(())
+}
+
+/// What the changes of a round took, for one of each turn.
+fn mean_of(sums: Sums) -> u64 {
+    let all = sums[0]
+        .saturating_add(sums[1])
+        .saturating_add(sums[2])
+        .saturating_add(sums[3]);
+    all / 4
 }
 
 /// A line for each kind of change, with what the clock takes taken off.

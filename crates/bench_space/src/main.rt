@@ -4,12 +4,13 @@
 //! of one thread. All keep the history: each call draws a number and its entry is kept. A time is that of playing
 //! alone, the least of several rounds. Times go to standard error, since they differ from run to run; standard output
 //! says how many calls were played and how many of them refused, on which all agree. The word `full` plays 1,048,576
-//! calls of `load` and `pager` a round, the word `areas` as many on 300 to 600 areas. The word `faults` measures single
-//! faults, changes and plans, `rows` changes and plans over 4000 rows, and `history` how long `legal` takes to judge as
-//! many entries. The word `tables` measures faults and unmaps over as many rows as there may be, `openings` what
-//! opening and closing a space takes, and `hold` is a run whose memory is looked at from outside. The words `load` and
-//! `pager` play that workload once on the space, on one thread, for who counts instructions. Without a word each is
-//! measured with a few thousand calls.
+//! calls of `load` and `pager` a round, the word `areas` as many on 300 to 600 areas, and `stacks` as many maps from
+//! the top down and from the bottom up, with unmaps in scattered order. The word `faults` measures single faults,
+//! changes and plans, `rows` changes and plans over 4000 rows, and `history` how long `legal` takes to judge as many
+//! entries. The word `tables` measures faults and unmaps over as many rows as there may be, `openings` what opening and
+//! closing a space takes, and `hold` is a run whose memory is looked at from outside. The words `load` and `pager` play
+//! that workload once on the space, on one thread, for who counts instructions. Without a word each is measured with a
+//! few thousand calls.
 #![tactic(auto)]
 
 ghost use Rattle.std.specs.Prelude.{◌≤◌};
@@ -51,6 +52,7 @@ fn main(rt: HostRuntime) -> Result<()> {
     match env::args(&rt)?.nth(1) {
         Some(word) if word.as_str() == "full" => measure_threads(&rt, rt.alloc(), Size::FULL),
         Some(word) if word.as_str() == "areas" => measure_areas(&rt, rt.alloc(), Size::FULL),
+        Some(word) if word.as_str() == "stacks" => measure_stacks(&rt, rt.alloc(), Size::FULL),
         Some(word) if word.as_str() == "faults" => measure_faults(&rt, rt.alloc(), Size::TURNS),
         Some(word) if word.as_str() == "rows" => measure_rows(&rt, rt.alloc(), Size::TURNS),
         Some(word) if word.as_str() == "history" => measure_history(&rt, rt.alloc(), Size::FULL),
@@ -60,11 +62,12 @@ fn main(rt: HostRuntime) -> Result<()> {
         Some(word) if word.as_str() == "load" => play_once(&rt, rt.alloc(), Workload::Load),
         Some(word) if word.as_str() == "pager" => play_once(&rt, rt.alloc(), Workload::Pager),
         Some(_) => bail!(
-            "usage: bench_space [full|areas|faults|rows|history|tables|openings|hold|load|pager]"
+            "usage: bench_space [full|areas|stacks|faults|rows|history|tables|openings|hold|load|pager]"
         ),
         None => {
             measure_threads(&rt, rt.alloc(), Size::SMALL)?;
             measure_areas(&rt, rt.alloc(), Size::SMALL)?;
+            measure_stacks(&rt, rt.alloc(), Size::SMALL)?;
             measure_faults(&rt, rt.alloc(), Size::FEW_TURNS)?;
             measure_rows(&rt, rt.alloc(), Size::FEW_TURNS)?;
             measure_history(&rt, rt.alloc(), Size::SMALL)?;
@@ -127,6 +130,27 @@ fn measure_areas<R: Threads + Wait + Sync + Clock + Print + Eprint>(
         "areas, 1 thread: a call takes {} percent of one on the space of one thread ({} ns)",
         percent(times.space, plain),
         size.each(plain)
+    )?;
+    Ok(())
+}
+
+/// One worker that maps up to 40,000 areas from the top down, and unmaps them in scattered order; and the same from the
+/// bottom up.
+fn measure_stacks<R: Threads + Wait + Sync + Clock + Print + Eprint>(
+    rt: &R,
+    alloc: Global,
+    size: Size,
+) -> Result<()>
+    requires { size.calls ≤ 1048576 }
+{
+    let down = times_of(rt, alloc, size, Workload::Down, 1)?;
+    print_times(rt, size, Workload::Down, 1, down)?;
+    let up = times_of(rt, alloc, size, Workload::Up, 1)?;
+    print_times(rt, size, Workload::Up, 1, up)?;
+    eprintln!(rt;
+        "down, 1 thread: a call takes {} percent of one of `up` ({} ns)",
+        percent(down.space, up.space),
+        size.each(up.space)
     )?;
     Ok(())
 }

@@ -1,10 +1,9 @@
-//! What a table of many rows costs: a fault over as many rows as there may be, beside one over few, and an unmap at the
-//! beginning of such a table, in its middle and at its end, beside the same on a `BTreeMap`. What lies behind the pages
-//! of an unmap moves, so it costs most at the beginning.
-ghost use Rattle.std.specs.Prelude.{◌<◌, ◌^◌};
-
+//! What a table of many rows costs: a fault over as many rows as there may be, beside one over few, an unmap at the
+//! beginning of such a table, in its middle and at its end, and changes at scattered places, beside the same on a
+//! `BTreeMap`. Rows of the block move, and where a block is split or goes the heads of those behind it.
 use crate::alone::times_of_faults;
-use crate::changes::{Change, least_of_clock, least_of_map, least_of_space};
+use crate::changes::{Change, Places, least_of_clock, least_of_map, least_of_space};
+use crate::faults::measure_scattered;
 use crate::size::{Size, percent};
 use crate::starts::{space_of, spaced_areas};
 use anyhow::{Result, bail, ensure};
@@ -40,6 +39,7 @@ pub fn measure_tables<R: Wait + Clock + Print + Eprint>(
         size.each(few)
     )?;
     measure_places(rt, alloc, size.scarce())?;
+    measure_scattered(rt, alloc, size.scarce(), ROWS_TO_SPLIT)?;
     println!(rt;
         "tables: {} rounds of {} faults each",
         size.rounds, size.calls
@@ -76,9 +76,7 @@ fn measure_places<R: Wait + Clock + Eprint>(rt: &R, alloc: Global, size: Size) -
         let Some(area) = list.get(index) else {
             bail!("no area");
         };
-        let lo = area.lo;
-        ensure!(lo < 1 << 40, "no area of the table");
-        measure_unmap(rt, alloc, size, &start, &map, lo, clock, place)?;
+        measure_unmap(rt, alloc, size, &start, &map, area.lo, clock, place)?;
     }
     Ok(())
 }
@@ -93,11 +91,13 @@ fn measure_unmap<R: Wait + Clock + Eprint>(
     lo: u64,
     clock: u64,
     place: &str,
-) -> Result<()>
-    requires { lo < 2 ^ 40 }
-{
-    let space = least_of_space(rt, size, alloc, start, lo)?;
-    let locked = least_of_map(rt, size, map, lo)?;
+) -> Result<()> {
+    let places = Places {
+        first: lo,
+        count: 1,
+    };
+    let space = least_of_space(rt, size, alloc, start, places)?;
+    let locked = least_of_map(rt, size, map, places)?;
     let ours = space[Change::Unmap as usize].saturating_sub(clock);
     let others = locked[Change::Unmap as usize].saturating_sub(clock);
     eprintln!(rt;

@@ -12,6 +12,7 @@ mod loads;
 mod locks;
 mod maps;
 mod pager;
+mod stacks;
 
 use areas::area_lines;
 use load_lines::MadeLine;
@@ -20,6 +21,7 @@ pub use locks::{SharedAreas, UnderMutex, UnderRwLock};
 pub use maps::{AreaMap, NoRoom, answered, found, map_of};
 use pager::{pager_areas, pager_lines};
 use space_model::Area;
+use stacks::stack_lines;
 use std::alloc::{AllocError, Global};
 
 /// What is played.
@@ -31,6 +33,10 @@ pub enum Workload {
     Pager,
     /// Protects that split and join areas, and faults, on 300 to 600 areas, by one worker.
     Areas,
+    /// Maps from the top down, and unmaps in scattered order, of up to 40,000 areas, by one worker.
+    Down,
+    /// The same from the bottom up.
+    Up,
 }
 
 impl Workload {
@@ -40,14 +46,16 @@ impl Workload {
             Workload::Load => "load",
             Workload::Pager => "pager",
             Workload::Areas => "areas",
+            Workload::Down => "down",
+            Workload::Up => "up",
         }
     }
 
     /// The areas before the first call, in the order of their pages.
     pub fn areas(self, alloc: Global) -> Result<Vec<Area>, AllocError> {
         match self {
-            Workload::Load | Workload::Areas => Ok(Vec::new(alloc)),
             Workload::Pager => pager_areas(alloc),
+            _ => Ok(Vec::new(alloc)),
         }
     }
 
@@ -69,6 +77,8 @@ impl Workload {
             Workload::Load => load_lines_of(alloc, worker, threads, calls),
             Workload::Pager => pager_lines(alloc, worker, threads, calls),
             Workload::Areas => area_lines(alloc, calls),
+            Workload::Down => stack_lines(alloc, calls, true),
+            Workload::Up => stack_lines(alloc, calls, false),
         }
     }
 }
