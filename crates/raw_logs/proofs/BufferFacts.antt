@@ -6,7 +6,7 @@ use Rattle.raw_logs.specs.Log.{Numbered, line_of}
 use Rattle.raw_logs.specs.Buffer.{cut_at, AreEnds, start_at}
 
 -- the first of the ends is no further than the buffer's
-from_within : (from count : ℕ) (ends : List End) → AreEnds from count ends → from ≤ count
+pub from_within : (from count : ℕ) (ends : List End) → AreEnds from count ends → from ≤ count
 from_within from count [] h = omega (arith, h)
 from_within from count (end ∷ ends) h = let k = from_within end.behind count ends h.1 in let f = h.0 in omega arith
 

@@ -11,12 +11,13 @@ use Rattle.memchr.specs.Find.{is_byte, Passes, NoneAfter}
 use Rattle.line_parts.specs.Lines.{lines_of}
 use Rattle.raw_lines.specs.Marks.{IsMessage, IsStackLine, IsUnread, IsBroken}
 use Rattle.raw_logs.specs.declared.counts.Counts.{Counts}
-use Rattle.raw_logs.specs.declared.counts.Sort.TheVariants.{Messages, Stack, Stripped}
+use Rattle.raw_logs.specs.declared.counts.Sort.TheVariants.{Messages, Stack, Stripped, Numbered as OfNumbered}
 use Rattle.raw_logs.specs.declared.healing.Changed.{Changed}
 use Rattle.raw_logs.specs.declared.healing.Healer.{Healer}
 use Rattle.raw_logs.specs.Counting.{no_counts, one_more_of}
 use Rattle.raw_logs.specs.Log.{Numbered, IsLog, goes_on, LineKind, Message, OfStack, CutShort, LeftIn, IsKind, Each, Healed, nothing_healed, is_gap, with_kind, healed_from, IsStripped}
-use Rattle.raw_logs.specs.Stages.{part_line, part_of, IsMade, Takes}
+use Rattle.raw_logs.specs.Numbering.{IsRenumbered}
+use Rattle.raw_logs.specs.Stages.{part_line, part_of, AreWritten, Takes}
 use Rattle.raw_logs.proofs.MadeLines.{each_more, made_none}
 
 -- ---- the lines of a log
@@ -77,59 +78,62 @@ same_state texts a b m n e f = λ i. state texts (sym e i) (sym f i)
 takes_by : (old next : Healer) (before : List (List ℕ)) (number : ℕ) (text : List ℕ) (kind : LineKind) (texts : List Numbered) → (t : Takes old before)
     → length before + 1 ≡ number → IsKind text kind
     → with_kind number text kind (state t.texts (part_of old) old.counts) ≡ state texts (part_of next) next.counts
-    → IsMade IsStripped Stripped texts next.plain.lines next.plain.counts → Takes next (before ++ (text ∷ []))
+    → AreWritten next.written texts → Takes next (before ++ (text ∷ []))
 takes_by old next before number text kind texts t n k e p =
     record {
       kinds = t.kinds ++ (kind ∷ []);
       of_kinds = each_more IsKind before t.kinds text kind t.of_kinds k;
       texts = texts;
       is = healed_more 1 number nothing_healed before t.kinds text kind t.of_kinds (omega (arith, n)) ∙ ap (with_kind number text kind) t.is ∙ e;
-      plain = p;
+      written = p;
     }
 
-same_plain : (texts : List Numbered) (old next : Changed) → next ≡ old → IsMade IsStripped Stripped texts old.lines old.counts
-    → IsMade IsStripped Stripped texts next.lines next.counts
-same_plain texts old next e h = subst (λ (x : Changed). IsMade IsStripped Stripped texts x.lines x.counts) (sym e) h
+same_written : (texts : List Numbered) (old next : Changed) → next ≡ old → AreWritten old texts → AreWritten next texts
+same_written texts old next e h = subst (λ (x : Changed). AreWritten x texts) (sym e) h
 
 -- nothing was read
-pub takes_none : (healer : Healer) → healer.part ≡ None → healer.plain.lines ≡ [] → healer.plain.counts ≡ no_counts → healer.counts ≡ no_counts
-    → Takes healer []
-takes_none healer p l k e =
+pub takes_none : (healer : Healer) → healer.part ≡ None → healer.written.lines ≡ [] → healer.written.plain ≡ no_counts
+    → healer.written.numbered ≡ no_counts → healer.counts ≡ no_counts → Takes healer []
+takes_none healer p l k m e =
     record {
       kinds = [];
       of_kinds = tt;
       texts = [];
       is = same_state [] None (part_of healer) no_counts healer.counts (ap (option_map part_line) p) e;
-      plain = made_none IsStripped Stripped healer.plain.lines healer.plain.counts l k;
+      written = record {
+        plain = [];
+        made = made_none IsStripped Stripped [] healer.written.plain refl k;
+        numbers = made_none (IsRenumbered healer.written.numbering) OfNumbered healer.written.lines healer.written.numbered l m;
+      };
     }
 
 -- a message was read
 pub takes_message : (healer next : Healer) (before : List (List ℕ)) (number : ℕ) (text : List ℕ) → Takes healer before → length before + 1 ≡ number
-    → IsMessage text → next.part ≡ healer.part → next.plain ≡ healer.plain → next.counts ≡ one_more_of Messages healer.counts
+    → IsMessage text → next.part ≡ healer.part → next.written ≡ healer.written → next.counts ≡ one_more_of Messages healer.counts
     → Takes next (before ++ (text ∷ []))
 takes_message healer next before number text t n m p l e =
     takes_by healer next before number text Message t.texts t n m
     (same_state t.texts (part_of healer) (part_of next) (one_more_of Messages healer.counts) next.counts (ap (option_map part_line) p) e)
-    (same_plain t.texts healer.plain next.plain l t.plain)
+    (same_written t.texts healer.written next.written l t.written)
 
 -- a line of a stack was read
 pub takes_stack : (healer next : Healer) (before : List (List ℕ)) (number : ℕ) (text : List ℕ) → Takes healer before → length before + 1 ≡ number
-    → (¬ IsMessage text) → IsStackLine text → next.part ≡ healer.part → next.plain ≡ healer.plain → next.counts ≡ one_more_of Stack healer.counts
+    → (¬ IsMessage text) → IsStackLine text → next.part ≡ healer.part → next.written ≡ healer.written → next.counts ≡ one_more_of Stack healer.counts
     → Takes next (before ++ (text ∷ []))
 takes_stack healer next before number text t n never m p l e =
     takes_by healer next before number text OfStack t.texts t n (never, m)
     (same_state t.texts (part_of healer) (part_of next) (one_more_of Stack healer.counts) next.counts (ap (option_map part_line) p) e)
-    (same_plain t.texts healer.plain next.plain l t.plain)
+    (same_written t.texts healer.written next.written l t.written)
 
 -- a line was read that a message broke
 pub takes_broken : (healer next : Healer) (before : List (List ℕ)) (number : ℕ) (text front : List ℕ) → Takes healer before → length before + 1 ≡ number
     → (¬ IsMessage text) → (¬ IsStackLine text) → (¬ IsUnread text) → IsBroken text front
-    → part_of next ≡ Some (goes_on (part_of healer) number front) → next.plain ≡ healer.plain
+    → part_of next ≡ Some (goes_on (part_of healer) number front) → next.written ≡ healer.written
     → next.counts ≡ one_more_of Messages healer.counts → Takes next (before ++ (text ∷ []))
 takes_broken healer next before number text front t n never ns nu b p l e =
     takes_by healer next before number text (CutShort front) t.texts t n (record { no_message = never; no_stack = ns; no_mark = nu; broken = b })
     (same_state t.texts (Some (goes_on (part_of healer) number front)) (part_of next) (one_more_of Messages healer.counts) next.counts p e)
-    (same_plain t.texts healer.plain next.plain l t.plain)
+    (same_written t.texts healer.written next.written l t.written)
 
 -- what a line comes to that is left in
 left_in : (number : ℕ) (text : List ℕ) (h other : Healed) (gap : Bool) → is_gap h.part text ≡ gap
@@ -143,29 +147,25 @@ pub takes_gap : (healer : Healer) (before : List (List ℕ)) (number : ℕ) (tex
     → Takes healer (before ++ (text ∷ []))
 takes_gap healer before number text t n never ns nb g =
     takes_by healer healer before number text LeftIn t.texts t n (record { no_message = never; no_stack = ns; whole = inr nb })
-    (left_in number text (state t.texts (part_of healer) healer.counts) (state t.texts (part_of healer) healer.counts) true g refl) t.plain
+    (left_in number text (state t.texts (part_of healer) healer.counts) (state t.texts (part_of healer) healer.counts) true g refl) t.written
 
 -- every other line was read
 pub takes_line : (healer next : Healer) (before : List (List ℕ)) (number : ℕ) (text : List ℕ) → Takes healer before → length before + 1 ≡ number
     → (¬ IsMessage text) → (¬ IsStackLine text) → IsUnread text ⊎ ((front : List ℕ) → ¬ IsBroken text front) → is_gap (part_of healer) text ≡ false
-    → ((texts : List Numbered) → IsMade IsStripped Stripped texts healer.plain.lines healer.plain.counts
-    → IsMade IsStripped Stripped (texts ++ (goes_on (part_of healer) number text ∷ [])) next.plain.lines next.plain.counts)
+    → ((texts : List Numbered) → AreWritten healer.written texts → AreWritten next.written (texts ++ (goes_on (part_of healer) number text ∷ [])))
     → part_of next ≡ None → next.counts ≡ healer.counts → Takes next (before ++ (text ∷ []))
 takes_line healer next before number text t n never ns whole g made p e =
     let texts = t.texts ++ (goes_on (part_of healer) number text ∷ []) in
     takes_by healer next before number text LeftIn texts t n (record { no_message = never; no_stack = ns; whole = whole })
     (left_in number text (state t.texts (part_of healer) healer.counts) (state texts (part_of next) next.counts) false g
-    (same_state texts None (part_of next) healer.counts next.counts p e)) (made t.texts t.plain)
+    (same_state texts None (part_of next) healer.counts next.counts p e)) (made t.texts t.written)
 
--- a text that goes on is made plain
+-- a text that goes on is written
 pub kept_made : (part : Option Numbered) (number : ℕ) (text : List ℕ) (line : Numbered) (old middle next : Changed) → line ≡ goes_on part number text
-    → middle ≡ old
-    → ((texts : List Numbered) → IsMade IsStripped Stripped texts middle.lines middle.counts
-    → IsMade IsStripped Stripped (texts ++ (line ∷ [])) next.lines next.counts)
-    → (texts : List Numbered) → IsMade IsStripped Stripped texts old.lines old.counts
-    → IsMade IsStripped Stripped (texts ++ (goes_on part number text ∷ [])) next.lines next.counts
+    → middle ≡ old → ((texts : List Numbered) → AreWritten middle texts → AreWritten next (texts ++ (line ∷ [])))
+    → (texts : List Numbered) → AreWritten old texts → AreWritten next (texts ++ (goes_on part number text ∷ []))
 kept_made part number text line old middle next e f made texts h =
-    subst (λ (x : Numbered). IsMade IsStripped Stripped (texts ++ (x ∷ [])) next.lines next.counts) e (made texts (same_plain texts old middle f h))
+    subst (λ (x : Numbered). AreWritten next (texts ++ (x ∷ []))) e (made texts (same_written texts old middle f h))
 
 abbrev filled : List ℕ → Type 0
 filled [] = ⊥

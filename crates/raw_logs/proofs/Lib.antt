@@ -13,6 +13,7 @@ pub mod OneLog
 pub mod PickFacts
 pub mod PlainTexts
 pub mod ReadLogs
+pub mod SieveFacts
 pub mod SpaceFacts
 pub mod Splits
 pub mod TextLists

@@ -8,12 +8,13 @@ use Rattle.raw_lines.specs.Plain.{IsPlain}
 use Rattle.raw_logs.specs.declared.counts.Counts.{Counts}
 use Rattle.raw_logs.specs.declared.counts.Sort.{Sort}
 use Rattle.raw_logs.specs.declared.counts.Sort.TheVariants.{Stripped, Numbered as OfNumbered}
+use Rattle.raw_logs.specs.declared.healing.Changed.{Changed}
 use Rattle.raw_logs.specs.declared.numbering.Numbering.{Numbering}
 use Rattle.raw_logs.specs.declared.numbering.Numbering.TheVariants.{AsPrinted}
 use Rattle.raw_logs.specs.Counting.{no_counts, one_more_of}
 use Rattle.raw_logs.specs.Log.{Numbered, line_of, Each, with_change, changed, with_counted, counted_from, IsStripped}
 use Rattle.raw_logs.specs.Numbering.{IsRenumbered}
-use Rattle.raw_logs.specs.Stages.{IsMade}
+use Rattle.raw_logs.specs.Stages.{IsMade, AreWritten}
 use Rattle.raw_logs.proofs.Following.{not_both}
 use Rattle.raw_logs.proofs.PlainTexts.{plain_long}
 
@@ -74,11 +75,6 @@ made_more R sort texts made next counts more line change h r e f =
       count = f ∙ ap (with_counted sort change) h.count ∙ sym (counted_more sort no_counts h.changes change);
     }
 
--- the texts may be written otherwise
-pub made_turn : (R : Changing) (sort : Sort) (texts other made : List Numbered) (counts : Counts) → IsMade R sort texts made counts → texts ≡ other
-    → IsMade R sort other made counts
-made_turn R sort texts other made counts h e = subst (λ (x : List Numbered). IsMade R sort x made counts) e h
-
 -- a text is made plain
 pub plain_added : (number : ℕ) (text front end : List ℕ) (changes : Bool) (texts made next : List Numbered) (counts more : Counts)
     → IsMade IsStripped Stripped texts made counts → IsPlain text (front ++ end)
@@ -98,20 +94,37 @@ plain_added number text front end changes texts made next counts more h p c e f 
         made_more IsStripped Stripped texts made next counts more (line_of number text) (Some (front ++ end)) h (p, other) e
         (f ∙ ap (λ (b : Bool). if b then one_more_of Stripped counts else counts) (c ∙ ap not same))
 
-numbers_stay : (all : List Numbered) → IsMade (IsRenumbered AsPrinted) OfNumbered all all no_counts
-numbers_stay [] = made_none (IsRenumbered AsPrinted) OfNumbered [] no_counts refl refl
-numbers_stay (line ∷ all) =
-    let r = numbers_stay all in
+-- a text that is written is made plain and numbered
+pub written_added : (number : ℕ) (text front end : List ℕ) (old middle next : Changed) (texts : List Numbered) → AreWritten old texts
+    → IsPlain text (front ++ end)
+    → middle.plain ≡ (if not (eqb (length front + length end) (length text)) then one_more_of Stripped old.plain else old.plain)
+    → middle.lines ≡ old.lines → middle.numbered ≡ old.numbered → middle.numbering ≡ old.numbering
+    → ((plain : List Numbered) → IsMade (IsRenumbered middle.numbering) OfNumbered plain middle.lines middle.numbered
+    → IsMade (IsRenumbered middle.numbering) OfNumbered (plain ++ (line_of number (front ++ end) ∷ [])) next.lines next.numbered)
+    → next.plain ≡ middle.plain → next.numbering ≡ middle.numbering → AreWritten next (texts ++ (line_of number text ∷ []))
+written_added number text front end old middle next texts h p c l m n made q o =
     record {
-      changes = None ∷ r.changes;
-      each = ((λ other never. never), r.each);
-      is = ap (λ (x : List Numbered). line ∷ x) r.is;
-      count = r.count;
+      plain = h.plain ++ (line_of number (front ++ end) ∷ []);
+      made = plain_added number text front end (not (eqb (length front + length end) (length text))) texts h.plain
+          (h.plain ++ (line_of number (front ++ end) ∷ [])) old.plain next.plain h.made p refl refl (q ∙ c);
+      numbers = subst (λ (x : Numbering). IsMade (IsRenumbered x) OfNumbered (h.plain ++ (line_of number (front ++ end) ∷ [])) next.lines next.numbered) (sym o)
+          (made h.plain
+          (subst (λ (x : Numbering). IsMade (IsRenumbered x) OfNumbered h.plain middle.lines middle.numbered) (sym n)
+          (subst (λ (x : List Numbered). IsMade (IsRenumbered old.numbering) OfNumbered h.plain x middle.numbered) (sym l)
+          (subst (λ (x : Counts). IsMade (IsRenumbered old.numbering) OfNumbered h.plain old.lines x) (sym m) h.numbers))));
     }
 
--- a log whose numbers stay
-pub numbers_as : (numbering : Numbering) (all : List Numbered) (counts : Counts) → numbering ≡ AsPrinted → counts ≡ no_counts
-    → IsMade (IsRenumbered numbering) OfNumbered all all counts
-numbers_as numbering all counts e f =
-    subst (λ (x : Numbering). IsMade (IsRenumbered x) OfNumbered all all counts) (sym e)
-    (subst (λ (x : Counts). IsMade (IsRenumbered AsPrinted) OfNumbered all all x) (sym f) (numbers_stay all))
+-- no number changes as it is printed
+printed_as : (plain : List Numbered) (changes : List (Option (List ℕ))) → Each (IsRenumbered AsPrinted) plain changes → changed plain changes ≡ plain
+printed_as [] [] h = refl
+printed_as [] (c ∷ changes) h = absurd h
+printed_as (line ∷ plain) [] h = absurd h
+printed_as (line ∷ plain) (None ∷ changes) h = ap (λ (x : List Numbered). line ∷ x) (printed_as plain changes h.1)
+printed_as (line ∷ plain) (Some text ∷ changes) h = absurd h.0
+
+-- so the texts are the plain ones
+pub printed_plain : (made : Changed) (texts : List Numbered) (w : AreWritten made texts) → made.numbering ≡ AsPrinted → made.lines ≡ w.plain
+printed_plain made texts w e =
+    let n : IsMade (IsRenumbered AsPrinted) OfNumbered w.plain made.lines made.numbered =
+    subst (λ (x : Numbering). IsMade (IsRenumbered x) OfNumbered w.plain made.lines made.numbered) e w.numbers in
+    n.is ∙ printed_as w.plain n.changes n.each

@@ -89,7 +89,7 @@ kind_one line LeftIn (CutShort e) h g = absurd (whole_or_broken line e h g)
 kind_one line LeftIn LeftIn h g = refl
 
 -- a text is made plain in one way
-stripped_one : (line : Numbered) (a b : Option (List ℕ)) → IsStripped line a → IsStripped line b → a ≡ b
+pub stripped_one : (line : Numbered) (a b : Option (List ℕ)) → IsStripped line a → IsStripped line b → a ≡ b
 stripped_one line None None h g = refl
 stripped_one line None (Some q) h g = absurd (g.1 (plain_same line.text q line.text g.0 h))
 stripped_one line (Some p) None h g = absurd (h.1 (plain_same line.text p line.text h.0 g))

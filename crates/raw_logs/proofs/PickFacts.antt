@@ -1,6 +1,6 @@
 -- What is picked of lines, one line more at a time, from the last one on; and the lines that are written, from the
 -- first one on.
-use Rattle.std.proofs.Common.{◌≡◌, ℕ, zero, suc, ◌+◌, ◌<◌, ◌≤◌, List, [], ◌∷◌, ◌++◌, length, drop, get_or, Bool, true, false, refl, sym, ap, subst, ◌∙◌, arith}
+use Rattle.std.proofs.Common.{◌≡◌, ◌≢◌, append_assoc, ℕ, zero, suc, ◌+◌, ◌<◌, ◌≤◌, List, [], ◌∷◌, ◌++◌, length, drop, get_or, Bool, true, false, refl, sym, ap, subst, ◌∙◌, arith}
 use Rattle.std.proofs.lemmas.List.{drop_all, append-nil}
 use Rattle.std.specs.Prelude.{if◌then◌else◌}
 use Rattle.std.proofs.lemmas.List.Elements.{All-append, All-cons, All-nil}
@@ -9,7 +9,7 @@ use Rattle.raw_logs.specs.declared.told.Form.{Form}
 use Rattle.raw_logs.specs.declared.told.Form.TheVariants.{Blank, Unknown, Long, TooLong, Whole}
 use Rattle.raw_logs.specs.declared.told.Told.{Told}
 use Rattle.raw_logs.specs.Choosing.{Picked, with_line, picked}
-use Rattle.raw_logs.specs.Log.{Numbered, line_of}
+use Rattle.raw_logs.specs.Log.{Numbered}
 use Rattle.raw_logs.specs.Stages.{seen, written, keeps, kept, kept_from, HasPicked, AreShort}
 use Rattle.raw_logs.specs.Told.{IsForm, Tells, AreTold, all_told, line_told}
 use Rattle.raw_logs.proofs.ToldFacts.{tells_one}
@@ -26,11 +26,15 @@ whole_short text told h e = by told.form h.3 e
     by Whole f e = f.2
 
 -- so lines with it are short
-pub short_behind : (lines next : List Numbered) (number : ℕ) (text : List ℕ) (told : Told) → Tells text told → told.form ≡ Whole → AreShort lines
-    → next ≡ lines ++ (line_of number text ∷ []) → AreShort next
-short_behind lines next number text told t w h e =
+pub short_behind : (lines next : List Numbered) (line : Numbered) (told : Told) → Tells line.text told → told.form ≡ Whole → AreShort lines
+    → next ≡ lines ++ (line ∷ []) → AreShort next
+short_behind lines next line told t w h e =
     let P : Numbered → Type 0 = (λ (x : Numbered). length x.text ≤ 65535) in
-    subst AreShort (sym e) (All-append P lines (line_of number text ∷ []) h (All-cons P (line_of number text) [] (whole_short text told t w) (All-nil P)))
+    subst AreShort (sym e) (All-append P lines (line ∷ []) h (All-cons P line [] (whole_short line.text told t w) (All-nil P)))
+
+-- no line is too long
+pub none_short : (lines : List Numbered) → lines ≡ [] → AreShort lines
+none_short lines e = subst AreShort (sym e) (All-nil (λ (x : Numbered). length x.text ≤ 65535))
 
 -- what the line at a place tells is told there
 pub told_at : (lines : List Numbered) (tolds : List Told) (place : ℕ) (line : Numbered) (told : Told) → AreTold lines tolds → place < length lines
@@ -120,6 +124,37 @@ kept_more here_of lines done next whole tolds place line told here h dl dt e add
     ∙ ap (λ (b : Bool). done ++ written (keeps told.form b) line (kept_from here_of (place + 1) lines tolds)) e
     ∙ ap (λ (x : List Told). done ++ kept here_of place (line ∷ drop (place + 1) lines) x) (sym dt)
     ∙ ap (λ (x : List Numbered). done ++ kept here_of place x (drop place tolds)) (sym dl) ∙ h
+
+-- a line that is taken as it is, of the space, is kept, and another isn't
+pub keeps_whole : (form : Form) (here : Bool) → form ≡ Whole → here ≡ true → keeps form here ≡ true
+keeps_whole form here e f = ap (λ (x : Form). keeps x here) e ∙ f
+
+pub keeps_none : (form : Form) (here : Bool) → ¬ ((form ≡ Whole) × (here ≡ true)) → keeps form here ≡ false
+keeps_none Blank here n = refl
+keeps_none Unknown here n = refl
+keeps_none Long here n = refl
+keeps_none TooLong here n = refl
+keeps_none Whole true n = absurd (n (refl, refl))
+keeps_none Whole false n = refl
+
+-- so what is kept has it behind
+pub passed_kept : (old new : List Numbered) (line : Numbered) (rest : List Numbered) (is : Bool) → is ≡ true → new ≡ old ++ (line ∷ [])
+    → new ++ rest ≡ old ++ written is line rest
+passed_kept old new line rest is e f =
+    ap (λ (x : List Numbered). x ++ rest) f ∙ append_assoc old (line ∷ []) rest ∙ ap (λ (b : Bool). old ++ written b line rest) (sym e)
+
+pub passed_skipped : (old new : List Numbered) (line : Numbered) (rest : List Numbered) (is : Bool) → is ≡ false → new ≡ old
+    → new ++ rest ≡ old ++ written is line rest
+passed_skipped old new line rest is e f = ap (λ (x : List Numbered). x ++ rest) f ∙ ap (λ (b : Bool). old ++ written b line rest) (sym e)
+
+-- a list with a line isn't empty
+pub some_left : (lines : List Numbered) (line : Numbered) (more : List Numbered) → lines ≡ line ∷ more → lines ≢ []
+some_left lines line more e none = absurd cc
+
+-- and one that isn't empty has one
+pub left_line : (lines : List Numbered) → lines ≢ [] → (line : Numbered) × (more : List Numbered) × (lines ≡ line ∷ more)
+left_line [] n = absurd (n refl)
+left_line (line ∷ more) n = (line, more, refl)
 
 -- no line is left
 pub kept_all : (here_of : ℕ → Told → Bool) (lines done whole : List Numbered) (tolds : List Told) (place : ℕ) → length lines ≤ place

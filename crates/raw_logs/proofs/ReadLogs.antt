@@ -6,20 +6,23 @@ use Rattle.raw_logs.specs.declared.spaces.Made.{Made}
 use Rattle.line_parts.specs.Lines.{lines_of}
 use Rattle.raw_logs.specs.declared.choosing.Picker.{Picker}
 use Rattle.raw_logs.specs.declared.counts.Counts.{Counts}
-use Rattle.raw_logs.specs.declared.counts.Sort.TheVariants.{Stripped, Numbered as OfNumbered}
+use Rattle.raw_logs.specs.declared.counts.Sort.TheVariants.{Stripped}
 use Rattle.raw_logs.specs.declared.healing.Healer.{Healer}
 use Rattle.raw_logs.specs.declared.fault.LogFault.{LogFault}
 use Rattle.raw_logs.specs.declared.fault.LogFault.TheVariants.{NoProcess}
 use Rattle.raw_logs.specs.declared.numbering.Numbering.{Numbering}
+use Rattle.raw_logs.specs.declared.numbering.Numbering.TheVariants.{AsPrinted}
 use Rattle.raw_logs.specs.declared.told.Told.{Told}
-use Rattle.raw_logs.specs.Choosing.{Picked, picked, with_silent, picked_of, fault_of, long_fault}
+use Rattle.raw_logs.specs.Choosing.{Picked, picked, with_numbers, picked_of, fault_of, long_fault}
 use Rattle.raw_logs.specs.Counting.{within_32_bits, both}
-use Rattle.raw_logs.specs.Log.{Numbered, texts_of, IsLog, Each, Healed, healed, changed, count_changes, IsStripped}
+use Rattle.raw_logs.specs.Log.{Numbered, texts_of, IsLog, IsKind, Each, Healed, healed, changed, count_changes, IsStripped}
 use Rattle.raw_logs.specs.Numbering.{IsNumbering, IsRenumbered}
 use Rattle.raw_logs.specs.Reading.{IsNumberedLog, IsRead, EndsCut}
-use Rattle.raw_logs.specs.Stages.{part_of, IsMade, Takes, seen}
-use Rattle.raw_logs.specs.Spaces.{made_from, has_line, silent}
+use Rattle.raw_logs.specs.Stages.{part_of, Takes, seen}
+use Rattle.raw_logs.specs.Spaces.{made_from, has_line, silent, unmade}
 use Rattle.raw_logs.specs.Told.{AreTold}
+use Rattle.raw_logs.proofs.MadeLines.{each_one, printed_plain}
+use Rattle.raw_logs.proofs.OneLog.{kind_one, stripped_one}
 use Rattle.raw_logs.proofs.ToldFacts.{told_length}
 
 -- ---- the stages of the reading
@@ -39,33 +42,52 @@ ends_cut bytes whole cut healer ends log t none some_left =
       some_left = λ e f. some_left e (sym left ∙ f);
     }
 
+-- what the lines of a log are written as has one plain form
+pub plain_one : (a b : Healer) (lines : List (List ℕ)) (t : Takes a lines) (u : Takes b lines) → t.written.plain ≡ u.written.plain
+plain_one a b lines t u =
+    let kinds : t.kinds ≡ u.kinds = each_one IsKind kind_one lines t.kinds u.kinds t.of_kinds u.of_kinds in
+    let texts : t.texts ≡ u.texts = ap (λ (x : Healed). x.texts) (sym t.is ∙ ap (healed lines) kinds ∙ u.is) in
+    let m = t.written.made in
+    let n = u.written.made in
+    let each : Each IsStripped u.texts m.changes = subst (λ (x : List Numbered). Each IsStripped x m.changes) texts m.each in
+    let changes : m.changes ≡ n.changes = each_one IsStripped stripped_one u.texts m.changes n.changes each n.each in
+    m.is ∙ ap (λ (x : List Numbered). changed x m.changes) texts ∙ ap (changed u.texts) changes ∙ sym n.is
+
+-- how a log is numbered follows from a first reading
+pub numbered_by : (a b : Healer) (lines : List (List ℕ)) (numbering : Numbering) → Takes a lines → a.written.numbering ≡ AsPrinted
+    → IsNumbering lines (texts_of a.written.lines) numbering → (u : Takes b lines) → b.written.numbering ≡ numbering
+    → IsNumbering lines (texts_of u.written.plain) b.written.numbering
+numbered_by a b lines numbering t e n u f =
+    subst (IsNumbering lines (texts_of u.written.plain)) (sym f)
+    (subst (λ (x : List Numbered). IsNumbering lines (texts_of x) numbering) (printed_plain a.written t.texts t.written e ∙ plain_one a b lines t u) n)
+
 -- what the stages make of a log
-pub numbered_log : (bytes whole cut : List ℕ) (healer : Healer) (renumbered counts : Counts) (numbering : Numbering) (lines : List Numbered)
-    → IsLog bytes (lines_of whole) cut → Takes healer (lines_of whole) → IsNumbering (lines_of whole) (texts_of healer.plain.lines) numbering
-    → IsMade (IsRenumbered numbering) OfNumbered healer.plain.lines lines renumbered
-    → counts ≡ both healer.counts (both healer.plain.counts renumbered) → IsNumberedLog bytes lines counts
-numbered_log bytes whole cut healer renumbered counts numbering lines log t numbered n sum =
+pub numbered_log : (bytes whole cut : List ℕ) (healer : Healer) (counts : Counts) → IsLog bytes (lines_of whole) cut
+    → (t : Takes healer (lines_of whole)) → IsNumbering (lines_of whole) (texts_of t.written.plain) healer.written.numbering
+    → counts ≡ both healer.counts (both healer.written.plain healer.written.numbered) → IsNumberedLog bytes healer.written.lines counts
+numbered_log bytes whole cut healer counts log t numbered sum =
     let h = healed (lines_of whole) t.kinds in
+    let m = t.written.made in
+    let n = t.written.numbers in
     let texts : h.texts ≡ t.texts = ap (λ (x : Healed). x.texts) t.is in
     let left : h.counts ≡ healer.counts = ap (λ (x : Healed). x.counts) t.is in
-    let plains : healer.plain.lines ≡ changed h.texts t.plain.changes =
-    t.plain.is ∙ ap (λ (x : List Numbered). changed x t.plain.changes) (sym texts) in
+    let plains : t.written.plain ≡ changed h.texts m.changes = m.is ∙ ap (λ (x : List Numbered). changed x m.changes) (sym texts) in
     record {
       lines = lines_of whole;
       cut = cut;
       log = log;
       kinds = t.kinds;
       of_kinds = t.of_kinds;
-      stripped = t.plain.changes;
-      plain = subst (λ (x : List Numbered). Each IsStripped x t.plain.changes) (sym texts) t.plain.each;
-      numbering = numbering;
-      numbered = subst (λ (x : List Numbered). IsNumbering (lines_of whole) (texts_of x) numbering) plains numbered;
+      stripped = m.changes;
+      plain = subst (λ (x : List Numbered). Each IsStripped x m.changes) (sym texts) m.each;
+      numbering = healer.written.numbering;
+      numbered = subst (λ (x : List Numbered). IsNumbering (lines_of whole) (texts_of x) healer.written.numbering) plains numbered;
       renumbered = n.changes;
-      numbers = subst (λ (x : List Numbered). Each (IsRenumbered numbering) x n.changes) plains n.each;
+      numbers = subst (λ (x : List Numbered). Each (IsRenumbered healer.written.numbering) x n.changes) plains n.each;
       is = n.is ∙ ap (λ (x : List Numbered). changed x n.changes) plains;
-      sum = sum ∙ ap (λ (x : Counts). both x (both healer.plain.counts renumbered)) (sym left)
-          ∙ ap (λ (x : Counts). both h.counts (both x renumbered)) t.plain.count
-          ∙ ap (λ (x : Counts). both h.counts (both (count_changes Stripped t.plain.changes) x)) n.count;
+      sum = sum ∙ ap (λ (x : Counts). both x (both healer.written.plain healer.written.numbered)) (sym left)
+          ∙ ap (λ (x : Counts). both h.counts (both x healer.written.numbered)) m.count
+          ∙ ap (λ (x : Counts). both h.counts (both (count_changes Stripped m.changes) x)) n.count;
     }
 
 -- what was picked, with the counts of the stages before
@@ -89,15 +111,18 @@ read_so process bytes lines kept before picker fault n tolds told is f =
     }
 
 -- what is picked by who made whom is what is picked of a log
-pub pick_is : (process : Option ℕ) (lines : List Numbered) (made : List Made) (count without : ℕ) (old new : Picked) (tolds : List Told)
+pub pick_is : (process : Option ℕ) (lines : List Numbered) (made : List Made) (count without others : ℕ) (old new : Picked) (tolds : List Told)
     → AreTold lines tolds → made ≡ made_from 0 tolds → count ≡ length lines
     → old ≡ picked (has_line process made count) 0 lines tolds → without ≡ within_32_bits (silent made tolds)
-    → new ≡ with_silent without old → (x : List Told) × AreTold lines x × (new ≡ picked_of process lines x)
-pick_is process lines made count without old new tolds t m n h k e = (
+    → others ≡ within_32_bits (unmade made tolds) → new ≡ with_numbers without others old
+    → (x : List Told) × AreTold lines x × (new ≡ picked_of process lines x)
+pick_is process lines made count without others old new tolds t m n h k u e = (
   tolds,
   t,
-  e ∙ ap (λ (x : ℕ). with_silent x old) (k ∙ ap (λ (x : List Made). within_32_bits (silent x tolds)) m)
-      ∙ ap (with_silent (within_32_bits (silent (made_from 0 tolds) tolds)))
+  e ∙ ap (λ (x : ℕ). with_numbers x others old) (k ∙ ap (λ (x : List Made). within_32_bits (silent x tolds)) m)
+      ∙ ap (λ (x : ℕ). with_numbers (within_32_bits (silent (made_from 0 tolds) tolds)) x old)
+      (u ∙ ap (λ (x : List Made). within_32_bits (unmade x tolds)) m)
+      ∙ ap (with_numbers (within_32_bits (silent (made_from 0 tolds) tolds)) (within_32_bits (unmade (made_from 0 tolds) tolds)))
       (h ∙ ap (λ (x : List Made). picked (has_line process x count) 0 lines tolds) m
       ∙ ap (λ (x : ℕ). picked (has_line process (made_from 0 tolds) x) 0 lines tolds)
       (n ∙ sym (told_length lines tolds t))),

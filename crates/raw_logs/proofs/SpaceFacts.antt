@@ -16,9 +16,9 @@ use Rattle.raw_logs.specs.declared.spaces.Makers.{Makers}
 use Rattle.raw_logs.specs.declared.spaces.Space.{Space}
 use Rattle.raw_logs.specs.declared.told.Told.{Told}
 use Rattle.raw_logs.specs.Log.{Numbered}
-use Rattle.raw_logs.specs.Spaces.{ends, ended_by, link_of, led, space_of, before_by, before_in, speaks, silent}
-use Rattle.raw_logs.specs.Stages.{HasMade, space_or, space_in, HasSpaces, IsPast, or_else, HasSpeakers}
-use Rattle.raw_logs.specs.Told.{Tells, line_told}
+use Rattle.raw_logs.specs.Spaces.{ends, ended_by, link_of, led, space_of, before_by, before_in, speaks, silent, is_made, is_known, unmade}
+use Rattle.raw_logs.specs.Stages.{HasMade, space_or, space_in, HasSpaces, IsPast, or_else, HasSpeakers, HasKnown}
+use Rattle.raw_logs.specs.Told.{Tells, AreTold, all_told, line_told}
 use Rattle.raw_logs.proofs.ToldFacts.{tells_one}
 
 not_same : (p q : ℕ) → eqb p q ≡ false → q ≢ p
@@ -175,6 +175,83 @@ pub speakers_more : (old new : BTreeSet ℕ) (line : Numbered) (done : List Numb
 speakers_more old new line done told tells h put ts (line_told {told = t} {tolds = us} tell more) q =
     put q ∙ ap (λ (b : Bool). if told.pid == q then true else b) (h us more q)
     ∙ ap (λ (x : Told). if x.pid == q then true else speaks q us) (tells_one line.text told t tells tell)
+
+-- ---- numbers that no link made
+
+swapped : (a b x : Bool) → (if a then true else if b then true else x) ≡ (if b then true else if a then true else x)
+swapped true true x = refl
+swapped true false x = refl
+swapped false true x = refl
+swapped false false x = refl
+
+-- no number but 0 is known
+pub known_none : (old new : BTreeSet ℕ) → ((q : ℕ) → contains nat_cmp old q ≡ false)
+    → ((q : ℕ) → contains nat_cmp new q ≡ (if 0 == q then true else contains nat_cmp old q)) → HasKnown new [] []
+known_none old new none put q = put q ∙ ap (λ (b : Bool). if 0 == q then true else b) (none q)
+
+-- a link more
+pub known_made : (old new : BTreeSet ℕ) (link : Made) (done : List Made) → HasKnown old done []
+    → ((q : ℕ) → contains nat_cmp new q ≡ (if link.child == q then true else contains nat_cmp old q)) → HasKnown new (link ∷ done) []
+known_made old new link done h put q =
+    put q ∙ ap (λ (b : Bool). if link.child == q then true else b) (h q) ∙ swapped (link.child == q) (0 == q) (is_made q done)
+
+-- a line more
+pub known_more : (old new : BTreeSet ℕ) (made : List Made) (told : Told) (tolds : List Told) → HasKnown old made tolds
+    → ((q : ℕ) → contains nat_cmp new q ≡ (if told.pid == q then true else contains nat_cmp old q)) → HasKnown new made (told ∷ tolds)
+known_more old new made told tolds h put q =
+    put q ∙ ap (λ (b : Bool). if told.pid == q then true else b) (h q) ∙ by (told.pid == q) (0 == q) (speaks q tolds) (is_made q made)
+  where
+    by : (a z s m : Bool) → (if a then true else if z then true else if s then true else m) ≡ (if z then true else if (if a then true else s) then true else m)
+    by true true s m = refl
+    by true false s m = refl
+    by false true s m = refl
+    by false false s m = refl
+
+-- a line more, whose number is known
+pub known_same : (old : BTreeSet ℕ) (made : List Made) (told : Told) (tolds : List Told) → HasKnown old made tolds
+    → contains nat_cmp old told.pid ≡ true → HasKnown old made (told ∷ tolds)
+known_same old made told tolds h is = known_more old old made told tolds h (λ q. by q (eqb told.pid q) refl)
+  where
+    by : (q : ℕ) (b : Bool) → eqb told.pid q ≡ b → contains nat_cmp old q ≡ (if told.pid == q then true else contains nat_cmp old q)
+    by q true e = rw e (subst (λ (x : ℕ). contains nat_cmp old x ≡ true) (eqb-true told.pid q e) is)
+    by q false e = rw e refl
+
+-- so they are as many
+pub unmade_same : (old : BTreeSet ℕ) (made : List Made) (told : Told) (tolds : List Told) (count : ℕ) → HasKnown old made tolds
+    → count ≡ within_32_bits (unmade made tolds) → contains nat_cmp old told.pid ≡ true → count ≡ within_32_bits (unmade made (told ∷ tolds))
+unmade_same old made told tolds count k h e =
+    h ∙ sym (ap (λ (b : Bool). within_32_bits (if b then unmade made tolds else unmade made tolds + 1)) (sym (k told.pid) ∙ e))
+
+-- a line of another number
+pub unmade_more : (old : BTreeSet ℕ) (made : List Made) (told : Told) (tolds : List Told) (count new : ℕ) → HasKnown old made tolds
+    → count ≡ within_32_bits (unmade made tolds) → new ≡ within_32_bits (count + 1) → contains nat_cmp old told.pid ≡ false
+    → new ≡ within_32_bits (unmade made (told ∷ tolds))
+unmade_more old made told tolds count new k h n e =
+    n ∙ ap (λ (x : ℕ). within_32_bits (x + 1)) h ∙ still (unmade made tolds)
+    ∙ sym (ap (λ (b : Bool). within_32_bits (if b then unmade made tolds else unmade made tolds + 1)) (sym (k told.pid) ∙ e))
+  where
+    still : (a : ℕ) → within_32_bits (within_32_bits a + 1) ≡ within_32_bits (a + 1)
+    still a = omega arith
+
+-- no line was looked at
+pub unmade_none : (known : BTreeSet ℕ) (made : List Made) (lines : List Numbered) (count : ℕ) → lines ≡ [] → HasKnown known made [] → count ≡ 0
+    → (tolds : List Told) → AreTold lines tolds → HasKnown known made tolds × (count ≡ within_32_bits (unmade made tolds))
+unmade_none known made lines count e k z tolds h = by tolds (subst (λ (x : List Numbered). AreTold x tolds) e h)
+  where
+    by : (tolds : List Told) → AreTold [] tolds → HasKnown known made tolds × (count ≡ within_32_bits (unmade made tolds))
+    by tolds all_told = (k, omega (arith, z))
+
+-- a line more
+pub unmade_step : (old new : BTreeSet ℕ) (made : List Made) (line : Numbered) (done : List Numbered) (told : Told) (count next : ℕ) → Tells line.text told
+    → ((tolds : List Told) → AreTold done tolds → HasKnown old made tolds × (count ≡ within_32_bits (unmade made tolds)))
+    → ((all : List Made) (tolds : List Told) → HasKnown old all tolds → HasKnown new all (told ∷ tolds))
+    → ((all : List Made) (tolds : List Told) → HasKnown old all tolds → count ≡ within_32_bits (unmade all tolds)
+    → next ≡ within_32_bits (unmade all (told ∷ tolds)))
+    → (tolds : List Told) → AreTold (line ∷ done) tolds → HasKnown new made tolds × (next ≡ within_32_bits (unmade made tolds))
+unmade_step old new made line done told count next tells h k n ts (line_told {told = t} {tolds = us} tell more) =
+    let s = h us more in
+    subst (λ (x : Told). HasKnown new made (x ∷ us) × (next ≡ within_32_bits (unmade made (x ∷ us)))) (tells_one line.text told t tells tell)
+    (k made us s.0, n made us s.0 s.1)
 
 -- a link more, whose number has a line
 pub silent_same : (link : Made) (done : List Made) (tolds : List Told) (count : ℕ) → count ≡ within_32_bits (silent done tolds)

@@ -1,7 +1,8 @@
 -- How texts stand in one buffer: each behind the one before it, up to its end. It ties the type of the code to the list
 -- of numbered texts that contracts see.
-use Rattle.std.specs.Prelude.{◌≡◌, ℕ, zero, suc, ◌≤◌, ◌-◌, List, [], ◌∷◌, take, drop}
+use Rattle.std.specs.Prelude.{◌≡◌, ℕ, zero, suc, ◌≤◌, ◌-◌, List, [], ◌∷◌, length, take, drop}
 use Rattle.raw_logs.specs.declared.lines.End.{End}
+use Rattle.raw_logs.specs.declared.lines.Sieve.{Sieve}
 use Rattle.raw_logs.specs.Log.{Numbered, line_of}
 
 -- the texts of a buffer, from this byte on
@@ -19,3 +20,21 @@ abbrev pub start_at : ℕ → List End → ℕ → ℕ
 start_at from [] place = from
 start_at from (end ∷ ends) zero = from
 start_at from (end ∷ ends) (suc place) = start_at end.behind ends place
+
+-- ---- texts of which some are kept
+
+-- those that were kept stand at the front of the buffer, and those that weren't looked at where they stood
+pub record IsSieve (sieve : Sieve) : Type 0 where
+  pub few : sieve.kept ≤ sieve.place
+  pub short : sieve.behind ≤ sieve.from
+  pub within : sieve.from ≤ length sieve.bytes.items
+  pub front : AreEnds 0 sieve.behind (take sieve.kept sieve.ends.items)
+  pub back : AreEnds sieve.from (length sieve.bytes.items) (drop sieve.place sieve.ends.items)
+
+-- the texts that were kept
+abbrev pub kept_in : Sieve → List Numbered
+kept_in sieve = cut_at 0 (take sieve.behind sieve.bytes.items) (take sieve.kept sieve.ends.items)
+
+-- the texts that weren't looked at
+abbrev pub rest_in : Sieve → List Numbered
+rest_in sieve = cut_at sieve.from sieve.bytes.items (drop sieve.place sieve.ends.items)

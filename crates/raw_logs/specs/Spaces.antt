@@ -2,7 +2,7 @@
 -- of clone(2) and its like tell which number is a thread of another, and which has an address space of its own; it
 -- begins with the areas of its maker, so the maker's lines up to there are of its past. What they don't tell isn't
 -- guessed: a number of which no line tells is of the program, and one whose flags aren't shown is taken for a thread.
-use Rattle.std.specs.Prelude.{ℕ, ◌+◌, List, [], ◌∷◌, ◌++◌, Option, Some, None, Bool, true, false, not, ◌==◌, nat_lt, if◌then◌else◌}
+use Rattle.std.specs.Prelude.{ℕ, ◌+◌, ◌-◌, List, [], ◌∷◌, ◌++◌, Option, Some, None, Bool, true, false, not, ◌==◌, nat_lt, if◌then◌else◌}
 use Rattle.raw_lines.specs.declared.makers.MadeAs.{MadeAs}
 use Rattle.raw_lines.specs.declared.makers.MadeAs.TheVariants.{Thread, Process, Untold}
 use Rattle.raw_lines.specs.declared.makers.Making.{Making}
@@ -95,3 +95,22 @@ speaks pid (told ∷ tolds) = if told.pid == pid then true else speaks pid tolds
 abbrev pub silent : List Made → List Told → ℕ
 silent [] tolds = 0
 silent (link ∷ earlier) tolds = if speaks link.child tolds then silent earlier tolds else silent earlier tolds + 1
+
+-- a link made the number
+abbrev pub is_made : ℕ → List Made → Bool
+is_made pid [] = false
+is_made pid (link ∷ earlier) = if link.child == pid then true else is_made pid earlier
+
+-- the number is no new one beside these lines: 0 stands where a line has none, and others speak there or were made
+abbrev pub is_known : ℕ → List Made → List Told → Bool
+is_known pid made tolds = if 0 == pid then true else if speaks pid tolds then true else is_made pid made
+
+-- how many numbers have lines and were made by no link
+abbrev pub unmade : List Made → List Told → ℕ
+unmade made [] = 0
+unmade made (told ∷ tolds) = if is_known told.pid made tolds then unmade made tolds else unmade made tolds + 1
+
+-- One of these is the program's own. Where numbers that were made have no line, the others may be the same processes in
+-- another numbering.
+abbrev pub foreign : ℕ → ℕ → ℕ
+foreign silent unmade = if silent == 0 then 0 else unmade - 1

@@ -1,6 +1,6 @@
 -- What the private functions of this crate say of what they hold: lines as numbered texts, what was read of a log so
 -- far, and what was found of spaces. It ties the code to the other definitions, which speak of texts.
-use Rattle.std.specs.Prelude.{All, ◌≤◌, ◌≡◌, ℕ, ◌+◌, List, [], ◌∷◌, ◌++◌, length, drop, Option, Some, None, option_map, Bool, true, false, if◌then◌else◌}
+use Rattle.std.specs.Prelude.{All, ◌≤◌, ◌≡◌, ℕ, ◌+◌, List, [], ◌∷◌, length, drop, Option, Some, None, option_map, Bool, true, false, if◌then◌else◌}
 use Rattle.std.specs.BTreeMap.{BTreeMap, get}
 use Rattle.std.specs.BTreeSet.{BTreeSet, contains}
 use Rattle.std.specs.Ordering.{nat_cmp}
@@ -8,7 +8,8 @@ use Rattle.strace_reader.specs.Grammar.{IsBracketed}
 use Rattle.raw_logs.specs.declared.choosing.Picker.{Picker}
 use Rattle.raw_logs.specs.declared.counts.Counts.{Counts}
 use Rattle.raw_logs.specs.declared.counts.Sort.{Sort}
-use Rattle.raw_logs.specs.declared.counts.Sort.TheVariants.{Stripped}
+use Rattle.raw_logs.specs.declared.counts.Sort.TheVariants.{Stripped, Numbered as OfNumbered}
+use Rattle.raw_logs.specs.declared.healing.Changed.{Changed}
 use Rattle.raw_logs.specs.declared.healing.Healer.{Healer}
 use Rattle.raw_logs.specs.declared.healing.Part.{Part}
 use Rattle.raw_logs.specs.declared.spaces.Chooser.{Chooser}
@@ -20,7 +21,8 @@ use Rattle.raw_logs.specs.declared.told.Form.TheVariants.{Blank, Unknown, Long, 
 use Rattle.raw_logs.specs.declared.told.Told.{Told}
 use Rattle.raw_logs.specs.Choosing.{Picked, picked}
 use Rattle.raw_logs.specs.Log.{Numbered, line_of, LineKind, IsKind, Each, healed, changed, count_changes, IsStripped}
-use Rattle.raw_logs.specs.Spaces.{made_from, ended_by, space_of, before_in, speaks}
+use Rattle.raw_logs.specs.Numbering.{IsRenumbered}
+use Rattle.raw_logs.specs.Spaces.{made_from, ended_by, space_of, before_in, speaks, is_known}
 use Rattle.raw_logs.specs.Told.{AreTold}
 
 -- no text is longer than a line may be
@@ -44,13 +46,19 @@ pub record IsMade (R : Numbered → Option (List ℕ) → Type 0) (sort : Sort) 
   pub is : made ≡ changed texts changes
   pub count : counts ≡ count_changes sort changes
 
--- these lines were read, and their texts made plain
+-- these texts are written so: made plain, and with their numbers
+pub record AreWritten (changed : Changed) (texts : List Numbered) : Type 0 where
+  pub plain : List Numbered
+  pub made : IsMade IsStripped Stripped texts plain changed.plain
+  pub numbers : IsMade (IsRenumbered changed.numbering) OfNumbered plain changed.lines changed.numbered
+
+-- these lines were read, and their texts are written
 pub record Takes (healer : Healer) (lines : List (List ℕ)) : Type 0 where
   pub kinds : List LineKind
   pub of_kinds : Each IsKind lines kinds
   pub texts : List Numbered
   pub is : healed lines kinds ≡ record { texts = texts; part = part_of healer; counts = healer.counts }
-  pub plain : IsMade IsStripped Stripped texts healer.plain.lines healer.plain.counts
+  pub written : AreWritten healer.written texts
 
 -- ---- numbers
 
@@ -101,6 +109,10 @@ IsPastOf (Some asked) made count (Some past) = IsPast past made asked count
 pub record IsChooser (process : Option ℕ) (made : List Made) (count : ℕ) (chooser : Chooser) : Type 0 where
   pub spaces : HasSpaces chooser.spaces made
   pub past : IsPastOf process made count chooser.past
+
+-- the set has 0, the numbers that links made, and those that have a line
+abbrev pub HasKnown : BTreeSet ℕ → List Made → List Told → Type 0
+HasKnown found made tolds = (q : ℕ) → contains nat_cmp found q ≡ is_known q made tolds
 
 -- the set has the numbers that have a line
 abbrev pub HasSpeakers : BTreeSet ℕ → List Numbered → Type 0

@@ -1,21 +1,21 @@
 //! Which lines of a log are written, and what is left out by its cause. `picked` in `specs/Choosing.antt` says it from
 //! the last line to the first, as lines are looked at here; they are taken from the first to the last, behind that.
 
-ghost use Rattle.std.specs.Prelude.{◌≡◌, ◌≤◌, ◌<◌, ◌^◌, ◌+◌, ◌++◌, ◌∷◌, ℕ, List, Option, Some, Bool, true, false, length, drop, if◌then◌else◌, IfOk, OnOk};
+ghost use Rattle.std.specs.Prelude.{◌≡◌, ◌≢◌, ◌≤◌, ◌<◌, ◌^◌, ◌+◌, ◌++◌, ◌∷◌, [], ℕ, List, Option, Some, Bool, true, false, length, drop, if◌then◌else◌};
+ghost use Rattle.raw_logs.specs.Buffer.{IsSieve, kept_in, rest_in};
 ghost use Rattle.raw_logs.specs.declared.told.Told.{Told as ToldOf};
 ghost use Rattle.raw_logs.specs.declared.spaces.Made.{Made as MadeOf};
 ghost use Rattle.raw_logs.specs.Log.{Numbered, line_of};
-ghost use Rattle.raw_logs.specs.Choosing.{execs, hides, with_own, with_line, with_silent};
+ghost use Rattle.raw_logs.specs.Choosing.{execs, hides, with_own, with_line, with_numbers};
 ghost use Rattle.raw_logs.specs.Spaces.{has_line};
 ghost use Rattle.raw_logs.specs.Told.{Tells, AreTold};
 ghost use Rattle.raw_logs.specs.Stages.{seen, written, keeps, kept_from, HasPicked, AreShort, IsChooser};
 
 use crate::counts::{Counts, Sort};
-use crate::lines::Lines;
-use crate::spaces::Chooser;
+use crate::lines::{Lines, Sieve};
+use crate::spaces::{Chooser, foreign};
 use crate::told::{Form, Told, told_of};
 use raw_lines::{MadeAs, Making};
-use std::alloc::{AllocError, Global};
 
 /// What was picked of the lines behind a place.
 #[derive(Clone, Copy)]
@@ -124,13 +124,14 @@ impl Picker {
     }
 }
 
-/// What was picked, with how many numbers were made that have no line.
-pub(crate) fn with_silent(picker: Picker, count: u32) -> Picker
-    ensures seen { (lines : List Numbered) → seen lines result ≡ with_silent count (seen lines picker) }
+/// What was picked, with how many numbers were made that have no line, and how many others have.
+pub(crate) fn with_numbers(picker: Picker, silent: u32, unmade: u32) -> Picker
+    ensures seen { (lines : List Numbered) → seen lines result ≡ with_numbers silent unmade (seen lines picker) }
     ensures start { result.start ≡ picker.start }
 {
     let mut picker = picker;
-    picker.counts.silent = count;
+    picker.counts.silent = silent;
+    picker.counts.foreign = foreign(silent, unmade);
     picker
 }
 
@@ -157,44 +158,41 @@ pub(crate) fn pick(lines: &Lines, chooser: &Chooser) -> Picker
     picker
 }
 
-/// Adds a line that may be written, where it is.
-fn add_kept(
-    kept: &mut Lines,
-    number: u32,
-    text: &[u8],
-    told: Told,
-    here: bool,
-) -> Result<(), AllocError>
-    ensures kept { OnOk result ((rest : List Numbered) → kept.new ++ rest ≡ kept.old ++ written (keeps told.form here) (line_of number text.now) rest) }
-    ensures few { OnOk result (length kept.new ≤ length kept.old + 1) }
-    ensures short { Tells text.now told → AreShort kept.old → OnOk result (AreShort kept.new) }
+/// Keeps the next line, where it is written.
+fn pass(sieve: &mut Sieve, told: Told, here: bool)
+    requires is { IsSieve sieve.old }
+    requires left { rest_in sieve.old ≢ [] }
+    ensures is { IsSieve sieve.new }
+    ensures kept { (line : Numbered) (more rest : List Numbered) → rest_in sieve.old ≡ line ∷ more
+        → kept_in sieve.new ++ rest ≡ kept_in sieve.old ++ written (keeps told.form here) line rest }
+    ensures rest { (line : Numbered) (more : List Numbered) → rest_in sieve.old ≡ line ∷ more → rest_in sieve.new ≡ more }
+    ensures few { length (kept_in sieve.new) ≤ length (kept_in sieve.old) + 1 }
+    ensures short { (line : Numbered) (more : List Numbered) → rest_in sieve.old ≡ line ∷ more → Tells line.text told
+        → AreShort (kept_in sieve.old) → AreShort (kept_in sieve.new) }
 {
     if told.form == Form::Whole && here {
-        kept.push(number, &[], &[], text)?;
+        sieve.keep();
+    } else {
+        sieve.skip();
     }
-    Ok(())
 }
 
 /// The lines that are written: from a place on all that may be.
-pub(crate) fn chosen(
-    alloc: Global,
-    lines: &Lines,
-    chooser: &Chooser,
-    start: u32,
-) -> Result<Lines, AllocError>
-    requires start { start ≤ length lines.now }
-    requires few { length lines.now < 2 ^ 32 }
+pub(crate) fn chosen(lines: Lines, chooser: &Chooser, start: u32) -> Lines
+    requires start { start ≤ length lines }
+    requires few { length lines < 2 ^ 32 }
     ensures kept { (process : Option ℕ) (made : List MadeOf) (count : ℕ) (tolds : List ToldOf) → IsChooser process made count chooser.now
-        → AreTold lines.now tolds → IfOk result (λ kept. kept ≡ kept_from (has_line process made count) start lines.now tolds) }
-    ensures few { IfOk result (λ kept. length kept ≤ length lines.now) }
-    ensures short { IfOk result AreShort }
+        → AreTold lines tolds → result ≡ kept_from (has_line process made count) start lines tolds }
+    ensures few { length result ≤ length lines }
+    ensures short { AreShort result }
 {
-    let mut kept = Lines::new(alloc);
-    'lines: for place in start..lines.len() as u32 {
-        let (number, text) = lines.at(place as usize);
+    let count = lines.len() as u32;
+    let mut sieve = Sieve::new(lines, start as usize);
+    'places: for place in start..count {
+        let (_, text) = sieve.next();
         let told = told_of(text);
         let here = chooser.has(place, told);
-        add_kept(&mut kept, number, text, told, here)?;
+        pass(&mut sieve, told, here);
     }
-    Ok(kept)
+    sieve.finish()
 }

@@ -59,6 +59,8 @@ pub struct Counts {
     pub untold: u32,
     /// Numbers that calls made and that have no line.
     pub silent: u32,
+    /// Numbers that have a line and that no call made, but for one, where there are silent ones.
+    pub foreign: u32,
     /// Calls in two halves.
     pub joined: u32,
     /// Calls that were mended.
@@ -96,6 +98,7 @@ impl Counts {
             long: 0,
             untold: 0,
             silent: 0,
+            foreign: 0,
             joined: 0,
             mended: 0,
             unreturned: 0,
@@ -141,6 +144,7 @@ impl Counts {
             long: self.long.saturating_add(other.long),
             untold: self.untold.saturating_add(other.untold),
             silent: self.silent.saturating_add(other.silent),
+            foreign: self.foreign.saturating_add(other.foreign),
             joined: self.joined.saturating_add(other.joined),
             mended: self.mended.saturating_add(other.mended),
             unreturned: self.unreturned.saturating_add(other.unreturned),

@@ -1,10 +1,10 @@
 //! The texts of a log with the numbers of their lines. They stand one behind the other in one buffer, since a line that
 //! a message broke, or that is given a number, stands nowhere in the log as it is; so a text takes its bytes and eight
-//! more. Contracts see them as a list of numbered texts.
+//! more. Contracts see them as a list of numbered texts. A sieve leaves texts out of them in their place.
 
-ghost use Rattle.std.specs.Prelude.{◌≡◌, ◌≤◌, ◌<◌, ◌+◌, ◌-◌, ◌^◌, ◌++◌, ◌∷◌, [], length, take, drop, get_or, OnOk};
-ghost use Rattle.raw_logs.specs.Log.{line_of};
-ghost use Rattle.raw_logs.specs.Buffer.{cut_at, AreEnds, start_at};
+ghost use Rattle.std.specs.Prelude.{◌≡◌, ◌≢◌, ◌≤◌, ◌<◌, ◌+◌, ◌-◌, ◌^◌, ◌++◌, ◌∷◌, [], List, length, take, drop, get_or, OnOk};
+ghost use Rattle.raw_logs.specs.Log.{Numbered, line_of};
+ghost use Rattle.raw_logs.specs.Buffer.{cut_at, AreEnds, start_at, IsSieve, kept_in, rest_in};
 
 use std::alloc::{AllocError, Global};
 use std::marker::Model;
@@ -143,5 +143,108 @@ impl Lines {
             return Err(AllocError);
         };
         Ok(())
+    }
+}
+
+/// Texts of which some are kept. They move to the front of their buffer, so that no other is needed.
+#[derive(Drop)]
+pub(crate) struct Sieve {
+    bytes: Vec<u8>,
+    ends: Vec<End>,
+    /// How many texts were kept.
+    kept: usize,
+    /// The place behind the last byte of these.
+    behind: u32,
+    /// How many texts were looked at.
+    place: usize,
+    /// The place of the first byte behind these.
+    from: u32,
+}
+
+impl Sieve {
+    /// The texts from a place on; none was looked at.
+    pub(crate) fn new(lines: Lines, start: usize) -> Sieve
+        requires { start ≤ length lines }
+        ensures is { IsSieve result }
+        ensures kept { kept_in result ≡ [] }
+        ensures rest { rest_in result ≡ drop start lines }
+    {
+        let Lines { bytes, ends } = lines;
+        let from = start_of(ends.as_slice(), start);
+        Sieve {
+            bytes,
+            ends,
+            kept: 0,
+            behind: 0,
+            place: start,
+            from,
+        }
+    }
+
+    /// The next text, with its number.
+    pub(crate) fn next(&self) -> (u32, &[u8])
+        requires is { IsSieve self.now }
+        requires left { rest_in self.now ≢ [] }
+        ensures { (line : Numbered) (more : List Numbered) → rest_in self.now ≡ line ∷ more → line ≡ line_of result.0 result.1.now }
+    {
+        let end = self.ends[self.place];
+        (
+            end.number,
+            between(self.bytes.as_slice(), self.from, end.behind),
+        )
+    }
+
+    /// Leaves the next text out.
+    pub(crate) fn skip(&mut self)
+        requires is { IsSieve self.old }
+        requires left { rest_in self.old ≢ [] }
+        ensures is { IsSieve self.new }
+        ensures kept { kept_in self.new ≡ kept_in self.old }
+        ensures rest { (line : Numbered) (more : List Numbered) → rest_in self.old ≡ line ∷ more → rest_in self.new ≡ more }
+    {
+        let end = self.ends[self.place];
+        self.from = end.behind;
+        self.place += 1;
+    }
+
+    /// Keeps the next text.
+    pub(crate) fn keep(&mut self)
+        requires is { IsSieve self.old }
+        requires left { rest_in self.old ≢ [] }
+        ensures is { IsSieve self.new }
+        ensures kept { (line : Numbered) (more : List Numbered) → rest_in self.old ≡ line ∷ more → kept_in self.new ≡ kept_in self.old ++ (line ∷ []) }
+        ensures rest { (line : Numbered) (more : List Numbered) → rest_in self.old ≡ line ∷ more → rest_in self.new ≡ more }
+    {
+        let end = self.ends[self.place];
+        let behind = self.behind + (end.behind - self.from);
+        self.bytes.copy_within(
+            self.from as usize..end.behind as usize,
+            self.behind as usize,
+        );
+        self.ends[self.kept] = End {
+            number: end.number,
+            behind,
+        };
+        self.kept += 1;
+        self.behind = behind;
+        self.place += 1;
+        self.from = end.behind;
+    }
+
+    /// The texts that were kept.
+    pub(crate) fn finish(self) -> Lines
+        requires { IsSieve self }
+        ensures { result ≡ kept_in self }
+    {
+        let Sieve {
+            mut bytes,
+            mut ends,
+            kept,
+            behind,
+            ..
+        } = self;
+        bytes.truncate(behind as usize);
+        ends.truncate(kept);
+        Lines { bytes, ends }
     }
 }

@@ -5,18 +5,15 @@
 ghost use Rattle.std.specs.Prelude.{◌≡◌, ◌≢◌, ◌⊎◌, ◌↔◌, ◌≤◌, ◌+◌, ◌++◌, ℕ, List, [], ◌∷◌, length, Contains, MatchOption, Option, option_map, IfOk, IfSome, IsNone};
 ghost use Rattle.std.specs.Prelude.{OnOk};
 ghost use Rattle.raw_lines.specs.Marks.{IsUnread};
-ghost use Rattle.raw_logs.specs.Log.{Numbered, line_of, texts_of};
-ghost use Rattle.raw_logs.specs.declared.counts.Sort.TheVariants.{Numbered as OfNumbered};
+ghost use Rattle.raw_logs.specs.Log.{line_of, texts_of};
 ghost use Rattle.std.specs.Bool.{Decides};
 ghost use Rattle.line_parts.specs.Lines.{lines_of};
 ghost use Rattle.strace_reader.specs.Grammar.{IsBracketed};
 ghost use Rattle.raw_logs.specs.Numbering.{HasBrackets, HasNoNumber, IsBareCall, IsAttached, Gives, IsLater, IsStart, StartsAt, IsMixed, IsFirstThread};
 ghost use Rattle.raw_logs.specs.Numbering.{IsNumbering};
-ghost use Rattle.raw_logs.specs.Numbering.{IsRenumbered, ChangesNumber, with_number};
-ghost use Rattle.raw_logs.specs.Stages.{Has, EachLater, IsMade};
+ghost use Rattle.raw_logs.specs.Numbering.{ChangesNumber, with_number};
+ghost use Rattle.raw_logs.specs.Stages.{Has, EachLater};
 
-use crate::counts::{Counts, Sort};
-use crate::healing::Changed;
 use crate::lines::Lines;
 use line_parts::next_line;
 use raw_lines::{Making, is_of_profile, is_unread, number_end, told_by};
@@ -262,7 +259,7 @@ fn gets_number(text: &[u8]) -> bool
 }
 
 /// The number that is written before a text, and the text behind it, where its number changes.
-fn renumbered(first: Option<u32>, text: &[u8]) -> Option<(u32, &[u8])>
+pub(crate) fn renumbered(first: Option<u32>, text: &[u8]) -> Option<(u32, &[u8])>
     ensures { MatchOption result ((line : List ℕ) → ¬ ChangesNumber (Numbering.Plain first) text.now line)
         (λ x. ChangesNumber (Numbering.Plain first) text.now (with_number x.0 x.1.now)) }
 {
@@ -280,62 +277,15 @@ fn renumbered(first: Option<u32>, text: &[u8]) -> Option<(u32, &[u8])>
 }
 
 /// Adds a text with a number before it.
-fn push_with_number(lines: &mut Lines, number: u32, pid: u32, body: &[u8]) -> Result<(), AllocError>
+pub(crate) fn push_with_number(
+    lines: &mut Lines,
+    number: u32,
+    pid: u32,
+    body: &[u8],
+) -> Result<(), AllocError>
     ensures { OnOk result (lines.new ≡ lines.old ++ (line_of number (with_number pid body.now) ∷ [])) }
 {
     let mut buffer = itoa::Buffer::new();
     lines.push(number, buffer.format(pid).as_bytes(), b" ", body)?;
     Ok(())
-}
-
-/// Adds a text with its plain number to those that were made.
-fn add_numbered(
-    changed: &mut Changed,
-    number: u32,
-    text: &[u8],
-    first: Option<u32>,
-) -> Result<(), AllocError>
-    ensures made { OnOk result ((texts : List Numbered)
-        → IsMade (IsRenumbered (Numbering.Plain first)) OfNumbered texts changed.old.lines changed.old.counts
-        → IsMade (IsRenumbered (Numbering.Plain first)) OfNumbered (texts ++ (line_of number text.now ∷ [])) changed.new.lines changed.new.counts) }
-    ensures one { OnOk result (length changed.new.lines ≡ length changed.old.lines + 1) }
-{
-    let Some((pid, body)) = renumbered(first, text) else {
-        changed.lines.push(number, &[], &[], text)?;
-        return Ok(());
-    };
-    push_with_number(&mut changed.lines, number, pid, body)?;
-    changed.counts.add(Sort::Numbered);
-    Ok(())
-}
-
-/// The texts with plain numbers.
-fn number_all(alloc: Global, lines: &Lines, first: Option<u32>) -> Result<Changed, AllocError>
-    ensures numbers { IfOk result (λ changed. IsMade (IsRenumbered (Numbering.Plain first)) OfNumbered lines.now changed.lines changed.counts) }
-    ensures few { IfOk result (λ changed. length changed.lines ≡ length lines.now) }
-{
-    let mut changed = Changed::new(alloc);
-    'lines: for place in 0..lines.len() {
-        let (number, text) = lines.at(place);
-        add_numbered(&mut changed, number, text, first)?;
-    }
-    Ok(changed)
-}
-
-/// The texts with their numbers, and how many of them that changed.
-pub(crate) fn renumber(
-    alloc: Global,
-    lines: Lines,
-    numbering: Numbering,
-) -> Result<Changed, AllocError>
-    ensures numbers { IfOk result (λ changed. IsMade (IsRenumbered numbering) OfNumbered lines changed.lines changed.counts) }
-    ensures few { IfOk result (λ changed. length changed.lines ≡ length lines) }
-{
-    match numbering {
-        Numbering::AsPrinted => Ok(Changed {
-            lines,
-            counts: Counts::new(),
-        }),
-        Numbering::Plain(first) => number_all(alloc, &lines, first),
-    }
 }

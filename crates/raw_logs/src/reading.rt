@@ -13,13 +13,12 @@ ghost use Rattle.raw_logs.specs.Log.{Numbered};
 ghost use Rattle.raw_logs.specs.Stages.{part_line, AreShort, HasSpeakers, seen};
 ghost use Rattle.raw_logs.specs.Told.{AreTold};
 
-use crate::choosing::{Picker, chosen, pick, with_silent};
+use crate::choosing::{Picker, chosen, pick, with_numbers};
 use crate::counts::Counts;
 use crate::fault::LogFault;
-use crate::healing::{Changed, Part, heal, split_log};
+use crate::healing::{Changed, Part, heal_numbered, split_log};
 use crate::lines::Lines;
-use crate::numbering::{numbering_of, renumber};
-use crate::spaces::{all_made, chooser_of, silent, speakers};
+use crate::spaces::{all_made, chooser_of, silent, speakers, unmade};
 use std::alloc::{AllocError, Global};
 use std::collections::BTreeSet;
 
@@ -63,15 +62,18 @@ fn read_texts(alloc: Global, text: &[u8]) -> Result<NumberedLog, AllocError>
     ensures cut { IfOk result (λ found. EndsCut text.now found.ends_cut) }
 {
     let (whole, cut) = split_log(text);
-    let healer = heal(alloc, whole)?;
+    let healer = heal_numbered(alloc, whole)?;
     let ends_cut = ends_within(cut, &healer.part);
     let healed = healer.counts;
-    let Changed { lines, counts } = healer.plain;
-    let numbering = numbering_of(alloc, whole, &lines)?;
-    let numbered = renumber(alloc, lines, numbering)?;
+    let Changed {
+        lines,
+        plain,
+        numbered,
+        ..
+    } = healer.written;
     Ok(NumberedLog {
-        lines: numbered.lines,
-        counts: healed.with(counts.with(numbered.counts)),
+        lines,
+        counts: healed.with(plain.with(numbered)),
         ends_cut,
     })
 }
@@ -92,8 +94,13 @@ fn pick_lines(
     let count = lines.len() as u32;
     let made = all_made(alloc, &lines)?;
     let chooser = chooser_of(alloc, made.as_slice(), process, count)?;
-    let picker = with_silent(pick(&lines, &chooser), silent(made.as_slice(), speakers));
-    let kept = chosen(alloc, &lines, &chooser, picker.start)?;
+    let others = unmade(alloc, &lines, made.as_slice())?;
+    let picker = with_numbers(
+        pick(&lines, &chooser),
+        silent(made.as_slice(), speakers),
+        others,
+    );
+    let kept = chosen(lines, &chooser, picker.start);
     Ok((picker, kept))
 }
 

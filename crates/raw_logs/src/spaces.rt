@@ -2,17 +2,17 @@
 //! made whom, and whether as a thread; `specs/Spaces.antt` says what follows. A log is read from its end, so that the
 //! second half of a call is known where it began.
 
-ghost use Rattle.std.specs.Prelude.{◌≡◌, ◌+◌, ◌++◌, ◌∷◌, ℕ, List, Option, length, IfOk, OnOk};
+ghost use Rattle.std.specs.Prelude.{◌≡◌, ◌+◌, ◌++◌, ◌∷◌, [], ℕ, List, Option, length, IfOk, OnOk};
 ghost use Rattle.std.specs.BTreeMap.{get};
 ghost use Rattle.std.specs.BTreeSet.{contains};
 ghost use Rattle.std.specs.Ordering.{nat_cmp};
 ghost use Rattle.std.specs.Prelude.{◌≢◌, ◌<◌, ◌^◌, ◌==◌, Some, None, true, if◌then◌else◌};
 ghost use Rattle.raw_logs.specs.declared.spaces.Made.{Made as MadeOf};
 ghost use Rattle.raw_logs.specs.declared.told.Told.{Told as ToldOf};
-ghost use Rattle.raw_logs.specs.Spaces.{links, made_from, led, has_line, speaks, silent};
+ghost use Rattle.raw_logs.specs.Spaces.{links, made_from, led, has_line, speaks, silent, unmade, foreign};
 ghost use Rattle.raw_logs.specs.Counting.{within_32_bits};
 ghost use Rattle.raw_logs.specs.Told.{AreTold};
-ghost use Rattle.raw_logs.specs.Stages.{HasMade, space_in, HasSpaces, IsPast, IsChooser, or_else, HasSpeakers};
+ghost use Rattle.raw_logs.specs.Stages.{HasMade, space_in, HasSpaces, IsPast, IsChooser, or_else, HasSpeakers, HasKnown};
 
 use crate::lines::Lines;
 use crate::told::{Told, told_of};
@@ -315,6 +315,57 @@ pub(crate) fn speakers(alloc: Global, lines: &Lines) -> Result<BTreeSet<u32>, Al
         put_number(&mut found, told_of(text).pid)?;
     }
     Ok(found)
+}
+
+/// The numbers that links made, and 0, which stands where a line has none.
+fn made_numbers(alloc: Global, made: &[Made]) -> Result<BTreeSet<u32>, AllocError>
+    ensures { IfOk result (λ found. HasKnown found made.now []) }
+{
+    let mut found = BTreeSet::new(alloc);
+    put_number(&mut found, 0)?;
+    let mut left = made;
+    'links: while let Some((link, later)) = left.split_last() {
+        put_number(&mut found, link.child)?;
+        left = later;
+    }
+    Ok(found)
+}
+
+/// Counts the number of a line, where it isn't known yet; the count stays at 2^32 - 1.
+fn count_new(known: &mut BTreeSet<u32>, told: Told, count: u32) -> Result<u32, AllocError>
+    ensures known { OnOk result ((made : List MadeOf) (tolds : List ToldOf) → HasKnown known.old made tolds → HasKnown known.new made (told ∷ tolds)) }
+    ensures count { IfOk result (λ next. (made : List MadeOf) (tolds : List ToldOf) → HasKnown known.old made tolds
+        → count ≡ within_32_bits (unmade made tolds) → next ≡ within_32_bits (unmade made (told ∷ tolds))) }
+{
+    if known.contains(&told.pid) {
+        return Ok(count);
+    }
+    put_number(known, told.pid)?;
+    Ok(count.saturating_add(1))
+}
+
+/// How many numbers have lines and were made by no link; the count stays at 2^32 - 1.
+pub(crate) fn unmade(alloc: Global, lines: &Lines, made: &[Made]) -> Result<u32, AllocError>
+    ensures { IfOk result (λ count. (tolds : List ToldOf) → AreTold lines.now tolds → count ≡ within_32_bits (unmade made.now tolds)) }
+{
+    let mut known = made_numbers(alloc, made)?;
+    let mut count: u32 = 0;
+    'lines: for place in (0..lines.len()).rev() {
+        let (_, text) = lines.at(place);
+        let next = count_new(&mut known, told_of(text), count)?;
+        count = next;
+    }
+    Ok(count)
+}
+
+/// How many numbers may be of another numbering.
+pub(crate) fn foreign(silent: u32, unmade: u32) -> u32
+    ensures { result ≡ foreign silent unmade }
+{
+    if silent == 0 {
+        return 0;
+    }
+    unmade.saturating_sub(1)
 }
 
 /// How many links made numbers that aren't in a set; the count stays at 2^32 - 1.

@@ -48,7 +48,8 @@ others_text c =
     counted_text (codes "lines of other processes left out") c.elsewhere ++
     (counted_text (codes "lines before an execve left out") c.earlier ++
     (counted_text (codes "lines that don't tell what was made") c.untold ++
-    counted_text (codes "numbers that were made and have no line") c.silent))
+    (counted_text (codes "numbers that were made and have no line") c.silent ++
+    counted_text (codes "numbers that have lines and weren't made") c.foreign)))
 
 -- what became of calls
 abbrev pub calls_text : Counts → List ℕ

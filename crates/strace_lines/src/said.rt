@@ -109,6 +109,11 @@ fn write_others<K: Sink>(err: &mut K, counts: &Counts) -> Result<(), Failed>
         err,
         b"numbers that were made and have no line",
         counts.silent,
+    )?;
+    write_count(
+        err,
+        b"numbers that have lines and weren't made",
+        counts.foreign,
     )
 }
 

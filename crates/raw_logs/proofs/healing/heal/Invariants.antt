@@ -9,8 +9,9 @@ invariant-lines l = (before : List (List ℕ))
     × (lines_of l.whole ≡ before ++ lines_of l.rest)
     × (length before + 1 ≡ l.number)
     × (l.number + length l.rest ≤ length l.whole + 1)
-    × (length l.healer.plain.lines + 1 ≤ l.number)
+    × (length l.healer.written.lines + 1 ≤ l.number)
     × Takes l.healer before
+    × (l.healer.written.numbering ≡ l.fn.numbering)
 
 -- each turn takes a line off the text
 abbrev pub decreases-lines : goal.decreases-lines

@@ -30,7 +30,7 @@ returns-in-Some-clause-takes c = λ before t n.
     let a : ¬ IsMessage c.args.text.now = is_not c.is_message.result c.is_message.ensures c.if-is_message.false in
     let b : ¬ IsStackLine c.args.text.now = is_not c.is_stack_line.result c.is_stack_line.ensures c.if-is_stack_line.false in
     let d : ¬ IsUnread c.args.text.now = is_not c.is_unread.result c.is_unread.ensures c.if-is_unread.false in
-    takes_broken c.args.self.now _ before _ _ c.in-Some.front.now t n a b d c.in-Some.ensures c.in_ok-wait.ensures.part c.in_ok-wait.ensures.plain
+    takes_broken c.args.self.now _ before _ _ c.in-Some.front.now t n a b d c.in-Some.ensures c.in_ok-wait.ensures.part c.in_ok-wait.ensures.written
     c.in_ok-wait.ensures.counts
 
 -- an empty line

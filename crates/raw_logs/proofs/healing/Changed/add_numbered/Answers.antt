@@ -4,7 +4,7 @@ use Rattle.raw_logs.specs.Log.{line_of}
 use Rattle.raw_logs.specs.Numbering.{IsRenumbered}
 use Rattle.raw_logs.proofs.MadeLines.{made_more}
 use Rattle.std.proofs.Common.{Some, None, refl}
-use Rattle.raw_logs.proofs.numbering.add_numbered.Goals as goal
+use Rattle.raw_logs.proofs.healing.Changed.add_numbered.Goals as goal
 
 -- the number stays
 pub returns-in_default-clause-made : goal.returns-in_default-clause-made
