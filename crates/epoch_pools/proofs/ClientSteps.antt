@@ -221,13 +221,13 @@ module _ {P N : Type 0} (begin : P) (holds : Grants → List ℕ → List P → 
         (λ k. (shown_is k, ap inner_pass (sym after_is) k)) play.made
 
 -- the word of a client step in the table that the call has
-pub client_place : (shares : List ℕ) (key_seats key_words words slots : ℕ) (cut : Regions) (seats client : ℕ)
-    → IsTable shares key_seats key_words words slots cut seats client
+pub client_place : (shares : List ℕ) (key_seats key_words words slots : ℕ) (cut : Regions) (seats client start : ℕ)
+    → IsTable shares key_seats key_words words slots cut seats client start
     → (cut' : Regions) (seats' client' i word place : ℕ) → cut ≡ cut' → seats ≡ seats' → client ≡ client' → place ≡ i → i < client'
     → word ≡ list_count cut' * word_count seats' + i
     → (word < words) × (word ≡ list_count (cut_of shares) * word_count key_seats + place)
     × (place < key_words - list_count (cut_of shares) * word_count key_seats)
-client_place shares key_seats key_words words slots cut seats client t cut' seats' client' i word place same_cut same_seats same_client is below at =
+client_place shares key_seats key_words words slots cut seats client start t cut' seats' client' i word place same_cut same_seats same_client is below at =
     let b = t.same_words in let w = t.wide in
     let key : list_count (cut_of shares) * word_count key_seats ≡ list_count cut * word_count seats =
     λ k. list_count (t.same_cut k) * word_count (t.same_seats k) in

@@ -207,12 +207,13 @@ less_first : (a b k : ℕ) → k ≡ a + b → k - a ≡ b
 less_first a b k e = omega arith
 
 -- the key, the words and the slots of a new table are those of its shape
-pub new_table : (c : Regions) (lists seats : ℕ) (shares key_shares client key_words now : List ℕ) (key_seats words slots clients : ℕ)
+pub new_table : (c : Regions) (lists seats : ℕ) (shares key_shares client key_words now : List ℕ) (key_seats words slots clients start : ℕ)
     → cut_of shares ≡ c → IsCut c.count c.bits → lists ≡ list_count c → IsSeatCount seats → length client ≤ 2 ^ 20
     → key_shares ≡ shares → key_seats ≡ seats → key_words ≡ now → now ≡ replicate (lists * word_count seats) 0 ++ client
-    → words ≡ length now → slots ≡ 0 → clients ≡ length client
-    → IsTable key_shares key_seats (length key_words) words slots c seats clients
-new_table c lists seats shares key_shares client key_words now key_seats words slots clients is cut many count few s e f w wide none clients_are =
+    → words ≡ length now → slots ≡ 0 → clients ≡ length client → start ≡ lists * word_count seats → start ≤ 17697
+    → IsTable key_shares key_seats (length key_words) words slots c seats clients start
+new_table c lists seats shares key_shares client key_words now key_seats words slots clients start is cut many count few s e f w wide none clients_are
+    starts low =
     let all_words : ℕ = list_count c * word_count seats in
     let long : length now ≡ all_words + length client = ap length w ∙ (length-append (replicate (lists * word_count seats) 0) client
     ∙ ap (λ n. n + length client) (length-replicate (lists * word_count seats) 0 ∙ ap (λ n. n * word_count seats) many)) in
@@ -225,6 +226,8 @@ new_table c lists seats shares key_shares client key_words now key_seats words s
       no_slots = none;
       seat_count = count;
       client_count = subst (λ n. n ≤ 2 ^ 20) (sym clients_are) few;
+      begins = starts ∙ ap (λ n. n * word_count seats) many;
+      low = low;
     }
 
 -- how many words a new table has: those of its lists, and the client's

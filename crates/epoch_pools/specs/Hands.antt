@@ -48,8 +48,9 @@ cut_of [] = record { count = 1; bits = 62 }
 cut_of (count ∷ []) = record { count = 1; bits = 62 }
 cut_of (count ∷ bits ∷ rest) = record { count = count; bits = bits }
 
--- a table of so many seats and client words under that cut: its key's shares, seats and words, its words and its slots
-pub record IsTable (shares : List ℕ) (key_seats key_words words slots : ℕ) (cut : Regions) (seats client : ℕ) : Type 0 where
+-- a table of so many seats and client words under that cut: its key's shares, seats and words, its words and its slots,
+-- and the place of its first client word
+pub record IsTable (shares : List ℕ) (key_seats key_words words slots : ℕ) (cut : Regions) (seats client start : ℕ) : Type 0 where
   pub same_cut : cut_of shares ≡ cut
   pub is_cut : IsCut cut.count cut.bits
   pub same_seats : key_seats ≡ seats
@@ -58,6 +59,8 @@ pub record IsTable (shares : List ℕ) (key_seats key_words words slots : ℕ) (
   pub no_slots : slots ≡ 0
   pub seat_count : IsSeatCount seats
   pub client_count : client ≤ 2 ^ 20
+  pub begins : start ≡ list_count cut * word_count seats
+  pub low : start ≤ 17697
 
 -- the kinds of step on nodes and the list; those of epochs and pools have calls of their own
 abbrev pub IsListStep : Step → Type 0

@@ -34,7 +34,7 @@ impl<G: Guard> List<G> {
         ensures { result ≡ list_count self.now.cut * word_count self.now.seats + i }
     {
         let _client = self.client;
-        (self.list_words() + i) as usize
+        (self.client_start + i) as usize
     }
 
     /// One operation on a client word, which is the step that is picked. It returns what the word was, or 0 after a

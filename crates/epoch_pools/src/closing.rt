@@ -82,11 +82,15 @@ pub fn close_into<G: Guard>(list: List<G>, hands: Vec<Hand<G>>, mut words: Vec<u
     ensures words { length result.items ≡ list.client }
     ensures guard { G.holds (replicate list.seats None) result.items (map pass_in hands.items) }
 {
-    let from = list.list_words();
-    let List { table, client, .. } = list;
+    let List {
+        table,
+        client,
+        client_start,
+        ..
+    } = list;
     let all = join_all(&table.shared, hands);
     let closed = table.close_with(all);
-    copy_words(&closed, from, client, &mut words);
+    copy_words(&closed, client_start, client, &mut words);
     closed.free();
     words
 }

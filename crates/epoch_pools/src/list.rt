@@ -28,6 +28,8 @@ pub struct List<G: Guard> {
     pub(crate) seats: u32,
     pub(crate) client: u32,
     pub(crate) cut: Cut,
+    /// The place of the first client word, behind the words of all lists.
+    pub(crate) client_start: u32,
 }
 
 impl<G: Guard> Model for List<G> {
@@ -39,13 +41,11 @@ impl<G: Guard> Model for List<G> {
     ghost view = { λ t. record { table = t.table.shared.table_id; seats = t.seats; client = t.client; cut = t.cut } };
 
     ghost invariant = { λ t. IsTable t.table.shared.key.shares.items t.table.shared.key.seats (length t.table.shared.key.words.items)
-        t.table.shared.table_id.words t.table.shared.table_id.slots t.cut t.seats t.client };
+        t.table.shared.table_id.words t.table.shared.table_id.slots t.cut t.seats t.client t.client_start };
 }
 
 impl<G: Guard> List<G> {
-    ghost use Rattle.std.specs.Prelude.{◌≡◌, ◌*◌};
-    ghost use Rattle.list_cuts.specs.Cut.{list_count};
-    ghost use Rattle.lock_core.specs.Words.{word_count};
+    ghost use Rattle.std.specs.Prelude.{◌≡◌};
 
     /// How the numbers are cut for the table's lists.
     #[inline(always)]
@@ -53,14 +53,6 @@ impl<G: Guard> List<G> {
         ensures { result ≡ self.now.cut }
     {
         self.cut
-    }
-
-    /// How many words all lists have. The client words follow them.
-    pub(crate) fn list_words(&self) -> u32
-        ensures words { result ≡ list_count self.now.cut * word_count self.now.seats }
-        ensures few { result ≤ 17697 }
-    {
-        self.cut.lists() * lock_word_count(self.seats)
     }
 }
 
@@ -73,19 +65,22 @@ pub(crate) fn lock_word_count(seats: u32) -> u32
     Layout::of(seats, 0).words()
 }
 
-/// The words of a new table: those of the lists, all 0, and then the client words.
-fn opening_words(
-    alloc: Global,
-    lists: u32,
-    seats: u32,
-    client: &[u64],
-) -> Result<Vec<u64>, AllocError>
+/// How many words so many lists have.
+fn list_words(lists: u32, seats: u32) -> u32
     requires seats { IsSeatCount seats }
-    requires few { lists ≤ 17 }
-    ensures { IfOk result (λ words. words.items ≡ replicate (lists * word_count seats) 0 ++ client.now) }
+    requires lists { lists ≤ 17 }
+    ensures words { result ≡ lists * word_count seats }
+    ensures few { result ≤ 17697 }
+{
+    lists * lock_word_count(seats)
+}
+
+/// The words of a new table: so many of the lists, all 0, and then the client words.
+fn opening_words(alloc: Global, zeros: u32, client: &[u64]) -> Result<Vec<u64>, AllocError>
+    ensures { IfOk result (λ words. words.items ≡ replicate zeros 0 ++ client.now) }
 {
     let mut words = Vec::new(alloc);
-    words.resize((lists * lock_word_count(seats)) as usize, 0)?;
+    words.resize(zeros as usize, 0)?;
     words.extend_from_slice(client)?;
     Ok(words)
 }
@@ -138,7 +133,8 @@ pub fn open_cut<G: Guard>(
     ensures hands { IfOk result (λ r. (length r.1.items ≡ seats) × AreNewHands r.0.table (G.first client.now) (list_count cut) seats r.1.items) }
 {
     let lists = cut.lists();
-    let words = opening_words(alloc, lists, seats, client)?;
+    let client_start = list_words(lists, seats);
+    let words = opening_words(alloc, client_start, client)?;
     let mut made = Vec::with_capacity(alloc, seats as usize)?;
     let mut views = first_views(alloc, seats)?;
     let mut behind = first_others(alloc, seats, lists - 1)?;
@@ -169,6 +165,7 @@ pub fn open_cut<G: Guard>(
         seats,
         client,
         cut,
+        client_start,
     };
     Ok((list, made))
 }

@@ -1,5 +1,7 @@
-use Rattle.std.proofs.Common.{◌∙◌, ap, drop, sym}
+use Rattle.std.proofs.Common.{◌∙◌, ◌*◌, ap, drop, sym}
 use Rattle.std.specs.Mem.Slots.{slots_items}
+use Rattle.list_cuts.specs.Cut.{list_count}
+use Rattle.lock_core.specs.Words.{word_count}
 use Rattle.epoch_pools.proofs.Joining.{closed}
 use Rattle.epoch_pools.proofs.closing.close_into.Goals as goal
 
@@ -11,7 +13,8 @@ returns-clause-guard g c =
     c.args.list.table c.args.hands.items c.join_all-all.result.id c.join_all-all.result.me.0 _ c.copy_words.new.out.items _
     (c.list.invariant.same_cut ∙ ap (λ s. s.cut) shape) (c.list.invariant.same_seats ∙ ap (λ s. s.seats) shape) c.requires.count
     c.requires.idle c.requires.others
-    c.join_all-all.ensures.parts (c.copy_words.ensures ∙ ap (λ n. drop n (slots_items c.close_with-closed.result.words)) c.list_words-from.ensures.words)
+    c.join_all-all.ensures.parts (c.copy_words.ensures ∙ ap (λ n. drop n (slots_items c.close_with-closed.result.words)) (c.list.invariant.begins
+    ∙ (λ i. list_count (ap (λ s. s.cut) shape i) * word_count (ap (λ s. s.seats) shape i))))
     c.close_with-closed.ensures.values.2
 
 -- the hands are all of the list's table

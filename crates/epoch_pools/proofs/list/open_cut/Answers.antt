@@ -114,13 +114,14 @@ all-preserved g c =
 -- the table is of the shape that is asked for
 pub invariant_of-list : goal.invariant_of-list
 invariant_of-list g c = new_table c.args.cut c.lists-lists.result c.args.seats (c.regions.result ∷ c.bits.result ∷ []) _ c.args.client.now _
-    c.as_slice.result.now _ _ _ _ (λ i. record { count = c.regions.ensures.count i; bits = c.bits.ensures.bits i }) (
+    c.as_slice.result.now _ _ _ _ _ (λ i. record { count = c.regions.ensures.count i; bits = c.bits.ensures.bits i }) (
       omega (arith, c.regions.ensures.some, c.regions.ensures.count),
       omega (arith, c.regions.ensures.few, c.regions.ensures.count),
       omega (arith, c.bits.ensures.few, c.bits.ensures.bits),
     )
     c.lists-lists.ensures.lists c.requires.seats c.requires.clients c.in_ok-table.ensures.key.2 c.in_ok-table.ensures.key.0
     c.in_ok-table.ensures.key.1 (search rules) c.in_ok-table.ensures.counts.1 c.in_ok-table.ensures.counts.2 (search rules)
+    c.list_words-client_start.ensures.words c.list_words-client_start.ensures.few
 
 -- the table has the words of its lists, and the client's
 pub returns-clause-words : goal.returns-clause-words
