@@ -244,6 +244,16 @@ module _ {P : Type 0} {begin : P} {rested : P → P} {play_lists play_list seats
   seat_played s same = same_seat play.left (ap (λ (x : SeatPart (Beside P)). x.number) play.shows) (ap (λ (x : SeatPart (Beside P)). x.seats) play.shows)
       s same
 
+-- a token's seat is one of the table's, which has 16 at most
+pub seat_there : {P : Type 0} (begin : P) (parts : List (SeatLists P)) {number many lists i first words : ℕ} {p : SeatPart (Beside P)}
+    → IsSeatOf (part_in begin parts) number many lists i first words → shown_of begin lists i parts ≡ p → (p.number < p.seats) × (p.seats ≤ 16)
+seat_there {P} begin parts {number} {many} {lists} {i} {first} {words} {p} seat_of is =
+    let named : p.number ≡ number = ap (λ (x : SeatPart (Beside _)). x.number) (sym is) ∙ seat_of.number_is in
+    let seats : p.seats ≡ many = ap (λ (x : SeatPart (Beside _)). x.seats) (sym is) ∙ seat_of.seats_are in
+    let below : number < many = seat_of.there in
+    let few : many ≤ 16 = seat_of.few in
+    (omega arith, omega arith)
+
 -- a word of a list is one of the table's
 pub word_there : {P : Type 0} (begin : P) (parts : List (SeatLists P)) {id other : TableId} {number many lists i first word place : ℕ} {p : SeatPart (Beside P)}
     → id ≡ other → IsSeatOf (part_in begin parts) number many lists i first id.words → shown_of begin lists i parts ≡ p
