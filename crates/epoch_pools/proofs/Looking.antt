@@ -1,7 +1,7 @@
 -- The looks at home words one after another: what the lists beside the view say of it at each moment, and that one node
 -- more leaves the closed line for a list that is longer by it.
 use Rattle.std.proofs.Common.{◌≡◌, ◌≢◌, ℕ, ◌+◌, ◌≤◌, Bool, true, false, List, [], ◌∷◌, ◌++◌, length, inl, ⊎_elim, refl, sym, ap, ◌∙◌}
-use Rattle.std.proofs.Common.{◌*◌, ◌<◌, subst, arith, eqb-true, append_assoc, length-append}
+use Rattle.std.proofs.Common.{◌*◌, ◌<◌, subst, arith, eqb-true, ne_eqb, append_assoc, length-append}
 use Rattle.std.specs.Prelude.{replicate, None, ◌==◌, if◌then◌else◌}
 use Rattle.std.proofs.lemmas.Bool.{cases_eq, eqb-false}
 use Rattle.view_lists.specs.Counted.{times, without}
@@ -112,6 +112,15 @@ module _ {P : Type 0} (p q r : SeatPart P) (homes more : List ℕ) (came : Bool)
       → more ≡ (if b then homes ++ n ∷ [] else homes) → now ≡ false → more ≡ p.core.homes
   none_more true now by none is off = absurd (let e : true ≡ false = sym by ∙ off in cc)
   none_more false now by none is off = is ∙ none (sym by ∙ off)
+
+-- a node behind the one that was looked at is none of the homes, where it was none before
+pub fresh_more : (b : Bool) (homes more : List ℕ) (n x : ℕ) → more ≡ (if b then homes ++ n ∷ [] else homes) → n < x → times x homes ≡ 0
+    → times x more ≡ 0
+fresh_more true homes more n x is above none =
+    let other : (n == x) ≡ false = ne_eqb n x (λ e. omega arith) in
+    ap (times x) is ∙ (times_joined x homes (n ∷ [])
+    ∙ (λ i. none i + ((if other i then 1 else 0) + 0)))
+fresh_more false homes more n x is above none = ap (times x) is ∙ none
 
 -- there is room for the homes among the ready ones
 pub homes_room : {P : Type 0} (p q : SeatPart P) (homes : List ℕ) (came : Bool) → IsHandView q → q.number < q.seats → q.seats ≤ 16

@@ -97,7 +97,7 @@ impl<G: Guard> Hand<G> {
         let seats = self.token.seats;
         let Hand { token, view, .. } = self;
         let view: &mut View = view;
-        let came = list.read_homes(token, &view.used, &mut view.homes, steps);
+        let came = list.read_homes(token, view.used.as_slice(), &mut view.homes, steps);
         if came {
             begin_anew(view, seats);
         }

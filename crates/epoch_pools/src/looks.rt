@@ -1,8 +1,10 @@
 //! The looks of a refill, made with the token alone. What came home stands in the list of homes while the looks are
 //! made, and the barrier begins anew for all of it once, behind the last of them. A reader may rely on the closed line
 //! of `specs/Looking.antt`. Homes and the barrier are this project's own profile, after the epochs of Fraser 2004.
-ghost use Rattle.std.specs.Prelude.{◌≡◌, ◌≢◌, ◌+◌, ◌*◌, ◌<◌, ◌≤◌, if◌then◌else◌, ℕ, [], ◌∷◌, ◌++◌, false, length};
+ghost use Rattle.std.specs.Prelude.{◌≡◌, ◌≢◌, ◌+◌, ◌*◌, ◌<◌, ◌≤◌, if◌then◌else◌, ℕ, [], ◌∷◌, ◌++◌, true, false, length};
+ghost use Rattle.std.specs.Prelude.{not, ◌==◌};
 ghost use Rattle.std.specs.Bool.{OnTrue, OnFalse};
+ghost use Rattle.view_lists.specs.Counted.{times};
 ghost use Rattle.lock_core.specs.declared.steps.Step.TheVariants.{ReadEpoch};
 ghost use Rattle.lock_core.specs.Words.{word_count};
 ghost use Rattle.lock_core.specs.Views.{home_read};
@@ -21,13 +23,40 @@ use std::sync::ledger::Ledger;
 use view_lists::Nodes;
 use word_rows::Steps;
 
-/// Whether the node is a used one that isn't among the homes.
+/// Whether the node stands at its own place of sixteen, where it is while they all are there in order.
 #[inline(always)]
-fn is_awaited(used: &Nodes, homes: &Nodes, node: u32) -> bool
+fn is_in_place(list: &[u32], node: u32) -> bool
+    ensures { OnTrue result (1 ≤ times node list.now) }
+{
+    let place = (node % NODES) as usize;
+    place < list.len() && list[place] == node
+}
+
+/// Whether the node is in the list, wherever it stands.
+#[inline(never)]
+fn is_among(list: &[u32], node: u32) -> bool
+    ensures { result ≡ not (times node list.now == 0) }
+{
+    list.contains(&node)
+}
+
+/// Whether the node is in the list. It is looked for at its own place first.
+#[inline(always)]
+fn is_in(list: &[u32], node: u32) -> bool
+    ensures { result ≡ not (times node list.now == 0) }
+{
+    is_in_place(list, node) || is_among(list, node)
+}
+
+/// Whether the node is a used one that isn't among the homes. Where the homes are known not to have it, they aren't
+/// asked.
+#[inline(always)]
+fn is_awaited(used: &[u32], homes: &Nodes, fresh: bool, node: u32) -> bool
+    requires fresh { fresh ≡ true → times node homes.now ≡ 0 }
     ensures yes { OnTrue result (IsAwaited used.now homes.now node) }
     ensures no { OnFalse result (IsAwaited used.now homes.now node → ⊥) }
 {
-    used.has(node) && !homes.has(node)
+    is_in(used, node) && (fresh || !homes.has(node))
 }
 
 /// Begins the barrier anew for the nodes that came home; with one seat alone they are ready at once.
@@ -86,16 +115,18 @@ impl<G: Guard> List<G> {
     }
 
     /// Reads the home word of a node, where it is used and isn't among the homes, and puts it to them where it came
-    /// home. Whether it did.
+    /// home. Whether it did. Where the list of homes was fresh, so empty when the looks began, the node isn't in it.
     #[inline(always)]
     fn look_home<L: Ledger>(
         &self,
         token: &mut Token<G>,
-        used: &Nodes,
+        used: &[u32],
         homes: &mut Nodes,
+        fresh: bool,
         node: u32,
         steps: &mut Steps<L>,
     ) -> bool
+        requires fresh { fresh ≡ true → times node homes.old ≡ 0 }
         requires table { token.old.table ≡ self.now.table }
         requires sound { IsHandView token.old.part }
         requires free { IsFree token.old.part.core }
@@ -109,7 +140,7 @@ impl<G: Guard> List<G> {
         ensures taken { token.new.part.trace.taken ≤ token.old.part.trace.taken + 1 }
         ensures counted { steps.new + token.old.part.trace.taken ≡ steps.old + token.new.part.trace.taken }
     {
-        if !is_awaited(used, homes, node) {
+        if !is_awaited(used, homes, fresh, node) {
             return false;
         }
         let found = self.read_home(token, node);
@@ -123,11 +154,11 @@ impl<G: Guard> List<G> {
 
     /// Reads the home words of all used nodes that aren't among the homes, the lowest node first, and puts those that
     /// came home to the homes. Whether one did.
-    #[inline(always)]
+    #[inline(never)]
     pub(crate) fn read_homes<L: Ledger>(
         &self,
         token: &mut Token<G>,
-        used: &Nodes,
+        used: &[u32],
         homes: &mut Nodes,
         steps: &mut Steps<L>,
     ) -> bool
@@ -147,9 +178,10 @@ impl<G: Guard> List<G> {
         ensures counted { steps.new + token.old.part.trace.taken ≡ steps.old + token.new.part.trace.taken }
     {
         let first = NODES * token.number;
+        let fresh = homes.is_empty();
         let mut came = false;
         'nodes: for node in first..first + NODES {
-            if self.look_home(token, used, homes, node, steps) {
+            if self.look_home(token, used, homes, fresh, node, steps) {
                 came = true;
             }
         }

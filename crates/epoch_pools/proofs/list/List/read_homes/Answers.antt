@@ -1,6 +1,6 @@
 use Rattle.std.proofs.Common.{◌≡◌, ◌∙◌, [], ap, sym, arith, Bool, true, false, if◌then◌else◌}
 use Rattle.epoch_pools.proofs.Taking.{both_looks, home_known}
-use Rattle.epoch_pools.proofs.Looking.{beside_read, core_more, none_more, homes_room}
+use Rattle.epoch_pools.proofs.Looking.{beside_read, core_more, fresh_more, none_more, homes_room}
 use Rattle.epoch_pools.proofs.LockSteps.{seat_there}
 use Rattle.epoch_pools.proofs.list.List.read_homes.Goals as goal
 use Rattle.epoch_pools.proofs.list.List.read_homes.Goals.{then-look_home, else-look_home}
@@ -26,6 +26,8 @@ nodes-preserved g c =
       sound = look.sound;
       core = core_more p q r c.nodes.homes c.look_home.new.homes c.nodes.came c.nodes.node b c.if-look_home.came by was.on.call.seats was.core
           none look.core look.homes;
+      fresh = λ first x above. fresh_more b c.nodes.homes c.look_home.new.homes c.nodes.node x look.homes (omega arith)
+          (was.fresh first x (omega arith));
       none = λ off. none_more p q r c.nodes.homes c.look_home.new.homes c.nodes.came c.nodes.node b c.if-look_home.came by none
           look.homes off ∙ sym c.requires.homes;
       on = both_looks p q r was.on look.on;

@@ -1,4 +1,5 @@
-use Rattle.std.proofs.Common.{◌≡◌, ℕ, ◌+◌, ◌<◌, ◌≤◌, false}
+use Rattle.std.proofs.Common.{◌≡◌, ℕ, ◌+◌, ◌<◌, ◌≤◌, true, false}
+use Rattle.view_lists.specs.Counted.{times}
 use Rattle.epoch_pools.specs.Hands.{IsHandView}
 use Rattle.epoch_pools.specs.Taking.{IsLooking, IsHomeKnown}
 use Rattle.epoch_pools.specs.Looking.{homes_read}
@@ -10,6 +11,7 @@ invariant-nodes g l = record {
   table : l.token.table ≡ l.initial.token.table;
   sound : IsHandView l.token.part;
   core : l.token.part.core ≡ homes_read l.initial.token.part.seats l.initial.token.part.core l.homes l.came;
+  fresh : l.fresh ≡ true → (x : ℕ) → l.node ≤ x → times x l.homes ≡ 0;
   none : l.came ≡ false → l.homes ≡ l.initial.homes;
   on : IsLooking l.initial.token.part l.token.part;
   known : (x : ℕ) → l.first ≤ x → x < l.node → IsHomeKnown l.initial.token.part l.token.part x;
