@@ -1,5 +1,5 @@
 -- A step of a running list is one of the pure machine, by its line of the step table.
-use Rattle.std.proofs.Common.{◌≡◌, ℕ, ◌<◌, List, map, set, length, sym, refl, ap, ◌∙◌, subst}
+use Rattle.std.proofs.Common.{◌≡◌, ℕ, ◌<◌, List, map, set, length, sym, ap, ◌∙◌, subst}
 use Rattle.std.specs.Prelude.{Some}
 use Rattle.std.proofs.lemmas.List.{map-set}
 use mathlib.Core.Option.{some}

@@ -1,6 +1,6 @@
 -- The looks at home words one after another: what the lists beside the view say of it at each moment, and that one node
 -- more leaves the closed line for a list that is longer by it.
-use Rattle.std.proofs.Common.{◌≡◌, ◌≢◌, ℕ, ◌+◌, ◌≤◌, Bool, true, false, List, [], ◌∷◌, ◌++◌, length, inl, ⊎_elim, refl, sym, ap, ◌∙◌}
+use Rattle.std.proofs.Common.{◌≡◌, ◌≢◌, ℕ, ◌+◌, ◌≤◌, Bool, true, false, List, [], ◌∷◌, ◌++◌, length, ⊎_elim, refl, sym, ap, ◌∙◌}
 use Rattle.std.proofs.Common.{◌*◌, ◌<◌, subst, arith, eqb-true, ne_eqb, append_assoc, length-append}
 use Rattle.std.specs.Prelude.{replicate, None, ◌==◌, if◌then◌else◌}
 use Rattle.std.proofs.lemmas.Bool.{cases_eq, eqb-false}
@@ -11,7 +11,6 @@ use Rattle.lock_core.proofs.Safety.{may_step}
 use Rattle.lock_core.proofs.Counts.{times_joined, without_none, without_some}
 use Rattle.epoch_pools.specs.declared.views.SeatPart.{SeatPart}
 use Rattle.epoch_pools.specs.Hands.{IsHandView}
-use Rattle.epoch_pools.specs.Taking.{IsHomeLook}
 use Rattle.epoch_pools.specs.Looking.{IsAwaited, anew, begun, come_back, homes_read, IsBeside}
 
 -- a list without two others is without one and then without the other

@@ -1,7 +1,7 @@
 -- What a step leaves of a hand, by what its operation returned: what belongs to the hand's number, what the hand may
 -- rely on then, and that a store returns 0. The steps of epochs and homes leave what their calls name.
 use Rattle.std.proofs.Common.{◌≡◌, ℕ, ◌+◌, ◌%◌, ◌^◌, ◌<◌, true, false, Bool, refl, sym, ap, ◌∙◌, subst, arith, eq-eqb, ne_eqb}
-use Rattle.std.specs.Prelude.{Option, Some, None, is_some, is_none, ◌==◌, ◌||◌, if◌then◌else◌}
+use Rattle.std.specs.Prelude.{Option, Some, None, is_some, ◌==◌, ◌||◌, if◌then◌else◌}
 use Rattle.lock_core.specs.declared.range.Held.{Held}
 use Rattle.lock_core.specs.declared.views.View.{View}
 use Rattle.lock_core.specs.declared.views.Cursor.{Cursor}
@@ -13,21 +13,19 @@ use Rattle.lock_core.specs.declared.steps.Step.TheVariants.{Aim, ClearHome, Walk
 use Rattle.lock_core.specs.declared.steps.Step.TheVariants.{QuickLink, QuickUnlink, Settle}
 use Rattle.lock_core.specs.declared.ops.Act.{Act}
 use Rattle.lock_core.specs.declared.ops.Act.TheVariants.{Load, Store, Add, Exchange}
-use Rattle.lock_core.specs.Words.{epoch_place}
-use Rattle.lock_core.specs.Views.{entered, left, kept_own, gave_home}
-use Rattle.lock_core.specs.StepTable.{Plan, IsLine, counts_on, enter, leave, give_home, fill_lo, fill_hi, aim, clear_home}
-use Rattle.lock_core.specs.Machine.{held_at, may_leave}
+use Rattle.lock_core.specs.Views.{kept_own}
+use Rattle.lock_core.specs.StepTable.{Plan, IsLine, enter, give_home, fill_lo, fill_hi, aim, clear_home}
+use Rattle.lock_core.specs.Machine.{held_at}
 use Rattle.lock_core.specs.Sizes.{IsViewSound}
 use Rattle.lock_core.specs.Operations.{planned, IsEnabled, IsStoring, Writes}
 use Rattle.lock_core.proofs.Enabled.{line_of}
-use Rattle.lock_core.proofs.Table.{when-is, together, plan_of_line}
+use Rattle.lock_core.proofs.Table.{plan_of_line}
 use Rattle.epoch_pools.specs.declared.record.Looked.{Looked}
 use Rattle.epoch_pools.specs.declared.record.Record.{Record}
 use Rattle.epoch_pools.specs.declared.views.SeatPart.{SeatPart}
-use Rattle.epoch_pools.specs.declared.views.Beside.{Beside}
 use Rattle.epoch_pools.specs.Record.{record_after, looked_on, looked_with, is_judging, gained_by}
 use Rattle.epoch_pools.specs.Pools.{IsWhole}
-use Rattle.epoch_pools.specs.Running.{pass_kept, IsAnswer, line_for, Enables, core_after, part_after, Told, client_part}
+use Rattle.epoch_pools.specs.Running.{pass_kept, IsAnswer, line_for, Enables, core_after, part_after, Told}
 use Rattle.epoch_pools.specs.Hands.{IsHandView, quiet_after}
 use Rattle.epoch_pools.proofs.Granting.{kept_again}
 use Rattle.epoch_pools.proofs.Pools.{pooled_after}

@@ -1,6 +1,6 @@
 -- What the steps of take leave: the first ready node is the own node, a home word was read, or an epoch was. What is
 -- known of one node or of one seat stays known while others are looked at.
-use Rattle.std.proofs.Common.{◌≡◌, ◌≢◌, ◌⊎◌, ℕ, zero, suc, ◌+◌, ◌*◌, ◌/◌, ◌%◌, ◌<◌, ◌≤◌, Bool, true, false, List, []}
+use Rattle.std.proofs.Common.{◌≡◌, ◌≢◌, ◌⊎◌, ℕ, zero, suc, ◌+◌, ◌/◌, ◌%◌, ◌<◌, ◌≤◌, Bool, true, false, List, []}
 use Rattle.std.proofs.Common.{◌∷◌, ◌++◌, take, drop, length, cond, Some, None, inl, inr, ⊎_elim, refl, sym, ap, ◌∙◌}
 use Rattle.std.proofs.Common.{subst, arith, eqb-true, eq-eqb, ne_eqb, add-one}
 use Rattle.std.specs.Prelude.{Option, slice_get, slice_set, unwrap_or, is_some, ◌==◌, ◌&&◌, ◌||◌, not, if◌then◌else◌, find}
@@ -15,10 +15,10 @@ use Rattle.lock_core.specs.declared.views.Cursor.{Cursor}
 use Rattle.lock_core.specs.declared.views.Own.{Own}
 use Rattle.lock_core.specs.declared.views.Own.TheVariants.{Nothing}
 use Rattle.lock_core.specs.declared.steps.Step.{Step}
-use Rattle.lock_core.specs.declared.steps.Step.TheVariants.{ReadEpoch, ReadHome, ClearHome}
+use Rattle.lock_core.specs.declared.steps.Step.TheVariants.{ReadEpoch, ReadHome}
 use Rattle.lock_core.specs.Nodes.{own_times}
-use Rattle.lock_core.specs.Views.{is_passed, note_of, passes, noted, looked_at, released, epoch_read, came_home, home_read, taken}
-use Rattle.lock_core.specs.StepTable.{Plan, IsLine, read_epoch, read_home, clear_home}
+use Rattle.lock_core.specs.Views.{is_passed, note_of, passes, noted, looked_at, released, epoch_read, came_home, home_read}
+use Rattle.lock_core.specs.StepTable.{Plan, IsLine, read_epoch, read_home}
 use Rattle.lock_core.specs.Machine.{held_at}
 use Rattle.lock_core.specs.Sizes.{IsViewSized}
 use Rattle.lock_core.specs.Operations.{planned, IsEnabled}
@@ -35,7 +35,7 @@ use Rattle.epoch_pools.specs.declared.stuck.Stuck.{Stuck}
 use Rattle.epoch_pools.specs.declared.stuck.Stuck.TheVariants.{Inside, Away as IsAway}
 use Rattle.epoch_pools.specs.Pools.{IsWhole, IsPooled}
 use Rattle.epoch_pools.specs.Taking.{IsFree, IsPoolCall, IsLooking, IsReadAway, IsReadInside, IsHomeLook, IsHomeKnown}
-use Rattle.epoch_pools.specs.Taking.{IsSeatKnown, IsSeatLook, IsEpochLook, IsBarred, IsFirstInside, IsInside, IsHeldUp}
+use Rattle.epoch_pools.specs.Taking.{IsSeatKnown, IsEpochLook, IsBarred, IsFirstInside, IsInside, IsHeldUp}
 use Rattle.epoch_pools.specs.Taking.{IsStuck, TakesFirst, TakesFilled}
 
 -- ---- the last entry with a key

@@ -1,15 +1,13 @@
 -- A hand that turns to another list shows the same seat: what it shows of the list before goes to the other views, and
 -- the view of the list after comes from there.
-use Rattle.std.proofs.Common.{◌≡◌, ◌≢◌, ℕ, ◌+◌, ◌-◌, ◌*◌, ◌<◌, ◌≤◌, Bool, true, List, length, refl, sym, ap, ◌∙◌, subst, arith}
+use Rattle.std.proofs.Common.{◌≡◌, ◌≢◌, ℕ, ◌+◌, ◌-◌, ◌<◌, Bool, true, List, length, refl, sym, ap, ◌∙◌, subst, arith}
 use Rattle.std.proofs.Common.{eq-eqb, ne_eqb, length-set}
-use Rattle.std.proofs.lemmas.Nat.{mul-le}
 use Rattle.std.specs.Prelude.{Option, Some, None, slice_get, slice_set, unwrap_or, ◌==◌, if◌then◌else◌}
 use Rattle.std.proofs.lemmas.List.{set-set}
 use mathlib.Core.Logic.{dite}
 use native.Mathlib.Decide.{ℕ_discrete}
 use Rattle.lock_core.specs.declared.range.Held.{Held}
 use Rattle.lock_core.specs.declared.views.View.{View}
-use Rattle.lock_core.specs.Words.{word_count}
 use Rattle.lock_core.proofs.ByPlace.{below, from_get}
 use Rattle.lock_core.proofs.ByView.{new_view, set_there}
 use Rattle.epoch_pools.specs.declared.views.SeatLists.{SeatLists}
@@ -17,7 +15,7 @@ use Rattle.epoch_pools.specs.declared.views.SeatPart.{SeatPart}
 use Rattle.epoch_pools.specs.declared.views.Beside.{Beside}
 use Rattle.epoch_pools.specs.Beside.{blank, core_at, shown, shown_core, given_back}
 use Rattle.epoch_pools.specs.Running.{pass_kept}
-use Rattle.epoch_pools.specs.Hands.{IsHandView, IsResting, IsOther, AreOthers, IsSeatOf, slot_of, view_of, views_of, turned}
+use Rattle.epoch_pools.specs.Hands.{IsHandView, IsResting, IsOther, AreOthers, slot_of, view_of, views_of, turned}
 use Rattle.epoch_pools.proofs.Frames.{get_else, core_there, core_new, core_else}
 
 same_number : (n : ℕ) → (n == n) ≡ true

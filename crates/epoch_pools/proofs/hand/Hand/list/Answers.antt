@@ -1,4 +1,4 @@
-use Rattle.std.proofs.Common.{◌≡◌, sym, ap, ◌∙◌}
+use Rattle.std.proofs.Common.{sym, ap, ◌∙◌}
 use Rattle.epoch_pools.specs.Hands.{HandState}
 use Rattle.epoch_pools.proofs.hand.Hand.list.Goals as goal
 
