@@ -6,6 +6,7 @@ use Rattle.std.proofs.lemmas.List.{map-set, take-set-le, drop-set-add, get_or-dr
 use mathlib.Core.Option.{some}
 use lib.ListN.{get_elem?}
 use Rattle.atomic_table.specs.Table.{Me, keeps, stepped, Allows}
+use Rattle.atomic_table.specs.Seated.{TableId}
 use Rattle.atomic_table.proofs.Lists.{set_again, at_map, at_set}
 use Rattle.lock_core.specs.Grants.{Grants}
 use Rattle.list_cuts.specs.Cut.{Regions, list_count}
@@ -24,7 +25,7 @@ use Rattle.epoch_pools.specs.Standings.{counted_of}
 use Rattle.epoch_pools.specs.Beside.{core_at, held_in, grant_in, inner_pass, shown, shown_grant}
 use Rattle.epoch_pools.specs.Running.{IsCutBy, takes_in, cores_of, pass_of, grants_in, view, AreLocks, IsRunningList}
 use Rattle.epoch_pools.specs.Running.{client_lists, client_part, IsClientPlay}
-use Rattle.epoch_pools.specs.Hands.{IsTable, IsSeatOf, cut_of, part_in, shown_of}
+use Rattle.epoch_pools.specs.Hands.{ListShape, IsTable, IsSeatOf, cut_of, part_in, shown_of}
 use Rattle.epoch_pools.proofs.Placing.{part_here, placed}
 use Rattle.epoch_pools.proofs.Slices.{further}
 use Rattle.epoch_pools.proofs.Turning.{core_shown}
@@ -221,15 +222,17 @@ module _ {P N : Type 0} (begin : P) (holds : Grants → List ℕ → List P → 
         (λ k. (shown_is k, ap inner_pass (sym after_is) k)) play.made
 
 -- the word of a client step in the table that the call has
-pub client_place : (shares : List ℕ) (key_seats key_words words slots : ℕ) (cut : Regions) (seats client start : ℕ)
-    → IsTable shares key_seats key_words words slots cut seats client start
-    → (cut' : Regions) (seats' client' i word place : ℕ) → cut ≡ cut' → seats ≡ seats' → client ≡ client' → place ≡ i → i < client'
-    → word ≡ list_count cut' * word_count seats' + i
-    → (word < words) × (word ≡ list_count (cut_of shares) * word_count key_seats + place)
+pub client_place : {shares : List ℕ} {key_seats key_words slots : ℕ} {table : TableId} {cut : Regions} {seats client start : ℕ} {shape : ListShape}
+    {i word place : ℕ} → IsTable shares key_seats key_words table.words slots cut seats client start
+    → record { table = table; seats = seats; client = client; cut = cut } ≡ shape → place ≡ i → i < shape.client
+    → word ≡ list_count shape.cut * word_count shape.seats + i
+    → (word < table.words) × (word ≡ list_count (cut_of shares) * word_count key_seats + place)
     × (place < key_words - list_count (cut_of shares) * word_count key_seats)
-client_place shares key_seats key_words words slots cut seats client start t cut' seats' client' i word place same_cut same_seats same_client is below at =
+client_place {shares} {key_seats} {key_words} {slots} {table} {cut} {seats} {client} {start} {shape} {i} {word} {place} t same is below at =
     let b = t.same_words in let w = t.wide in
+    let many : client ≡ shape.client = ap (λ (s : ListShape). s.client) same in
     let key : list_count (cut_of shares) * word_count key_seats ≡ list_count cut * word_count seats =
     λ k. list_count (t.same_cut k) * word_count (t.same_seats k) in
-    let now : list_count cut * word_count seats ≡ list_count cut' * word_count seats' = λ k. list_count (same_cut k) * word_count (same_seats k) in
+    let now : list_count cut * word_count seats ≡ list_count shape.cut * word_count shape.seats =
+    ap (λ (s : ListShape). list_count s.cut * word_count s.seats) same in
     (omega arith, at ∙ (λ j. sym (key ∙ now) j + sym is j), omega (arith, ap (λ k. key_words - k) key))

@@ -12,8 +12,7 @@ pub load-requires : goal.load-requires
 load-requires g c =
     let shape = c.self.view_is in
     let acting : g.C.Acting.acting ≡ loads c.args.i = c.requires.acting ∙ ap (λ (a : ClientAct). client_step a c.args.i) c.in-Load.is in
-    let at = client_place _ _ _ _ _ _ _ _ _ c.self.invariant _ _ _ c.args.i c.client_word-word.result _ (ap (λ s. s.cut) shape) (ap (λ s. s.seats) shape)
-    (ap (λ s. s.client) shape) (ap place_of acting) c.requires.place c.client_word-word.ensures in (
+    let at = client_place c.self.invariant shape (ap place_of acting) c.requires.place c.client_word-word.ensures in (
       ap (λ s. s.table) c.token.view_is ∙ (c.requires.table ∙ sym (ap (λ s. s.table) shape)),
       at.0,
       token_client (g.G.Guard.first [] 0) _ _ _ g.G.Guard.holds g.G.Guard.allows g.M.Means.note g.G.Guard.keeps c.token.inside.number c.token.inside.seats
@@ -30,8 +29,7 @@ pub store-requires : goal.store-requires
 store-requires g c =
     let shape = c.self.view_is in
     let acting : g.C.Acting.acting ≡ stores c.args.i c.in-Store.value = c.requires.acting ∙ ap (λ (a : ClientAct). client_step a c.args.i) c.in-Store.is in
-    let at = client_place _ _ _ _ _ _ _ _ _ c.self.invariant _ _ _ c.args.i c.client_word-word.result _ (ap (λ s. s.cut) shape) (ap (λ s. s.seats) shape)
-    (ap (λ s. s.client) shape) (ap place_of acting) c.requires.place c.client_word-word.ensures in (
+    let at = client_place c.self.invariant shape (ap place_of acting) c.requires.place c.client_word-word.ensures in (
       ap (λ s. s.table) c.token.view_is ∙ (c.requires.table ∙ sym (ap (λ s. s.table) shape)),
       at.0,
       token_stores (g.G.Guard.first [] 0) _ _ _ g.G.Guard.holds g.G.Guard.allows g.M.Means.note g.G.Guard.keeps c.token.inside.number c.token.inside.seats
@@ -47,8 +45,7 @@ pub fetch_add-requires : goal.fetch_add-requires
 fetch_add-requires g c =
     let shape = c.self.view_is in
     let acting : g.C.Acting.acting ≡ adds c.args.i c.in-Add.by = c.requires.acting ∙ ap (λ (a : ClientAct). client_step a c.args.i) c.in-Add.is in
-    let at = client_place _ _ _ _ _ _ _ _ _ c.self.invariant _ _ _ c.args.i c.client_word-word.result _ (ap (λ s. s.cut) shape) (ap (λ s. s.seats) shape)
-    (ap (λ s. s.client) shape) (ap place_of acting) c.requires.place c.client_word-word.ensures in (
+    let at = client_place c.self.invariant shape (ap place_of acting) c.requires.place c.client_word-word.ensures in (
       ap (λ s. s.table) c.token.view_is ∙ (c.requires.table ∙ sym (ap (λ s. s.table) shape)),
       at.0,
       token_client (g.G.Guard.first [] 0) _ _ _ g.G.Guard.holds g.G.Guard.allows g.M.Means.note g.G.Guard.keeps c.token.inside.number c.token.inside.seats
@@ -67,8 +64,7 @@ compare_exchange-requires g c =
     let shape = c.self.view_is in
     let acting : g.C.Acting.acting ≡ exchanges c.args.i c.in-Exchange.expected c.in-Exchange.new = c.requires.acting ∙ ap (λ
     (a : ClientAct). client_step a c.args.i) c.in-Exchange.is in
-    let at = client_place _ _ _ _ _ _ _ _ _ c.self.invariant _ _ _ c.args.i c.client_word-word.result _ (ap (λ s. s.cut) shape) (ap (λ s. s.seats) shape)
-    (ap (λ s. s.client) shape) (ap place_of acting) c.requires.place c.client_word-word.ensures in (
+    let at = client_place c.self.invariant shape (ap place_of acting) c.requires.place c.client_word-word.ensures in (
       ap (λ s. s.table) c.token.view_is ∙ (c.requires.table ∙ sym (ap (λ s. s.table) shape)),
       at.0,
       token_client (g.G.Guard.first [] 0) _ _ _ g.G.Guard.holds g.G.Guard.allows g.M.Means.note g.G.Guard.keeps c.token.inside.number c.token.inside.seats
