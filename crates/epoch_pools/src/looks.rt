@@ -1,8 +1,7 @@
 //! The looks of a refill, made with the token alone. What came home stands in the list of homes while the looks are
 //! made, and the barrier begins anew for all of it once, behind the last of them. A reader may rely on the closed line
 //! of `specs/Looking.antt`. Homes and the barrier are this project's own profile, after the epochs of Fraser 2004.
-ghost use Rattle.std.specs.Prelude.{◌≡◌, ◌≢◌, ◌+◌, ◌*◌, ◌<◌, ◌≤◌, if◌then◌else◌, ℕ, [], ◌∷◌, ◌++◌, true, false, length};
-ghost use Rattle.std.specs.Prelude.{not, ◌==◌};
+ghost use Rattle.std.specs.Prelude.{◌≡◌, ◌≢◌, ◌+◌, ◌*◌, ◌<◌, ◌≤◌, ◌==◌, if◌then◌else◌, ℕ, [], ◌∷◌, ◌++◌, not, true, false, length};
 ghost use Rattle.std.specs.Bool.{OnTrue, OnFalse};
 ghost use Rattle.view_lists.specs.Counted.{times};
 ghost use Rattle.lock_core.specs.declared.steps.Step.TheVariants.{ReadEpoch};
@@ -126,11 +125,11 @@ impl<G: Guard> List<G> {
         node: u32,
         steps: &mut Steps<L>,
     ) -> bool
-        requires fresh { fresh ≡ true → times node homes.old ≡ 0 }
         requires table { token.old.table ≡ self.now.table }
         requires sound { IsHandView token.old.part }
         requires free { IsFree token.old.part.core }
         requires beside { IsBeside token.old.part.core used.now homes.old }
+        requires fresh { fresh ≡ true → times node homes.old ≡ 0 }
         ensures table { token.new.table ≡ token.old.table }
         ensures sound { IsHandView token.new.part }
         ensures core { token.new.part.core ≡ (if result then come_back token.old.part.seats token.old.part.core node else token.old.part.core) }
