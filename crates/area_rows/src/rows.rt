@@ -48,7 +48,7 @@ fn pick(bit: u64, zero: u64, one: u64) -> u64
     ensures zero { bit ≡ 0 → result ≡ zero }
     ensures one { bit ≡ 1 → result ≡ one }
 {
-    zero * (1 - bit) + one * bit
+    zero.wrapping_add(one.wrapping_sub(zero).wrapping_mul(bit))
 }
 
 impl Space {
@@ -91,7 +91,7 @@ impl Space {
             let read = self.load_row(caller, from + (base + half));
             let (start, _) = read_row(read);
             let up = starts_up_to(start, page);
-            base += half * up as u32;
+            base += (half as u64 * up) as u32;
             word = pick(up, word, read);
             end = pick(up, start, end);
             size -= half;
