@@ -17,12 +17,12 @@ pub record IsAppended (nb : ℕ) (one started middle two : List ℕ) (i : ℕ) :
   pub told : two ≡ slice_set middle (128 * nb + 1 + i) (slice_index one (128 * nb + 1 + i) + (rows_of nb one (i + 1) + 1))
 
 -- what was read says where they stand
-pub is_appended : (nb : ℕ) (one loaded started middle two : List ℕ) (i packed other first : ℕ) → loaded ≡ one → packed ≡ slice_index one (128 * nb + 1 + i)
+pub is_appended : {nb : ℕ} {one loaded started middle two : List ℕ} {i packed other first : ℕ} → loaded ≡ one → packed ≡ slice_index one (128 * nb + 1 + i)
     → other ≡ slice_index one (128 * nb + 1 + (i + 1)) → first ≡ slice_index one (i + 1)
     → started ≡ slice_set loaded (nb + 127 * (packed / 128) + packed % 128) first
     → IsCopied started middle (nb + 127 * (other / 128)) (nb + 127 * (packed / 128) + packed % 128 + 1) (other % 128)
     → two ≡ slice_set middle (128 * nb + 1 + i) (packed + (other % 128 + 1)) → IsAppended nb one started middle two i
-is_appended nb one loaded started middle two i packed other first same read behind was laid c stored = record {
+is_appended {nb} {one} {started} {middle} {i} {packed} {other} {first} same read behind was laid c stored = record {
   head = laid
       ∙ (ap (λ (l : List ℕ). slice_set l (nb + 127 * (packed / 128) + packed % 128) first) same
       ∙ (ap (λ (x : ℕ). slice_set one (nb + 127 * (x / 128) + x % 128) first) read
@@ -35,12 +35,11 @@ is_appended nb one loaded started middle two i packed other first same read behi
 }
 
 -- the rows of the upper block stand as they stood once its head stands behind those of the lower one
-pub started_stays : (nb : ℕ) (one loaded started : List ℕ) (i packed other first m : ℕ) → IsLaidOut nb one → i + 1 < blocks_of nb one
+pub started_stays : {nb : ℕ} {one loaded started : List ℕ} (i : ℕ) {packed other : ℕ} (first m : ℕ) → IsLaidOut nb one → i + 1 < blocks_of nb one
     → rows_of nb one i + 1 + rows_of nb one (i + 1) ≤ 127 → loaded ≡ one → packed ≡ slice_index one (128 * nb + 1 + i)
-    → other ≡ slice_index one (128 * nb + 1 + (i + 1)) → m < other % 128
-    → started ≡ slice_set loaded (nb + 127 * (packed / 128) + packed % 128) first
+    → other ≡ slice_index one (128 * nb + 1 + (i + 1)) → m < other % 128 → started ≡ slice_set loaded (nb + 127 * (packed / 128) + packed % 128) first
     → slice_index started (nb + 127 * (other / 128) + m) ≡ slice_index one (nb + 127 * (other / 128) + m)
-started_stays nb one loaded started i packed other first m laid there room same read behind lt laid_first =
+started_stays {nb} {one} {loaded} i {packed} {other} first m laid there room same read behind lt laid_first =
     let spare = laid.spare in
     let apart : body_of nb one i ≢ body_of nb one (i + 1) = λ e. let z = laid.apart i (i + 1) (omega arith) (omega arith) e in absurd (omega arith) in
     ap (λ (l : List ℕ). slice_index l (nb + 127 * (other / 128) + m)) laid_first
@@ -51,7 +50,7 @@ started_stays nb one loaded started i packed other first m laid there room same 
     ])
     ∙ ap (λ (l : List ℕ). slice_index l (nb + 127 * (other / 128) + m)) same)
 
-module _ (nb : ℕ) (one started middle two : List ℕ) (i : ℕ) (laid : IsLaidOut nb one) (there : i + 1 < blocks_of nb one)
+module _ {nb : ℕ} {one started middle two : List ℕ} {i : ℕ} (laid : IsLaidOut nb one) (there : i + 1 < blocks_of nb one)
     (room : rows_of nb one i + 1 + rows_of nb one (i + 1) ≤ 127) (a : IsAppended nb one started middle two i) where
   started_other : (s : ℕ) → s ≢ body_at nb one i + rows_of nb one i → slice_index started s ≡ slice_index one s
   started_other s d = ap (λ (l : List ℕ). slice_index l s) a.head ∙ get_or-set_other one (body_at nb one i + rows_of nb one i) s (slice_index one (i + 1)) 0 d
@@ -66,14 +65,14 @@ module _ (nb : ℕ) (one started middle two : List ℕ) (i : ℕ) (laid : IsLaid
   pub append_only : OnlyBlock nb one two i
   append_only =
       let s = laid.spare in
-      only_block nb one middle two i (slice_index one (128 * nb + 1 + i) + (rows_of nb one (i + 1) + 1)) 0 laid (omega arith) long_middle a.told (omega arith)
+      only_block middle i (slice_index one (128 * nb + 1 + i) + (rows_of nb one (i + 1) + 1)) 0 laid (omega arith) long_middle a.told (omega arith)
       (λ t differ low. a.rest.below t (omega arith) ∙ started_other t (λ e. omega arith))
       (λ t high. a.rest.above t (omega arith) ∙ started_other t (λ e. omega arith))
 
   -- and has the rows of both
   pub append_more : rows_of nb two i ≡ rows_of nb one i + 1 + rows_of nb one (i + 1)
   append_more =
-      let e = told_is nb one middle two i (slice_index one (128 * nb + 1 + i) + (rows_of nb one (i + 1) + 1)) 0 laid (omega arith) long_middle a.told in
+      let e = told_is middle i (slice_index one (128 * nb + 1 + i) + (rows_of nb one (i + 1) + 1)) 0 laid (omega arith) long_middle a.told in
       omega arith
 
   -- the rows of both stand in one block
@@ -91,8 +90,7 @@ module _ (nb : ℕ) (one started middle two : List ℕ) (i : ℕ) (laid : IsLaid
       let head : ℕ = slice_index one (i + 1) in
       let lm = long_middle in
       let whole : block nb two i ≡ slice_index middle i ∷ take (n + (1 + m)) (drop at middle) =
-      block_is nb one middle two i (slice_index one (128 * nb + 1 + i) + (m + 1)) (n + (1 + m)) laid (omega arith) lm a.told
-      (omega arith) (omega arith) (omega arith) in
+      block_is middle i (slice_index one (128 * nb + 1 + i) + (m + 1)) (n + (1 + m)) laid (omega arith) lm a.told (omega arith) (omega arith) (omega arith) in
       let first : slice_index middle i ≡ slice_index one i = a.rest.below i (omega arith) ∙ started_other i (λ e. omega arith) in
       let second : slice_index middle (at + n) ≡ head =
       a.rest.below (at + n) (omega arith)

@@ -14,9 +14,9 @@ pub count_stays_before : (nb : ℕ) (one two : List ℕ) (i : ℕ) → i < nb �
 count_stays_before nb one two i there others = count_same nb one two i (λ k lt. ap (λ (x : ℕ). x % 128) (others k (omega arith) (λ e. omega arith)))
 
 -- one row more
-pub comes_on : (R two three more : List ℕ) (r k at w : ℕ) → r ≤ length R → k < length more → two ≡ splice R r r (take k more)
+pub comes_on : (R : List ℕ) {two three : List ℕ} (more : List ℕ) (r k : ℕ) {at w : ℕ} → r ≤ length R → k < length more → two ≡ splice R r r (take k more)
     → three ≡ splice two at at (w ∷ []) → at ≡ r + k → w ≡ get_or more k 0 → three ≡ splice R r r (take (k + 1) more)
-comes_on R two three more r k at w there some was comes place word =
+comes_on R more r k {at} {w} there some was comes place word =
     let u : List ℕ = take k more in
     let long : length u ≡ k = length-take-le k more (omega arith) in
     let here : at ≡ r + length u = omega arith in

@@ -26,9 +26,9 @@ count_up nb words i (suc n) le = elim (cases_lt i (suc n)) [
 ]
 
 -- where rows stand behind the first blocks, there is one more
-pub block_there : (nb : ℕ) (words : List ℕ) (i : ℕ) → IsLaidOut nb words → i ≤ blocks_of nb words → count_to nb words i < length (rows_in nb words)
+pub block_there : {nb : ℕ} {words : List ℕ} (i : ℕ) → IsLaidOut nb words → i ≤ blocks_of nb words → count_to nb words i < length (rows_in nb words)
     → i < blocks_of nb words
-block_there nb words i laid le more = elim (cases_lt i (blocks_of nb words)) [
+block_there {nb} {words} i laid le more = elim (cases_lt i (blocks_of nb words)) [
   | inl lt ↦ lt
   | inr ge ↦
       let e : i ≡ blocks_of nb words = omega arith in
@@ -38,9 +38,9 @@ block_there nb words i laid le more = elim (cases_lt i (blocks_of nb words)) [
 ]
 
 -- a row that is laid at a slot changes that row alone
-pub set_there : (nb : ℕ) (words : List ℕ) (i j s w : ℕ) → IsLaidOut nb words → IsSlot nb words i j s
+pub set_there : {nb : ℕ} {words : List ℕ} {i j s : ℕ} (w : ℕ) → IsLaidOut nb words → IsSlot nb words i j s
     → rows_in nb (slice_set words s w) ≡ slice_set (rows_in nb words) (rank nb words i j) w
-set_there nb words i j s w laid is =
+set_there {nb} {words} {i} {j} {s} w laid is =
     let k : ℕ = count_to nb words i + j in
     let there = is.there in
     let below = is.below in

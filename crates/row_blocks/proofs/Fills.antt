@@ -43,11 +43,10 @@ pub record IsFilling (nb : ℕ) (one two rows : List ℕ) (i taken : ℕ) : Type
   pub above : (s : ℕ) → 129 * nb + 1 ≤ s → slice_index two s ≡ slice_index one s
 
 -- none at first
-pub nothing_laid : (nb : ℕ) (one two rows : List ℕ) → length two ≡ length one
-    → ((k : ℕ) → k < nb → slice_index two (128 * nb + 1 + k) ≡ 128 * k)
-    → ((s : ℕ) → s < 128 * nb + 1 → slice_index two s ≡ slice_index one s)
-    → ((s : ℕ) → 129 * nb + 1 ≤ s → slice_index two s ≡ slice_index one s) → IsFilling nb one two rows 0 0
-nothing_laid nb one two rows long told below above = record {
+pub nothing_laid : {nb : ℕ} {one two rows : List ℕ} → length two ≡ length one → ((k : ℕ) → k < nb → slice_index two (128 * nb + 1 + k) ≡ 128 * k)
+    → ((s : ℕ) → s < 128 * nb + 1 → slice_index two s ≡ slice_index one s) → ((s : ℕ) → 129 * nb + 1 ≤ s → slice_index two s ≡ slice_index one s)
+    → IsFilling nb one two rows 0 0
+nothing_laid {nb} long told below above = record {
   long = long;
   body = λ k lt. let t = told k lt in omega arith;
   none = λ k le lt. let t = told k lt in omega arith;
@@ -57,7 +56,7 @@ nothing_laid nb one two rows long told below above = record {
   above = above;
 }
 
-module _ (nb : ℕ) (one two three rows : List ℕ) (i taken count : ℕ) (wide : 129 * nb + 1 ≤ length one) (there : i < nb) (some : 0 < count)
+module _ {nb : ℕ} {one two three rows : List ℕ} {i taken count : ℕ} (wide : 129 * nb + 1 ≤ length one) (there : i < nb) (some : 0 < count)
     (most : count ≤ 128) (within : taken + count ≤ length rows) (before : IsFilling nb one two rows i taken)
     (laid : IsBlockLaid nb two three rows i taken count) where
   told_same : (k : ℕ) → k < nb → k ≢ i → slice_index three (128 * nb + 1 + k) ≡ slice_index two (128 * nb + 1 + k)
@@ -140,13 +139,13 @@ module _ (nb : ℕ) (one two three rows : List ℕ) (i taken count : ℕ) (wide 
   }
 
   -- the same by the numbers that they come to
-  pub filled_to : (next all : ℕ) → next ≡ i + 1 → all ≡ taken + count → IsFilling nb one three rows next all
-  filled_to next all a b = subst (λ (p : ℕ × ℕ). IsFilling nb one three rows p.0 p.1) (λ j. (sym a j, sym b j)) filled_on
+  pub filled_to : {next all : ℕ} → next ≡ i + 1 → all ≡ taken + count → IsFilling nb one three rows next all
+  filled_to a b = subst (λ (p : ℕ × ℕ). IsFilling nb one three rows p.0 p.1) (λ j. (sym a j, sym b j)) filled_on
 
 -- the words are laid out
-pub filled_laid : (nb : ℕ) (one two rows : List ℕ) (i taken : ℕ) → 129 * nb + 1 ≤ length one → 0 < i → i < nb → blocks_of nb two ≡ i
+pub filled_laid : {nb : ℕ} {one two rows : List ℕ} {i taken : ℕ} → 129 * nb + 1 ≤ length one → 0 < i → i < nb → blocks_of nb two ≡ i
     → IsFilling nb one two rows i taken → IsLaidOut nb two
-filled_laid nb one two rows i taken wide some high used filling =
+filled_laid wide some high used filling =
     let long = filling.long in
     record {
       wide = omega arith;
@@ -157,18 +156,9 @@ filled_laid nb one two rows i taken wide some high used filling =
     }
 
 -- and the rows are all of the list
-pub filled_rows : (nb : ℕ) (one two rows : List ℕ) (i taken : ℕ) → blocks_of nb two ≡ i → taken ≡ length rows
-    → IsFilling nb one two rows i taken → rows_in nb two ≡ rows
-filled_rows nb one two rows i taken used all filling =
-    ap (pieces (block nb two)) used ∙ (filling.laid ∙ (ap (λ (n : ℕ). take n rows) all ∙ take-length rows))
-
--- what stands behind the rows of a body stays
-pub filled_bodies : (nb : ℕ) (one two rows : List ℕ) (i taken k j : ℕ) → IsFilling nb one two rows i taken → k < nb → rows_of nb two k ≤ j → j < 127
-    → slice_index two (body_at nb two k + j) ≡ slice_index one (body_at nb two k + j)
-filled_bodies nb one two rows i taken k j filling lt le few =
-    let b = filling.body k lt in
-    let at : nb + 127 * k + j ≡ body_at nb two k + j = omega arith in
-    subst (λ (s : ℕ). slice_index two s ≡ slice_index one s) at (filling.bodies k j lt le few)
+pub filled_rows : {nb : ℕ} {one two rows : List ℕ} {i taken : ℕ} → blocks_of nb two ≡ i → taken ≡ length rows → IsFilling nb one two rows i taken
+    → rows_in nb two ≡ rows
+filled_rows {nb} {two} {rows} used all filling = ap (pieces (block nb two)) used ∙ (filling.laid ∙ (ap (λ (n : ℕ). take n rows) all ∙ take-length rows))
 
 -- rows that are left have a block
 pub some_left : (f r left : ℕ) → 0 < left → left ≤ f * r → 0 < r
@@ -181,10 +171,9 @@ some_left f r left some le = elim (cases_lt 0 r) [
 ]
 
 -- and fit in the others once one more is filled
-pub left_on : (f nb i all taken count : ℕ) → taken < all → all - taken ≤ f * (nb - 1 - i) → count ≡ min f (all - taken)
+pub left_on : (f nb i all taken : ℕ) {count : ℕ} → taken < all → all - taken ≤ f * (nb - 1 - i) → count ≡ min f (all - taken)
     → all - (taken + count) ≤ f * (nb - 1 - (i + 1))
-left_on f nb i all taken count more le is =
-    let r : ℕ = nb - 1 - (i + 1) in
+left_on f nb i all taken more le is =
     let one = some_left f (nb - 1 - i) (all - taken) (omega arith) le in
     let up : nb - 1 - i ≡ suc (nb - 1 - (i + 1)) = omega arith in
     let e : f * (nb - 1 - i) ≡ f * suc (nb - 1 - (i + 1)) = ap (λ (m : ℕ). f * m) up in
@@ -192,9 +181,9 @@ left_on f nb i all taken count more le is =
     omega arith
 
 -- a list is read on by a word of a body
-pub gathered_on : (words out old : List ℕ) (at k : ℕ) → out ≡ old ++ take k (drop at words) → at + k < length words
+pub gathered_on : (words : List ℕ) {out : List ℕ} (old : List ℕ) (at k : ℕ) → out ≡ old ++ take k (drop at words) → at + k < length words
     → out ++ (slice_index words (at + k) ∷ []) ≡ old ++ take (k + 1) (drop at words)
-gathered_on words out old at k is lt =
+gathered_on words old at k is lt =
     let d = length-drop at words in
     let one : take (k + 1) (drop at words) ≡ take k (drop at words) ++ (get_or (drop at words) k 0 ∷ []) = take_more (drop at words) k 0 (omega arith) in
     let w = get_or-drop at words k 0 in
@@ -203,18 +192,18 @@ gathered_on words out old at k is lt =
     ∙ ap (λ (x : List ℕ). old ++ x) (ap (λ (x : ℕ). take k (drop at words) ++ (x ∷ [])) (sym w) ∙ sym one))
 
 -- a block that was read to its end
-pub gathered_block : (nb : ℕ) (words out old one : List ℕ) (i at k : ℕ) → one ≡ old ++ (slice_index words i ∷ []) → out ≡ one ++ take k (drop at words)
-    → at ≡ body_at nb words i → k ≡ rows_of nb words i → out ≡ old ++ block nb words i
-gathered_block nb words out old one i at k first rest place all =
+pub gathered_block : (nb : ℕ) (words : List ℕ) {out : List ℕ} (old : List ℕ) {one : List ℕ} (i : ℕ) {at k : ℕ} → one ≡ old ++ (slice_index words i ∷ [])
+    → out ≡ one ++ take k (drop at words) → at ≡ body_at nb words i → k ≡ rows_of nb words i → out ≡ old ++ block nb words i
+gathered_block nb words old i {at} {k} first rest place all =
     rest
     ∙ (ap (λ (x : List ℕ). x ++ take k (drop at words)) first
     ∙ (append_assoc old (slice_index words i ∷ []) (take k (drop at words))
     ∙ (λ j. old ++ (slice_index words i ∷ take (all j) (drop (place j) words)))))
 
 -- all blocks so far, and one more
-pub gathered_next : (nb : ℕ) (words out new old : List ℕ) (i : ℕ) → out ≡ old ++ pieces (block nb words) i → new ≡ out ++ block nb words i
-    → new ≡ old ++ pieces (block nb words) (i + 1)
-gathered_next nb words out new old i is more =
+pub gathered_next : (nb : ℕ) (words : List ℕ) {out new : List ℕ} (old : List ℕ) (i : ℕ) → out ≡ old ++ pieces (block nb words) i
+    → new ≡ out ++ block nb words i → new ≡ old ++ pieces (block nb words) (i + 1)
+gathered_next nb words old i is more =
     let e : i + 1 ≡ suc i = omega arith in
     more
     ∙ (ap (λ (x : List ℕ). x ++ block nb words i) is
@@ -222,11 +211,11 @@ gathered_next nb words out new old i is more =
     ∙ ap (λ (n : ℕ). old ++ pieces (block nb words) n) (sym e)))
 
 -- there is room for a block as long as there is for all
-pub room_next : (nb : ℕ) (words out old : List ℕ) (i : ℕ) → IsLaidOut nb words → i < blocks_of nb words → out ≡ old ++ pieces (block nb words) i
+pub room_next : {nb : ℕ} {words out : List ℕ} (old : List ℕ) (i : ℕ) → IsLaidOut nb words → i < blocks_of nb words → out ≡ old ++ pieces (block nb words) i
     → length out + (1 + rows_of nb words i) ≤ length old + length (rows_in nb words)
-room_next nb words out old i laid lt is =
+room_next {nb} {words} {out} old i laid lt is =
     let spare = laid.spare in
-    let one = block_length nb words i laid (omega arith) in
+    let one = block_length i laid (omega arith) in
     let ends = piece_ends (block nb words) i (blocks_of nb words) lt in
     let l = length-append old (pieces (block nb words) i) in
     let e : length out ≡ length (old ++ pieces (block nb words) i) = ap (λ (x : List ℕ). length x) is in

@@ -46,7 +46,7 @@ halves_on start now size width less h more half = record {
       subst (λ (n : ℕ). less ≤ 2 ^ n) e (let f = b.2 in omega arith);
 }
 
-module _ (nb : ℕ) (words : List ℕ) (i : ℕ) (laid : IsLaidOut nb words) (there : i < blocks_of nb words) where
+module _ {nb : ℕ} {words : List ℕ} (i : ℕ) (laid : IsLaidOut nb words) (there : i < blocks_of nb words) where
   -- where the next row starts
   pub end_there : (j end behind : ℕ) → j ≤ rows_of nb words i
       → ((k : ℕ) → k < length (rows_in nb words) → row_start (slice_index (rows_in nb words) k) ≤ LIMIT)
@@ -58,9 +58,9 @@ module _ (nb : ℕ) (words : List ℕ) (i : ℕ) (laid : IsLaidOut nb words) (th
   end_there j end behind le low inside last next none =
       let s = laid.spare in
       let rows : List ℕ = rows_in nb words in
-      let l = block_length nb words i laid (omega arith) in
+      let l = block_length i laid (omega arith) in
       let joined = length-append (pieces (block nb words) i) (block nb words i) in
-      let c = count_is nb words i laid (omega arith) in
+      let c = count_is i laid (omega arith) in
       elim (cases_lt j (rows_of nb words i)) [
         | inl less ↦
             let at : rank nb words i j + 1 ≡ rank nb words i (j + 1) = omega arith in
@@ -75,7 +75,7 @@ module _ (nb : ℕ) (words : List ℕ) (i : ℕ) (laid : IsLaidOut nb words) (th
             let e : end ≡ behind = last (omega arith) in
             elim (cases_lt (suc i) (blocks_of nb words)) [
               | inl more ↦
-                  let len : length (block nb words (suc i)) ≡ suc (rows_of nb words (suc i)) = block_length nb words (suc i) laid (omega arith) in
+                  let len : length (block nb words (suc i)) ≡ suc (rows_of nb words (suc i)) = block_length (suc i) laid (omega arith) in
                   let ends = piece_ends (block nb words) (suc i) (blocks_of nb words) more in
                   let r : ℕ = length (pieces (block nb words) (suc i)) in
                   let zero_more : r + 0 ≡ r = omega arith in

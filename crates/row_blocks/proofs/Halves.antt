@@ -4,7 +4,7 @@ use Rattle.std.proofs.lemmas.Bool.{cases_lt}
 use Rattle.row_blocks.specs.Blocks.{rows_of, count_to, told}
 use Rattle.row_blocks.proofs.Counts.{count_same, count_next}
 
-module _ (nb : ℕ) (one two : List ℕ) (i half : ℕ) (before : (k : ℕ) → k < i → told nb two k ≡ told nb one k) (lower : rows_of nb two i + 1 ≡ half) where
+module _ (nb : ℕ) (one two : List ℕ) (i : ℕ) {half : ℕ} (before : (k : ℕ) → k < i → told nb two k ≡ told nb one k) (lower : rows_of nb two i + 1 ≡ half) where
   -- as many rows stand before the lower half
   pub low_rank : count_to nb two i ≡ count_to nb one i
   low_rank = count_same nb one two i (λ k lt. ap (λ (x : ℕ). x % 128) (before k lt))

@@ -15,8 +15,8 @@ pub record SameLayout (nb : ℕ) (one two : List ℕ) : Type 0 where
   pub body : (i : ℕ) → body_at nb two i ≡ body_at nb one i
   pub before : (i : ℕ) → count_to nb two i ≡ count_to nb one i
 
-pub same_layout : (nb : ℕ) (one two : List ℕ) → ((t : ℕ) → 128 * nb ≤ t → slice_index two t ≡ slice_index one t) → SameLayout nb one two
-same_layout nb one two same =
+pub same_layout : {nb : ℕ} {one two : List ℕ} → ((t : ℕ) → 128 * nb ≤ t → slice_index two t ≡ slice_index one t) → SameLayout nb one two
+same_layout {nb} {one} {two} same =
     let rows : (i : ℕ) → rows_of nb two i ≡ rows_of nb one i = λ (i : ℕ). ap (λ (x : ℕ). x % 128) (same (128 * nb + 1 + i) (omega arith)) in
     record {
       count = same (128 * nb) (omega arith);
@@ -32,10 +32,10 @@ lays_none nb one more r =
     subst (λ (q : ℕ). rows_in nb one ≡ splice (rows_in nb one) r q (take 0 more)) e (sym (splice_none (rows_in nb one) r))
 
 -- one row more
-pub laid_more : (nb : ℕ) (one two three more : List ℕ) (r k at w : ℕ) → r + k < length (rows_in nb one) → k < length more
-    → rows_in nb two ≡ splice (rows_in nb one) r (r + k) (take k more) → rows_in nb three ≡ slice_set (rows_in nb two) at w
-    → at ≡ r + k → w ≡ get_or more k 0 → rows_in nb three ≡ splice (rows_in nb one) r (r + (k + 1)) (take (k + 1) more)
-laid_more nb one two three more r k at w there some was laid place word =
+pub laid_more : (nb : ℕ) (one two three more : List ℕ) (r k : ℕ) {at w : ℕ} → r + k < length (rows_in nb one) → k < length more
+    → rows_in nb two ≡ splice (rows_in nb one) r (r + k) (take k more) → rows_in nb three ≡ slice_set (rows_in nb two) at w → at ≡ r + k → w ≡ get_or more k 0
+    → rows_in nb three ≡ splice (rows_in nb one) r (r + (k + 1)) (take (k + 1) more)
+laid_more nb one two three more r k {at} {w} there some was laid place word =
     laid
     ∙ (ap (λ (l : List ℕ). slice_set l at w) was
     ∙ (ap (λ (n : ℕ). slice_set (splice (rows_in nb one) r (r + k) (take k more)) n w) place
@@ -43,8 +43,8 @@ laid_more nb one two three more r k at w there some was laid place word =
     ∙ lays_on (rows_in nb one) more r k there some)))
 
 -- there are as many rows
-pub rows_long : (nb : ℕ) (one two : List ℕ) → IsLaidOut nb one → IsLaidOut nb two → SameLayout nb one two → length (rows_in nb two) ≡ length (rows_in nb one)
-rows_long nb one two laid after same =
+pub rows_long : {nb : ℕ} {one two : List ℕ} → IsLaidOut nb one → IsLaidOut nb two → SameLayout nb one two → length (rows_in nb two) ≡ length (rows_in nb one)
+rows_long {nb} {one} {two} laid after same =
     length-rows_in nb two after
     ∙ (ap (count_to nb two) same.count ∙ (same.before (blocks_of nb one) ∙ sym (length-rows_in nb one laid)))
 
@@ -57,8 +57,8 @@ pub record IsSpot (nb : ℕ) (words : List ℕ) (b p at rows r : ℕ) : Type 0 w
   pub rank : rank nb words b p ≡ r
 
 -- it is one while the layout stands as it stood
-pub spot_now : (nb : ℕ) (one two : List ℕ) (b p at rows r : ℕ) → SameLayout nb one two → IsSpot nb one b p at rows r → IsSpot nb two b p at rows r
-spot_now nb one two b p at rows r same spot = record {
+pub spot_now : {nb : ℕ} {one two : List ℕ} {b p at rows r : ℕ} → SameLayout nb one two → IsSpot nb one b p at rows r → IsSpot nb two b p at rows r
+spot_now {b} {p} same spot = record {
   there = subst (λ (n : ℕ). b < n) (sym same.count) spot.there;
   place = subst (λ (n : ℕ). p ≤ n + 1) (sym (same.rows b)) spot.place;
   body = spot.body ∙ sym (same.body b);
@@ -67,9 +67,9 @@ spot_now nb one two b p at rows r same spot = record {
 }
 
 -- and behind one more row the next place is one
-pub spot_on : (nb : ℕ) (one two : List ℕ) (b p at rows r k : ℕ) → SameLayout nb one two → b < blocks_of nb two → p ≤ rows_of nb two b
+pub spot_on : {nb : ℕ} {one two : List ℕ} {b : ℕ} (p : ℕ) {at rows : ℕ} (r k : ℕ) → SameLayout nb one two → b < blocks_of nb two → p ≤ rows_of nb two b
     → at ≡ body_at nb two b → rows ≡ rows_of nb two b → rank nb two b p ≡ r + k → IsSpot nb one b (p + 1) at rows (r + (k + 1))
-spot_on nb one two b p at rows r k same there place body count here =
+spot_on {nb} {one} {b} p r k same there place body count here =
     let below : p ≤ rows_of nb one b = subst (λ (n : ℕ). p ≤ n) (same.rows b) place in
     let now : rank nb one b p ≡ r + k = ap (λ (n : ℕ). n + p) (sym (same.before b)) ∙ here in
     record {
@@ -81,10 +81,10 @@ spot_on nb one two b p at rows r k same there place body count here =
     }
 
 -- a row stands there while fewer are laid than there are
-pub spot_below : (nb : ℕ) (one two : List ℕ) (b p at rows r k n : ℕ) → IsLaidOut nb one → IsLaidOut nb two → SameLayout nb one two
+pub spot_below : {nb : ℕ} {one two : List ℕ} {b p at rows : ℕ} (r k n : ℕ) → IsLaidOut nb one → IsLaidOut nb two → SameLayout nb one two
     → IsSpot nb two b p at rows (r + k) → k < n → r + n ≤ length (rows_in nb one) → rank nb two b p < length (rows_in nb two)
-spot_below nb one two b p at rows r k n laid after same spot less fits =
-    let long = rows_long nb one two laid after same in
+spot_below r k n laid after same spot less fits =
+    let long = rows_long laid after same in
     let here = spot.rank in
     omega arith
 

@@ -44,19 +44,19 @@ pieces_joined f g i (suc n) lt same both = elim (cases_lt (suc i) n) [
 ]
 
 -- so the rows are the same once the upper one of two blocks has been appended to the lower one and has gone
-pub merged : (nb : ℕ) (one middle two : List ℕ) (i : ℕ) → IsLaidOut nb one → IsLaidOut nb middle → i + 1 < blocks_of nb one
+pub merged : {nb : ℕ} {one middle : List ℕ} (two : List ℕ) (i : ℕ) → IsLaidOut nb one → IsLaidOut nb middle → i + 1 < blocks_of nb one
     → blocks_of nb middle ≡ blocks_of nb one → block nb middle i ≡ block nb one i ++ block nb one (i + 1)
     → ((k : ℕ) → k < nb → k ≢ i → block nb middle k ≡ block nb one k)
     → rows_in nb two ≡ splice (rows_in nb middle) (count_to nb middle (i + 1)) (count_to nb middle (i + 2)) [] → rows_in nb two ≡ rows_in nb one
-merged nb one middle two i laid after there count joined others out =
+merged {nb} {one} {middle} two i laid after there count joined others out =
     let spare = laid.spare in
     let g : ℕ → List ℕ = block nb middle in
     let up : i + 1 ≡ suc i = omega arith in
     let over : i + 2 ≡ suc (suc i) = omega arith in
     let x : count_to nb middle (i + 1) ≡ length (pieces g (suc i)) =
-    sym (count_is nb middle (i + 1) after (omega arith)) ∙ ap (λ (m : ℕ). length (pieces g m)) up in
+    sym (count_is (i + 1) after (omega arith)) ∙ ap (λ (m : ℕ). length (pieces g m)) up in
     let y : count_to nb middle (i + 2) ≡ length (pieces g (suc (suc i))) =
-    sym (count_is nb middle (i + 2) after (omega arith)) ∙ ap (λ (m : ℕ). length (pieces g m)) over in
+    sym (count_is (i + 2) after (omega arith)) ∙ ap (λ (m : ℕ). length (pieces g m)) over in
     let both : g i ≡ block nb one i ++ block nb one (suc i) = joined ∙ ap (λ (m : ℕ). block nb one i ++ block nb one m) up in
     out
     ∙ (ap (λ (m : ℕ). splice (rows_in nb middle) m (count_to nb middle (i + 2)) []) x
@@ -65,10 +65,10 @@ merged nb one middle two i laid after there count joined others out =
     ∙ pieces_joined (block nb one) g i (blocks_of nb one) (omega arith) (λ k l d. others k (omega arith) d) both)))
 
 -- rows that stand twice are rows
-pub rows_appended : (nb : ℕ) (one middle : List ℕ) (i : ℕ) → IsLaidOut nb one → i + 1 < blocks_of nb one → (P Q : ℕ → Type 0) → ((w : ℕ) → P w → Q w)
-    → blocks_of nb middle ≡ blocks_of nb one → block nb middle i ≡ block nb one i ++ block nb one (i + 1)
+pub rows_appended : {nb : ℕ} {one : List ℕ} (middle : List ℕ) (i : ℕ) → IsLaidOut nb one → i + 1 < blocks_of nb one → (P Q : ℕ → Type 0)
+    → ((w : ℕ) → P w → Q w) → blocks_of nb middle ≡ blocks_of nb one → block nb middle i ≡ block nb one i ++ block nb one (i + 1)
     → ((k : ℕ) → k < nb → k ≢ i → block nb middle k ≡ block nb one k) → All P (rows_in nb one) → All Q (rows_in nb middle)
-rows_appended nb one middle i laid there P Q keep count joined others all =
+rows_appended {nb} {one} middle i laid there P Q keep count joined others all =
     let spare = laid.spare in
     let more : (k : ℕ) → k < blocks_of nb one → All Q (block nb one k) = λ (k : ℕ) (lt : k < blocks_of nb one).
     All-weaker P Q keep (block nb one k) (all_of_piece P (block nb one) k (blocks_of nb one) lt all) in

@@ -12,16 +12,16 @@ use Rattle.row_blocks.specs.Moves.{IsPushed, IsPushing, IsCopied, IsPutIn, IsCut
 use Rattle.row_blocks.proofs.Puts.{same_run, body_put, body_cut, cut_head}
 
 -- a word that stands there is laid: nothing changes
-pub set_stood : (xs : List ℕ) (p w : ℕ) → p < length xs → slice_index xs p ≡ w → xs ≡ slice_set xs p w
-set_stood xs p w there stands =
+pub set_stood : (xs : List ℕ) (p : ℕ) {w : ℕ} → p < length xs → slice_index xs p ≡ w → xs ≡ slice_set xs p w
+set_stood xs p {w} there stands =
     let l = length-set xs p w in
     same_number_lists xs (slice_set xs p w) (sym l) (λ k lt. dite (ℕ_discrete k p)
     (λ e. subst (λ (n : ℕ). get_or xs n 0 ≡ get_or (slice_set xs p w) n 0) (sym e) (stands ∙ sym (get_or-set_same xs p w 0 there)))
     (λ differ. sym (get_or-set_other xs p k w 0 differ)))
 
 -- nothing has moved yet
-pub pushes_none : (one : List ℕ) (at word : ℕ) → IsPushing one one at at word word
-pushes_none one at word = record {
+pub pushes_none : {one : List ℕ} {at word : ℕ} → IsPushing one one at at word word
+pushes_none = record {
   long = refl;
   below = λ s lt. refl;
   here = λ lt. absurd (omega arith);
@@ -32,9 +32,9 @@ pushes_none one at word = record {
 }
 
 -- one word more has moved up
-pub pushes_on : (one two three : List ℕ) (at to word carried stood : ℕ) → at ≤ to → to < length one → IsPushing one two at to word carried
+pub pushes_on : {one two three : List ℕ} {at to word carried stood : ℕ} → at ≤ to → to < length one → IsPushing one two at to word carried
     → stood ≡ slice_index two to → three ≡ slice_set two to carried → IsPushing one three at (to + 1) word stood
-pushes_on one two three at to word carried stood ordered wide p stands laid =
+pushes_on {one} {two} {three} {at} {to} {carried} ordered wide p stands laid =
     let long = p.long in
     let here : slice_index three to ≡ carried = ap (λ (l : List ℕ). slice_index l to) laid ∙ get_or-set_same two to carried 0 (omega arith) in
     let stays : (s : ℕ) → s ≢ to → slice_index three s ≡ slice_index two s =
@@ -58,10 +58,10 @@ pushes_on one two three at to word carried stood ordered wide p stands laid =
     }
 
 -- and the one that is carried is laid
-pub pushes_end : (one two three : List ℕ) (at end word carried : ℕ) → at ≤ end → end < length one → IsPushing one two at end word carried
+pub pushes_end : {one two three : List ℕ} {at end word carried : ℕ} → at ≤ end → end < length one → IsPushing one two at end word carried
     → three ≡ slice_set two end carried → IsPushed one three at end word
-pushes_end one two three at end word carried ordered wide p laid =
-    let q = pushes_on one two three at end word carried (slice_index two end) ordered wide p refl laid in
+pushes_end ordered wide p laid =
+    let q = pushes_on ordered wide p refl laid in
     record {
       long = q.long;
       below = q.below;
@@ -71,8 +71,8 @@ pushes_end one two three at end word carried ordered wide p laid =
     }
 
 -- nothing is copied yet
-pub copies_none : (one : List ℕ) (from to : ℕ) → IsCopied one one from to 0
-copies_none one from to = record {
+pub copies_none : {one : List ℕ} {from to : ℕ} → IsCopied one one from to 0
+copies_none = record {
   long = refl;
   copied = λ m lt. absurd (omega arith);
   below = λ s lt. refl;
@@ -80,17 +80,17 @@ copies_none one from to = record {
 }
 
 -- what is copied next stands as it stood
-pub copy_source : (one two : List ℕ) (from to count k : ℕ) → k < count → (to ≤ from) ⊎ (from + count ≤ to) → IsCopied one two from to k
+pub copy_source : {one two : List ℕ} {from to : ℕ} (count : ℕ) {k : ℕ} → k < count → (to ≤ from) ⊎ (from + count ≤ to) → IsCopied one two from to k
     → slice_index two (from + k) ≡ slice_index one (from + k)
-copy_source one two from to count k lt apart p = elim apart [
+copy_source {from} count {k} lt apart p = elim apart [
   | inl down ↦ p.above (from + k) (omega arith)
   | inr away ↦ p.below (from + k) (omega arith)
 ]
 
 -- one word more is copied
-pub copies_on : (one two three : List ℕ) (from to count k row : ℕ) → k < count → to + count ≤ length one → (to ≤ from) ⊎ (from + count ≤ to)
+pub copies_on : {one two three : List ℕ} {from to : ℕ} (count : ℕ) {k row : ℕ} → k < count → to + count ≤ length one → (to ≤ from) ⊎ (from + count ≤ to)
     → IsCopied one two from to k → row ≡ slice_index two (from + k) → three ≡ slice_set two (to + k) row → IsCopied one three from to (k + 1)
-copies_on one two three from to count k row lt wide apart p read laid =
+copies_on {one} {two} {three} {from} {to} count {k} {row} lt wide apart p read laid =
     let long = p.long in
     let here : slice_index three (to + k) ≡ row =
     ap (λ (l : List ℕ). slice_index l (to + k)) laid ∙ get_or-set_same two (to + k) row 0 (omega arith) in
@@ -102,20 +102,20 @@ copies_on one two three from to count k row lt wide apart p read laid =
         | inl before ↦ stays (to + m) (λ e. omega arith) ∙ p.copied m before
         | inr ge ↦ let e : m ≡ k = omega arith in
             subst (λ (n : ℕ). slice_index three (to + n) ≡ slice_index one (from + n)) (sym e)
-            (here ∙ (read ∙ copy_source one two from to count k lt apart p))
+            (here ∙ (read ∙ copy_source count lt apart p))
       ];
       below = λ s less. stays s (λ e. omega arith) ∙ p.below s less;
       above = λ s le. stays s (λ e. omega arith) ∙ p.above s (omega arith);
     }
 
 -- a row comes behind the head of a block
-pub put_behind : (one two : List ℕ) (head at n place word : ℕ) → 0 < place → place ≤ n + 1 → head < at → at + n < length one
+pub put_behind : {one two : List ℕ} {head at n place word : ℕ} → 0 < place → place ≤ n + 1 → head < at → at + n < length one
     → IsPushed one two (at + (place - 1)) (at + n) word → IsPutIn one two head at n place word
-put_behind one two head at n place word some within low wide p =
+put_behind {one} {two} {head} {at} {n} {place} {word} some within low wide p =
     let up : suc (place - 1) ≡ place = omega arith in
     let first : slice_index two head ≡ slice_index one head = p.below head (omega arith) in
     let put : take (n + 1) (drop at two) ≡ insert (take n (drop at one)) (place - 1) word =
-    body_put one two at n (place - 1) word (omega arith) wide p.long p.below p.here p.moved in
+    body_put one two at n (place - 1) (omega arith) wide p.long p.below p.here p.moved in
     record {
       long = p.long;
       put = subst (λ (q : ℕ). slice_index two head ∷ take (n + 1) (drop at two) ≡ insert (slice_index one head ∷ take n (drop at one)) q word) up
@@ -125,9 +125,9 @@ put_behind one two head at n place word some within low wide p =
     }
 
 -- or takes its place, and the head goes to the front of the body
-pub put_front : (one mid two : List ℕ) (head at n word first : ℕ) → head < at → at + n < length one → first ≡ slice_index one head
+pub put_front : {one mid two : List ℕ} {head at n word first : ℕ} → head < at → at + n < length one → first ≡ slice_index one head
     → mid ≡ slice_set one head word → IsPushed mid two at (at + n) first → IsPutIn one two head at n 0 word
-put_front one mid two head at n word first low wide was laid p =
+put_front {one} {mid} {two} {head} {at} {n} {word} {first} low wide was laid p =
     let long_mid : length mid ≡ length one = ap length laid ∙ length-set one head word in
     let stays : (s : ℕ) → s ≢ head → slice_index mid s ≡ slice_index one s =
     λ (s : ℕ) (d : s ≢ head). ap (λ (l : List ℕ). slice_index l s) laid ∙ get_or-set_other one head s word 0 d in
@@ -135,8 +135,8 @@ put_front one mid two head at n word first low wide was laid p =
     p.below head (omega arith) ∙ (ap (λ (l : List ℕ). slice_index l head) laid ∙ get_or-set_same one head word 0 (omega arith)) in
     let at_is : at + 0 ≡ at = omega arith in
     let put : take (n + 1) (drop at two) ≡ insert (take n (drop at mid)) 0 first =
-    body_put mid two at n 0 first (omega arith) (omega arith) p.long (λ s lt. p.below s (omega arith))
-    (ap (slice_index two) at_is ∙ p.here) (λ s le lt. p.moved s (omega arith) lt) in
+    body_put mid two at n 0 (omega arith) (omega arith) p.long (λ s lt. p.below s (omega arith)) (ap (slice_index two) at_is ∙ p.here)
+    (λ s le lt. p.moved s (omega arith) lt) in
     let rest : take n (drop at mid) ≡ take n (drop at one) = same_run one mid at n (omega arith) long_mid (λ k lt. stays (at + k) (λ e. omega arith)) in
     record {
       long = p.long ∙ long_mid;
@@ -147,9 +147,9 @@ put_front one mid two head at n word first low wide was laid p =
     }
 
 -- rows behind the head go
-pub cut_behind : (one two : List ℕ) (head at n from until : ℕ) → 0 < from → from < until → until ≤ n + 1 → head < at → at + n ≤ length one
+pub cut_behind : {one two : List ℕ} {head at n from until : ℕ} → 0 < from → from < until → until ≤ n + 1 → head < at → at + n ≤ length one
     → IsCopied one two (at + (until - 1)) (at + (from - 1)) (n - (until - 1)) → IsCutOut one two head at n from until
-cut_behind one two head at n from until some ordered within low wide p =
+cut_behind {one} {two} {head} {at} {n} {from} {until} some ordered within low wide p =
     let up : suc (from - 1) ≡ from = omega arith in
     let over : suc (until - 1) ≡ until = omega arith in
     let gap : until - 1 - (from - 1) ≡ until - from = omega arith in
@@ -173,10 +173,10 @@ cut_behind one two head at n from until some ordered within low wide p =
     }
 
 -- or the head goes, and the first row of the body that stays takes its place
-pub cut_front : (one mid two : List ℕ) (head at n until first : ℕ) → 0 < until → until ≤ n → head < at → at + n ≤ length one
+pub cut_front : {one mid two : List ℕ} {head at n until first : ℕ} → 0 < until → until ≤ n → head < at → at + n ≤ length one
     → first ≡ slice_index one (at + (until - 1)) → IsCopied one mid (at + until) at (n - until) → two ≡ slice_set mid head first
     → IsCutOut one two head at n 0 until
-cut_front one mid two head at n until first some within low wide was p laid =
+cut_front {one} {mid} {two} {head} {at} {n} {until} {first} some within low wide was p laid =
     let long_mid = p.long in
     let long_two : length two ≡ length mid = ap length laid ∙ length-set mid head first in
     let stays : (s : ℕ) → s ≢ head → slice_index two s ≡ slice_index mid s =

@@ -9,22 +9,20 @@ use Rattle.row_blocks.specs.Moves.{IsPutIn, IsCutOut}
 use Rattle.row_blocks.proofs.Puts.{OnlyBlock, same_run, still_laid, rows_spliced, count_stays, body_word_stays}
 
 -- what a caller has read of a block's body word says where its rows stand
-pub put_there : (nb : ℕ) (one loaded middle : List ℕ) (i place w packed : ℕ) → loaded ≡ one → packed ≡ slice_index one (128 * nb + 1 + i)
+pub put_there : (nb : ℕ) {one loaded middle : List ℕ} {i place w packed : ℕ} → loaded ≡ one → packed ≡ slice_index one (128 * nb + 1 + i)
     → IsPutIn loaded middle i (nb + 127 * (packed / 128)) (packed % 128) place w → IsPutIn one middle i (body_at nb one i) (rows_of nb one i) place w
-put_there nb one loaded middle i place w packed same read p =
-    subst (λ (x : ℕ). IsPutIn one middle i (nb + 127 * (x / 128)) (x % 128) place w) read
+put_there nb {one} {middle} {i} {place} {w} {packed} same read p = subst (λ (x : ℕ). IsPutIn one middle i (nb + 127 * (x / 128)) (x % 128) place w) read
     (subst (λ (l : List ℕ). IsPutIn l middle i (nb + 127 * (packed / 128)) (packed % 128) place w) same p)
 
 -- the same where rows go
-pub cut_there : (nb : ℕ) (one loaded middle : List ℕ) (i from until packed : ℕ) → loaded ≡ one → packed ≡ slice_index one (128 * nb + 1 + i)
-    → IsCutOut loaded middle i (nb + 127 * (packed / 128)) (packed % 128) from until
-    → IsCutOut one middle i (body_at nb one i) (rows_of nb one i) from until
-cut_there nb one loaded middle i from until packed same read p =
+pub cut_there : (nb : ℕ) {one loaded middle : List ℕ} {i from until packed : ℕ} → loaded ≡ one → packed ≡ slice_index one (128 * nb + 1 + i)
+    → IsCutOut loaded middle i (nb + 127 * (packed / 128)) (packed % 128) from until → IsCutOut one middle i (body_at nb one i) (rows_of nb one i) from until
+cut_there nb {one} {middle} {i} {from} {until} {packed} same read p =
     subst (λ (x : ℕ). IsCutOut one middle i (nb + 127 * (x / 128)) (x % 128) from until) read
     (subst (λ (l : List ℕ). IsCutOut l middle i (nb + 127 * (packed / 128)) (packed % 128) from until) same p)
 
 -- a block with its body word, once the body word tells another number of rows
-module _ (nb : ℕ) (one middle two : List ℕ) (i word more : ℕ) (laid : IsLaidOut nb one) (there : i < blocks_of nb one)
+module _ {nb : ℕ} {one : List ℕ} (middle : List ℕ) {two : List ℕ} (i word more : ℕ) (laid : IsLaidOut nb one) (there : i < blocks_of nb one)
     (long : length middle ≡ length one) (stored : two ≡ slice_set middle (128 * nb + 1 + i) word) where
   long_two : length two ≡ length one
   long_two = ap length stored ∙ (length-set middle (128 * nb + 1 + i) word ∙ long)
@@ -70,46 +68,45 @@ module _ (nb : ℕ) (one middle two : List ℕ) (i word more : ℕ) (laid : IsLa
       }
 
 -- one row more
-module _ (nb : ℕ) (one middle two : List ℕ) (i place w : ℕ) (laid : IsLaidOut nb one) (there : i < blocks_of nb one)
-    (room : rows_of nb one i < 127) (put : IsPutIn one middle i (body_at nb one i) (rows_of nb one i) place w)
+module _ {nb : ℕ} {one middle two : List ℕ} {i place w : ℕ} (laid : IsLaidOut nb one) (there : i < blocks_of nb one) (room : rows_of nb one i < 127)
+    (put : IsPutIn one middle i (body_at nb one i) (rows_of nb one i) place w)
     (stored : two ≡ slice_set middle (128 * nb + 1 + i) (slice_index one (128 * nb + 1 + i) + 1)) where
   -- only this block has changed
   pub put_only : OnlyBlock nb one two i
-  put_only = only_block nb one middle two i (slice_index one (128 * nb + 1 + i) + 1) 0 laid there put.long stored (omega arith)
-      put.below (λ s le. put.above s (omega arith))
+  put_only = only_block middle i (slice_index one (128 * nb + 1 + i) + 1) 0 laid there put.long stored (omega arith) put.below
+      (λ s le. put.above s (omega arith))
 
   -- its rows are a splice of those before
   pub put_block : block nb two i ≡ splice (block nb one i) place place (w ∷ [])
   put_block =
-      block_is nb one middle two i (slice_index one (128 * nb + 1 + i) + 1) (rows_of nb one i + 1) laid there put.long stored
-      (omega arith) (omega arith) (omega arith)
+      block_is middle i (slice_index one (128 * nb + 1 + i) + 1) (rows_of nb one i + 1) laid there put.long stored (omega arith) (omega arith) (omega arith)
       ∙ put.put
 
   -- and they are one more
   pub put_more : rows_of nb two i ≡ rows_of nb one i + 1
   put_more =
-      let e = told_is nb one middle two i (slice_index one (128 * nb + 1 + i) + 1) 0 laid there put.long stored in omega arith
+      let e = told_is middle i (slice_index one (128 * nb + 1 + i) + 1) 0 laid there put.long stored in omega arith
 
 -- or some fewer
-module _ (nb : ℕ) (one middle two : List ℕ) (i from until : ℕ) (laid : IsLaidOut nb one) (there : i < blocks_of nb one)
-    (ordered : from < until) (left : until ≤ rows_of nb one i + from) (cut : IsCutOut one middle i (body_at nb one i) (rows_of nb one i) from until)
+module _ {nb : ℕ} {one middle two : List ℕ} {i from until : ℕ} (laid : IsLaidOut nb one) (there : i < blocks_of nb one) (ordered : from < until)
+    (left : until ≤ rows_of nb one i + from) (cut : IsCutOut one middle i (body_at nb one i) (rows_of nb one i) from until)
     (stored : two ≡ slice_set middle (128 * nb + 1 + i) (slice_index one (128 * nb + 1 + i) - (until - from))) where
   -- only this block has changed
   pub cut_only : OnlyBlock nb one two i
-  cut_only = only_block nb one middle two i (slice_index one (128 * nb + 1 + i) - (until - from)) 0 laid there cut.long stored (omega arith)
-      cut.below (λ s le. cut.above s (omega arith))
+  cut_only = only_block middle i (slice_index one (128 * nb + 1 + i) - (until - from)) 0 laid there cut.long stored (omega arith) cut.below
+      (λ s le. cut.above s (omega arith))
 
   -- its rows are a splice of those before
   pub block_cut : block nb two i ≡ splice (block nb one i) from until []
   block_cut =
-      block_is nb one middle two i (slice_index one (128 * nb + 1 + i) - (until - from)) (rows_of nb one i - (until - from)) laid there cut.long stored
-      (omega arith) (omega arith) (omega arith)
+      block_is middle i (slice_index one (128 * nb + 1 + i) - (until - from)) (rows_of nb one i - (until - from)) laid there cut.long stored (omega arith)
+      (omega arith) (omega arith)
       ∙ cut.cut
 
   -- and they are fewer
   pub cut_less : rows_of nb two i + (until - from) ≡ rows_of nb one i
   cut_less =
-      let e = told_is nb one middle two i (slice_index one (128 * nb + 1 + i) - (until - from)) 0 laid there cut.long stored in omega arith
+      let e = told_is middle i (slice_index one (128 * nb + 1 + i) - (until - from)) 0 laid there cut.long stored in omega arith
 
 -- what a splice of the rows of one block leaves of all, and how many rows the block has then
 pub record IsSplicedBlock (nb : ℕ) (one two : List ℕ) (i from until : ℕ) (new : List ℕ) (rows : ℕ) : Type 0 where
@@ -120,39 +117,37 @@ pub record IsSplicedBlock (nb : ℕ) (one two : List ℕ) (i from until : ℕ) (
   pub left : rows_of nb two i ≡ rows
 
 -- by what was read of the body word: one row more
-pub row_put : (nb : ℕ) (one loaded middle two : List ℕ) (i place w packed : ℕ) → IsLaidOut nb one → i < blocks_of nb one → rows_of nb one i < 127
+pub row_put : {nb : ℕ} {one loaded middle two : List ℕ} {i place w packed : ℕ} → IsLaidOut nb one → i < blocks_of nb one → rows_of nb one i < 127
     → place ≤ rows_of nb one i + 1 → loaded ≡ one → packed ≡ slice_index one (128 * nb + 1 + i)
     → IsPutIn loaded middle i (nb + 127 * (packed / 128)) (packed % 128) place w → two ≡ slice_set middle (128 * nb + 1 + i) (packed + 1)
     → IsSplicedBlock nb one two i place place (w ∷ []) (rows_of nb one i + 1)
-row_put nb one loaded middle two i place w packed laid there room within same read put more =
-    let p = put_there nb one loaded middle i place w packed same read put in
+row_put {nb} {one} {middle} {two} {i} {place} {w} laid there room within same read put more =
+    let p = put_there nb same read put in
     let stored : two ≡ slice_set middle (128 * nb + 1 + i) (slice_index one (128 * nb + 1 + i) + 1) =
     more ∙ ap (λ (x : ℕ). slice_set middle (128 * nb + 1 + i) (x + 1)) read in
-    let only = put_only nb one middle two i place w laid there room p stored in
+    let only = put_only laid there room p stored in
     record {
-      laid = still_laid nb one two i laid there only;
-      spliced = rows_spliced nb one two i laid there only place place (w ∷ []) (omega arith) within
-          (put_block nb one middle two i place w laid there room p stored);
-      count = count_stays nb one two i laid there only;
-      others = body_word_stays nb one two i laid there only;
-      left = put_more nb one middle two i place w laid there room p stored;
+      laid = still_laid laid there only;
+      spliced = rows_spliced laid there only place place (w ∷ []) (omega arith) within (put_block laid there room p stored);
+      count = count_stays laid there only;
+      others = body_word_stays laid there only;
+      left = put_more laid there room p stored;
     }
 
 -- or some fewer
-pub rows_cut : (nb : ℕ) (one loaded middle two : List ℕ) (i from until packed : ℕ) → IsLaidOut nb one → i < blocks_of nb one → from < until
+pub rows_cut : {nb : ℕ} {one loaded middle two : List ℕ} {i from until packed : ℕ} → IsLaidOut nb one → i < blocks_of nb one → from < until
     → until ≤ rows_of nb one i + 1 → until ≤ rows_of nb one i + from → loaded ≡ one → packed ≡ slice_index one (128 * nb + 1 + i)
-    → IsCutOut loaded middle i (nb + 127 * (packed / 128)) (packed % 128) from until
-    → two ≡ slice_set middle (128 * nb + 1 + i) (packed - (until - from)) → IsSplicedBlock nb one two i from until [] (rows_of nb one i - (until - from))
-rows_cut nb one loaded middle two i from until packed laid there ordered within left same read cut less =
-    let p = cut_there nb one loaded middle i from until packed same read cut in
+    → IsCutOut loaded middle i (nb + 127 * (packed / 128)) (packed % 128) from until → two ≡ slice_set middle (128 * nb + 1 + i) (packed - (until - from))
+    → IsSplicedBlock nb one two i from until [] (rows_of nb one i - (until - from))
+rows_cut {nb} {one} {middle} {two} {i} {from} {until} laid there ordered within left same read cut less =
+    let p = cut_there nb same read cut in
     let stored : two ≡ slice_set middle (128 * nb + 1 + i) (slice_index one (128 * nb + 1 + i) - (until - from)) =
     less ∙ ap (λ (x : ℕ). slice_set middle (128 * nb + 1 + i) (x - (until - from))) read in
-    let only = cut_only nb one middle two i from until laid there ordered left p stored in
+    let only = cut_only laid there ordered left p stored in
     record {
-      laid = still_laid nb one two i laid there only;
-      spliced = rows_spliced nb one two i laid there only from until [] (omega arith) within
-          (block_cut nb one middle two i from until laid there ordered left p stored);
-      count = count_stays nb one two i laid there only;
-      others = body_word_stays nb one two i laid there only;
-      left = let e = cut_less nb one middle two i from until laid there ordered left p stored in omega arith;
+      laid = still_laid laid there only;
+      spliced = rows_spliced laid there only from until [] (omega arith) within (block_cut laid there ordered left p stored);
+      count = count_stays laid there only;
+      others = body_word_stays laid there only;
+      left = let e = cut_less laid there ordered left p stored in omega arith;
     }

@@ -16,9 +16,9 @@ pairs_fill nb words (suc p) full =
     omega arith
 
 -- so there are two that can be merged where all blocks are in use
-pub pair_there : (nb : ℕ) (words : List ℕ) → IsLaidOut nb words → blocks_of nb words ≡ nb → 2 * length (rows_in nb words) < 129 * (nb - 2)
+pub pair_there : {nb : ℕ} {words : List ℕ} → IsLaidOut nb words → blocks_of nb words ≡ nb → 2 * length (rows_in nb words) < 129 * (nb - 2)
     → ((k : ℕ) → 0 < k → k + 1 < nb → 127 < rows_of nb words k + 1 + rows_of nb words (k + 1)) → ⊥
-pair_there nb words laid all room full =
+pair_there {nb} {words} laid all room full =
     let p : ℕ = (nb - 1) / 2 in
     let next : (k : ℕ) → rows_of nb words (k + 1) ≡ rows_of nb words (suc k) = λ (k : ℕ). ap (rows_of nb words) (let e : k + 1 ≡ suc k = omega arith in e) in
     let fill = pairs_fill nb words p (λ k some lt. let f = full k some (omega arith) in let e = next k in omega arith) in

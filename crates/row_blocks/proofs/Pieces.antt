@@ -50,10 +50,10 @@ pub record StandsAt (f : ℕ → List ℕ) (n r : ℕ) : Type 0 where
   pub at : r ≡ length (pieces f k) + j
 
 -- its list and its place there
-pub stands_at : (f : ℕ → List ℕ) (n r : ℕ) → r < length (pieces f n) → StandsAt f n r
-stands_at f zero r lt = absurd (omega arith)
-stands_at f (suc n) r lt = elim (cases_lt r (length (pieces f n))) [
-  | inl less ↦ let s = stands_at f n r less in let t = s.there in record { k = s.k; j = s.j; there = omega arith; below = s.below; at = s.at }
+pub stands_at : {f : ℕ → List ℕ} (n : ℕ) {r : ℕ} → r < length (pieces f n) → StandsAt f n r
+stands_at zero lt = absurd (omega arith)
+stands_at {f} (suc n) {r} lt = elim (cases_lt r (length (pieces f n))) [
+  | inl less ↦ let s = stands_at n less in let t = s.there in record { k = s.k; j = s.j; there = omega arith; below = s.below; at = s.at }
   | inr ge ↦ let l = length-append (pieces f n) (f n) in
       record { k = n; j = r - length (pieces f n); there = omega arith; below = omega arith; at = omega arith }
 ]

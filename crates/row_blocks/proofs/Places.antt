@@ -14,13 +14,13 @@ in_block nb words i j lt = run_at words (body_at nb words i) (rows_of nb words i
 
 module _ (nb : ℕ) (words : List ℕ) (i : ℕ) (laid : IsLaidOut nb words) (there : i < blocks_of nb words) where
   long : length (block nb words i) ≡ suc (rows_of nb words i)
-  long = let s = laid.spare in block_length nb words i laid (omega arith)
+  long = let s = laid.spare in block_length i laid (omega arith)
 
   -- a place of a block in use is that of a row
   pub within : (j : ℕ) → j ≤ rows_of nb words i → rank nb words i j < length (rows_in nb words)
   within j le =
       let s = laid.spare in
-      let c = count_is nb words i laid (omega arith) in
+      let c = count_is i laid (omega arith) in
       let l = long in
       let e = piece_ends (block nb words) i (blocks_of nb words) there in
       omega arith
@@ -30,7 +30,7 @@ module _ (nb : ℕ) (words : List ℕ) (i : ℕ) (laid : IsLaidOut nb words) (th
   row_at_place j le =
       let s = laid.spare in
       let l = long in
-      ap (λ (r : ℕ). slice_index (rows_in nb words) (r + j)) (sym (count_is nb words i laid (omega arith)))
+      ap (λ (r : ℕ). slice_index (rows_in nb words) (r + j)) (sym (count_is i laid (omega arith)))
       ∙ at_piece (block nb words) i (blocks_of nb words) j there (omega arith)
 
   -- its first row is the head
@@ -63,11 +63,12 @@ module _ (nb : ℕ) (words : List ℕ) (i : ℕ) (laid : IsLaidOut nb words) (th
       (All-get_or P (rows_in nb words) (rank nb words i j) 0 (within j (omega arith)) all)
 
   -- the same once something was loaded
-  pub first_loaded : (P Q : ℕ → Type 0) (loaded : List ℕ) → ((w : ℕ) → P w → Q w) → loaded ≡ words → All P (rows_in nb words) → Q (slice_index loaded i)
-  first_loaded P Q loaded keep same all = subst (λ (l : List ℕ). Q (slice_index l i)) (sym same) (keep (slice_index words i) (head_is_row P all))
+  pub first_loaded : (P Q : ℕ → Type 0) {loaded : List ℕ} → ((w : ℕ) → P w → Q w) → loaded ≡ words → All P (rows_in nb words) → Q (slice_index loaded i)
+  first_loaded P Q keep same all = subst (λ (l : List ℕ). Q (slice_index l i)) (sym same) (keep (slice_index words i) (head_is_row P all))
 
   -- and of the rows of the body
-  pub others_loaded : (P Q : ℕ → Type 0) (loaded : List ℕ) (packed : ℕ) → ((w : ℕ) → P w → Q w) → loaded ≡ words → packed ≡ slice_index words (128 * nb + 1 + i)
-      → All P (rows_in nb words) → (s : ℕ) → nb + 127 * (packed / 128) ≤ s → s < nb + 127 * (packed / 128) + packed % 128 → Q (slice_index loaded s)
-  others_loaded P Q loaded packed keep same read all s from until =
+  pub others_loaded : (P Q : ℕ → Type 0) {loaded : List ℕ} {packed : ℕ} → ((w : ℕ) → P w → Q w) → loaded ≡ words
+      → packed ≡ slice_index words (128 * nb + 1 + i) → All P (rows_in nb words) → (s : ℕ) → nb + 127 * (packed / 128) ≤ s
+      → s < nb + 127 * (packed / 128) + packed % 128 → Q (slice_index loaded s)
+  others_loaded P Q keep same read all s from until =
       subst (λ (l : List ℕ). Q (slice_index l s)) (sym same) (keep (slice_index words s) (body_is_row P all s (omega arith) (omega arith)))

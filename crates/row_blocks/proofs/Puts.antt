@@ -50,11 +50,10 @@ insert_length xs p w there =
     let l = length-append (take p xs) (w ∷ drop p xs) in let a = length-take-le p xs there in let b = length-drop p xs in omega arith
 
 -- the rows of a body, once those from one on have moved up and another one stands there
-pub body_put : (old new : List ℕ) (at n p w : ℕ) → p ≤ n → at + n < length old → length new ≡ length old
+pub body_put : (old new : List ℕ) (at n p : ℕ) {w : ℕ} → p ≤ n → at + n < length old → length new ≡ length old
     → ((s : ℕ) → s < at + p → get_or new s 0 ≡ get_or old s 0) → get_or new (at + p) 0 ≡ w
-    → ((s : ℕ) → at + p ≤ s → s < at + n → get_or new (s + 1) 0 ≡ get_or old s 0)
-    → take (n + 1) (drop at new) ≡ insert (take n (drop at old)) p w
-body_put old new at n p w there wide long below here moved =
+    → ((s : ℕ) → at + p ≤ s → s < at + n → get_or new (s + 1) 0 ≡ get_or old s 0) → take (n + 1) (drop at new) ≡ insert (take n (drop at old)) p w
+body_put old new at n p {w} there wide long below here moved =
     let a = run_length old at n (omega arith) in
     let b = run_length new at (n + 1) (omega arith) in
     let c = insert_length (take n (drop at old)) p w (omega arith) in
@@ -77,9 +76,9 @@ body_put old new at n p w there wide long below here moved =
     ])
 
 -- a splice of one of three lists is one of the whole
-splice_in : (a b c : List ℕ) (r j m : ℕ) (w : List ℕ) → length a ≡ r → j ≤ m → m ≤ length b
+splice_in : (a b c : List ℕ) {r : ℕ} (j m : ℕ) (w : List ℕ) → length a ≡ r → j ≤ m → m ≤ length b
     → a ++ (splice b j m w ++ c) ≡ splice (a ++ (b ++ c)) (r + j) (r + m) w
-splice_in a b c r j m w long ordered there =
+splice_in a b c {r} j m w long ordered there =
     let whole : (k : ℕ) → a ++ (b ++ c) ≡ (a ++ take k b) ++ (drop k b ++ c) =
     λ (k : ℕ). ap (λ (x : List ℕ). a ++ (x ++ c)) (sym (take-append-drop k b)) ∙ simp append_assoc in
     let front : (k : ℕ) → k ≤ length b → length (a ++ take k b) ≡ r + k = λ (k : ℕ) (le : k ≤ length b).
@@ -102,24 +101,24 @@ splice_in_piece f g k n j m w lt ordered there same here =
     let new : pieces g n ≡ a ++ (g k ++ c) = one_changes f g k n lt same in
     let long : length a ≡ r = length-take-le r (pieces f n) (fewer_pieces f k n (omega arith)) in
     new ∙ (ap (λ (x : List ℕ). a ++ (x ++ c)) here
-    ∙ (splice_in a (f k) c r j m w long ordered there
+    ∙ (splice_in a (f k) c j m w long ordered there
     ∙ ap (λ (x : List ℕ). splice x (r + j) (r + m) w) (sym old)))
 
 -- how many rows a block has
-pub block_length : (nb : ℕ) (words : List ℕ) (i : ℕ) → IsLaidOut nb words → i < nb → length (block nb words i) ≡ suc (rows_of nb words i)
-block_length nb words i laid lt =
+pub block_length : {nb : ℕ} {words : List ℕ} (i : ℕ) → IsLaidOut nb words → i < nb → length (block nb words i) ≡ suc (rows_of nb words i)
+block_length {nb} {words} i laid lt =
     let b = laid.bodies i lt in
     let w = laid.wide in
     let r = run_length words (body_at nb words i) (rows_of nb words i) (omega arith) in
     omega arith
 
 -- so many rows as the blocks count
-pub count_is : (nb : ℕ) (words : List ℕ) (n : ℕ) → IsLaidOut nb words → n ≤ nb → length (pieces (block nb words) n) ≡ count_to nb words n
-count_is nb words zero laid le = refl
-count_is nb words (suc n) laid le =
+pub count_is : {nb : ℕ} {words : List ℕ} (n : ℕ) → IsLaidOut nb words → n ≤ nb → length (pieces (block nb words) n) ≡ count_to nb words n
+count_is zero laid le = refl
+count_is {nb} {words} (suc n) laid le =
     let l = length-append (pieces (block nb words) n) (block nb words n) in
-    let b = block_length nb words n laid (omega arith) in
-    let r = count_is nb words n laid (omega arith) in
+    let b = block_length n laid (omega arith) in
+    let r = count_is n laid (omega arith) in
     omega arith
 
 -- only one block has changed: its head, its body and its body word
@@ -129,7 +128,7 @@ pub record OnlyBlock (nb : ℕ) (one two : List ℕ) (i : ℕ) : Type 0 where
       × (body_at nb one i + 127 ≤ s → slice_index two s ≡ slice_index one s)
   pub body : body_of nb two i ≡ body_of nb one i
 
-module _ (nb : ℕ) (one two : List ℕ) (i : ℕ) (laid : IsLaidOut nb one) (there : i < blocks_of nb one) (only : OnlyBlock nb one two i) where
+module _ {nb : ℕ} {one two : List ℕ} {i : ℕ} (laid : IsLaidOut nb one) (there : i < blocks_of nb one) (only : OnlyBlock nb one two i) where
   -- as many blocks are in use
   pub count_stays : blocks_of nb two ≡ blocks_of nb one
   count_stays =
@@ -192,11 +191,11 @@ module _ (nb : ℕ) (one two : List ℕ) (i : ℕ) (laid : IsLaidOut nb one) (th
       → rows_in nb two ≡ splice (rows_in nb one) (rank nb one i j) (rank nb one i m) w
   rows_spliced j m w ordered below here =
       let s = laid.spare in
-      let l = block_length nb one i laid (omega arith) in
+      let l = block_length i laid (omega arith) in
       ap (pieces (block nb two)) count_stays
       ∙ splice_in_piece (block nb one) (block nb two) i (blocks_of nb one) j m w there ordered (omega arith)
       (λ k lt d. other_block k (omega arith) d) here
-      ∙ ap (λ (r : ℕ). splice (rows_in nb one) (r + j) (r + m) w) (count_is nb one i laid (omega arith))
+      ∙ ap (λ (r : ℕ). splice (rows_in nb one) (r + j) (r + m) w) (count_is i laid (omega arith))
 
 -- the rows of a body, once some have gone and those behind have moved down
 pub body_cut : (old new : List ℕ) (at n p q : ℕ) → p ≤ q → q ≤ n → at + n ≤ length old → length new ≡ length old

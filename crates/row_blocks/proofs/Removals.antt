@@ -19,8 +19,8 @@ record Swapped (a b k m : ℕ) : Type 0 where
   other : k ≡ b → m ≡ a
   stays : k ≢ a → k ≢ b → m ≡ k
 
-swap_apart : (a b k l m : ℕ) → Swapped a b k m → Swapped a b l m → k ≡ l
-swap_apart a b k l m one two =
+swap_apart : {a b k l m : ℕ} → Swapped a b k m → Swapped a b l m → k ≡ l
+swap_apart one two =
     let p = one.one in
     let q = one.other in
     let r = one.stays in
@@ -29,7 +29,7 @@ swap_apart a b k l m one two =
     let u = two.stays in
     grind arith
 
-module _ (nb : ℕ) (words : List ℕ) (a b : ℕ) (bodies : AreBodies nb words) (one : a < nb) (other : b < nb) (wide : 129 * nb + 1 ≤ length words) where
+module _ {nb : ℕ} {words : List ℕ} (a b : ℕ) (bodies : AreBodies nb words) (one : a < nb) (other : b < nb) (wide : 129 * nb + 1 ≤ length words) where
   after : List ℕ
   after = slice_set (slice_set words (128 * nb + 1 + a) (slice_index words (128 * nb + 1 + b))) (128 * nb + 1 + b) (slice_index words (128 * nb + 1 + a))
 
@@ -72,7 +72,7 @@ module _ (nb : ℕ) (words : List ℕ) (a b : ℕ) (bodies : AreBodies nb words)
         let s = source k x in
         let t = source l y in
         let same : s.0 ≡ t.0 = bodies.apart s.0 t.0 s.1 t.1 (sym s.3 ∙ (e ∙ t.3)) in
-        swap_apart a b k l s.0 s.2 (subst (Swapped a b l) (sym same) t.2);
+        swap_apart s.2 (subst (Swapped a b l) (sym same) t.2);
   }
 
   -- each body still is of one block
@@ -82,19 +82,19 @@ module _ (nb : ℕ) (words : List ℕ) (a b : ℕ) (bodies : AreBodies nb words)
   swapped = swapped_after
 
 -- two body words change places, each by a load and a store
-pub swap_done : (one loaded mid two : List ℕ) (a b first second : ℕ) → a < length one → b < length one → loaded ≡ one → first ≡ slice_index one a
+pub swap_done : {one loaded mid two : List ℕ} (a b : ℕ) {first second : ℕ} → a < length one → b < length one → loaded ≡ one → first ≡ slice_index one a
     → second ≡ slice_index loaded b → mid ≡ slice_set loaded b first → two ≡ slice_set mid a second
     → two ≡ slice_set (slice_set one b (slice_index one a)) a (slice_index one b)
-swap_done one loaded mid two a b first second low high same read found laid stored =
+swap_done {one} {mid} a b {first} {second} low high same read found laid stored =
     let value : second ≡ slice_index one b = found ∙ ap (λ (l : List ℕ). slice_index l b) same in
     let middle : mid ≡ slice_set one b (slice_index one a) =
     laid ∙ (ap (λ (l : List ℕ). slice_set l b first) same ∙ ap (λ (x : ℕ). slice_set one b x) read) in
     stored ∙ (ap (λ (l : List ℕ). slice_set l a second) middle ∙ ap (λ (x : ℕ). slice_set (slice_set one b (slice_index one a)) a x) value)
 
 -- so each stands where the other one stood
-pub is_swapped : (one two : List ℕ) (a b : ℕ) → a < length one → b < length one → two ≡ slice_set (slice_set one b (slice_index one a)) a (slice_index one b)
+pub is_swapped : {one two : List ℕ} {a b : ℕ} → a < length one → b < length one → two ≡ slice_set (slice_set one b (slice_index one a)) a (slice_index one b)
     → IsSwapped one two a b
-is_swapped one two a b low high is =
+is_swapped {one} {two} {a} {b} low high is =
     let mid : List ℕ = slice_set one b (slice_index one a) in
     let long = length-set one b (slice_index one a) in
     let here : slice_index two a ≡ slice_index one b =
@@ -111,8 +111,8 @@ is_swapped one two a b low high is =
     }
 
 -- no body word has moved yet
-pub rotates_none : (nb : ℕ) (one : List ℕ) (to gap : ℕ) → IsRotated nb one one to gap 0
-rotates_none nb one to gap = record {
+pub rotates_none : {nb : ℕ} {one : List ℕ} {to gap : ℕ} → IsRotated nb one one to gap 0
+rotates_none = record {
   long = refl;
   moved = λ k le lt. absurd (omega arith);
   behind = λ k le. refl;
@@ -120,9 +120,9 @@ rotates_none nb one to gap = record {
 }
 
 -- and one more
-pub rotates_on : (nb : ℕ) (one two three : List ℕ) (to gap k : ℕ) → 0 < gap → IsRotated nb one two to gap k
+pub rotates_on : {nb : ℕ} {one two three : List ℕ} {to gap k : ℕ} → 0 < gap → IsRotated nb one two to gap k
     → IsSwapped two three (128 * nb + 1 + (to + k)) (128 * nb + 1 + (to + k + gap)) → IsRotated nb one three to gap (k + 1)
-rotates_on nb one two three to gap k some r s = record {
+rotates_on {nb} {one} {three} {to} {gap} {k} some r s = record {
   long = s.long ∙ r.long;
   moved = λ j le lt. elim (cases_lt j (to + k)) [
     | inl less ↦ s.others (128 * nb + 1 + j) (λ e. omega arith) (λ e. omega arith) ∙ r.moved j le less
@@ -184,7 +184,7 @@ pub record IsTakenOut (nb : ℕ) (one two : List ℕ) (first gap n : ℕ) : Type
   pub told : (k : ℕ) → k < first → slice_index two (128 * nb + 1 + k) ≡ slice_index one (128 * nb + 1 + k)
   pub later : (k : ℕ) → first ≤ k → k < first + n → slice_index two (128 * nb + 1 + k) ≡ slice_index one (128 * nb + 1 + (k + gap))
 
-module _ (nb : ℕ) (one two : List ℕ) (first gap n : ℕ) (laid : IsLaidOut nb one) (out : IsTakenOut nb one two first gap n) where
+module _ {nb : ℕ} {one two : List ℕ} {first gap n : ℕ} (laid : IsLaidOut nb one) (out : IsTakenOut nb one two first gap n) where
   -- blocks with the same body word and the same head are the same
   same_block : (k l : ℕ) → k < nb → slice_index two (128 * nb + 1 + l) ≡ slice_index one (128 * nb + 1 + k)
       → slice_index two l ≡ slice_index one k → block nb two l ≡ block nb one k
@@ -215,8 +215,8 @@ module _ (nb : ℕ) (one two : List ℕ) (first gap n : ℕ) (laid : IsLaidOut n
       let before = out.before in
       let spare = laid.spare in
       rows_out
-      ∙ (ap (λ (m : ℕ). splice (rows_in nb one) m (length (pieces (block nb one) (first + gap))) []) (count_is nb one first laid (omega arith))
-      ∙ ap (λ (m : ℕ). splice (rows_in nb one) (count_to nb one first) m []) (count_is nb one (first + gap) laid (omega arith)))
+      ∙ (ap (λ (m : ℕ). splice (rows_in nb one) m (length (pieces (block nb one) (first + gap))) []) (count_is first laid (omega arith))
+      ∙ ap (λ (m : ℕ). splice (rows_in nb one) (count_to nb one first) m []) (count_is (first + gap) laid (omega arith)))
 
 -- the stores of a removal, one after another
 module _ (nb : ℕ) (one loaded heads told two : List ℕ) (first end count : ℕ) (laid : IsLaidOut nb one) (some : first < end)

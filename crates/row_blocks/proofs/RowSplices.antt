@@ -19,8 +19,7 @@ length-splice R u p q ordered there =
 
 -- what is so of all rows before and of those that come is so of all after
 pub all_spliced : (P : ℕ → Type 0) (R u : List ℕ) (p q : ℕ) → All P R → All P u → All P (splice R p q u)
-all_spliced P R u p q all new =
-    All-append P (take p R) (u ++ drop q R) (All-take P p R all) (All-append P u (drop q R) new (All-drop P q R all))
+all_spliced P R u p q all new = All-append P (take p R) (u ++ drop q R) (All-take P p R all) (All-append P u (drop q R) new (All-drop P q R all))
 
 -- a splice, and another one right behind what came
 pub splice_behind : (R u v : List ℕ) (p q d : ℕ) → p ≤ length R

@@ -65,8 +65,7 @@ rows_are nb words laid =
 
 -- and as many rows
 pub length-rows_in : (nb : ℕ) (words : List ℕ) → IsLaidOut nb words → length (rows_in nb words) ≡ count_to nb words (blocks_of nb words)
-length-rows_in nb words laid =
-    ap length (sym (rows_are nb words laid)) ∙ (length-map (slots_in nb words) (slice_index words) ∙ length-slots_in nb words)
+length-rows_in nb words laid = ap length (sym (rows_are nb words laid)) ∙ (length-map (slots_in nb words) (slice_index words) ∙ length-slots_in nb words)
 
 -- where a slot is: the head of its block, or a place of its body
 pub record IsSlot (nb : ℕ) (words : List ℕ) (i j s : ℕ) : Type 0 where
@@ -75,10 +74,9 @@ pub record IsSlot (nb : ℕ) (words : List ℕ) (i j s : ℕ) : Type 0 where
   pub head : j ≡ 0 → s ≡ i
   pub body : 0 < j → s + 1 ≡ body_at nb words i + j
 
-slot_at : (nb : ℕ) (words : List ℕ) (i j : ℕ) → i < blocks_of nb words → j ≤ rows_of nb words i
-    → IsSlot nb words i j (get_or (slots_of nb words i) j 0)
-slot_at nb words i zero there below = record { there = there; below = below; head = λ e. refl; body = λ l. absurd (omega arith) }
-slot_at nb words i (suc j) there below =
+slot_at : {nb : ℕ} {words : List ℕ} {i : ℕ} (j : ℕ) → i < blocks_of nb words → j ≤ rows_of nb words i → IsSlot nb words i j (get_or (slots_of nb words i) j 0)
+slot_at zero there below = record { there = there; below = below; head = λ e. refl; body = λ l. absurd (omega arith) }
+slot_at {nb} {words} {i} (suc j) there below =
     let r = at_run (body_at nb words i) (rows_of nb words i) j (omega arith) in
     record { there = there; below = below; head = λ e. absurd (omega arith); body = λ l. omega arith }
 
@@ -92,7 +90,7 @@ pub record KthSlot (nb : ℕ) (words : List ℕ) (k : ℕ) : Type 0 where
 -- its block and its place there
 pub kth_slot : (nb : ℕ) (words : List ℕ) (k : ℕ) → k < length (slots_in nb words) → KthSlot nb words k
 kth_slot nb words k lt =
-    let p = stands_at (slots_of nb words) (blocks_of nb words) k lt in
+    let p = stands_at (blocks_of nb words) lt in
     let there = p.there in
     let below = p.below in
     let at = p.at in
@@ -103,7 +101,7 @@ kth_slot nb words k lt =
       j = p.j;
       is = subst (IsSlot nb words p.k p.j)
           (sym (ap (slice_index (slots_in nb words)) at ∙ at_piece (slots_of nb words) p.k (blocks_of nb words) p.j there below))
-          (slot_at nb words p.k p.j there (omega arith));
+          (slot_at p.j there (omega arith));
       at = omega arith;
     }
 
@@ -120,8 +118,8 @@ slot_below nb words i j s laid is =
     ]
 
 -- and differ: one slot is one place of one block
-pub one_place : (nb : ℕ) (words : List ℕ) (i j k l s : ℕ) → IsLaidOut nb words → IsSlot nb words i j s → IsSlot nb words k l s → (i ≡ k) × (j ≡ l)
-one_place nb words i j k l s laid one two =
+pub one_place : {nb : ℕ} {words : List ℕ} {i j k l s : ℕ} → IsLaidOut nb words → IsSlot nb words i j s → IsSlot nb words k l s → (i ≡ k) × (j ≡ l)
+one_place {nb} {words} {i} {j} {k} {l} laid one two =
     let spare = laid.spare in
     let a = one.there in
     let b = two.there in
@@ -152,8 +150,7 @@ slots_differ nb words k l laid a b e =
     let two = kth_slot nb words l b in
     let at = one.at in
     let to = two.at in
-    let p = one_place nb words one.i one.j two.i two.j (slice_index (slots_in nb words) k) laid one.is
-    (subst (IsSlot nb words two.i two.j) (sym e) two.is) in
+    let p = one_place laid one.is (subst (IsSlot nb words two.i two.j) (sym e) two.is) in
     let i : one.i ≡ two.i = p.0 in
     let j : one.j ≡ two.j = p.1 in
     let c : count_to nb words one.i ≡ count_to nb words two.i = ap (count_to nb words) i in
@@ -234,16 +231,4 @@ at_slot nb words i j there below =
     let at : count_to nb words i + j ≡ length (pieces (slots_of nb words) i) + j = omega arith in
     subst (IsSlot nb words i j)
     (sym (ap (slice_index (slots_in nb words)) at ∙ at_piece (slots_of nb words) i (blocks_of nb words) j there (omega arith)))
-    (slot_at nb words i j there below)
-
--- so behind a place comes the next one of its block, or the head of the next block
-pub next_slot : (nb : ℕ) (words : List ℕ) (i j k l : ℕ) → i < blocks_of nb words → j ≤ rows_of nb words i
-    → k < blocks_of nb words → l ≤ rows_of nb words k
-    → (j < rows_of nb words i → (k ≡ i) × (l ≡ j + 1)) → (j ≡ rows_of nb words i → (k ≡ i + 1) × (l ≡ 0))
-    → count_to nb words k + l ≡ count_to nb words i + j + 1
-next_slot nb words i j k l there below there_too below_too inside over = elim (cases_lt j (rows_of nb words i)) [
-  | inl less ↦ let s = inside less in let e : count_to nb words k ≡ count_to nb words i = ap (count_to nb words) s.0 in let f = s.1 in omega arith
-  | inr ge ↦ let s = over (omega arith) in
-      let up : k ≡ suc i = let q = s.0 in omega arith in
-      let e : count_to nb words k ≡ count_to nb words (suc i) = ap (count_to nb words) up in let f = s.1 in omega arith
-]
+    (slot_at j there below)

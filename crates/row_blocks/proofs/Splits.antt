@@ -78,8 +78,8 @@ record ComesFrom (i count k m : ℕ) : Type 0 where
   later : i + 1 < k → k ≤ count → m + 1 ≡ k
   free : count < k → m ≡ k
 
-comes_apart : (i count k l m : ℕ) → i < count → ComesFrom i count k m → ComesFrom i count l m → k ≡ l
-comes_apart i count k l m there one two =
+comes_apart : {i count k l m : ℕ} → i < count → ComesFrom i count k m → ComesFrom i count l m → k ≡ l
+comes_apart there one two =
     let a = one.low in
     let b = one.at in
     let c = one.later in
@@ -90,8 +90,8 @@ comes_apart i count k l m there one two =
     let h = two.free in
     grind arith
 
-module _ (nb : ℕ) (one two : List ℕ) (i place : ℕ) (laid : IsLaidOut nb one) (there : i < blocks_of nb one) (spare : blocks_of nb one < nb)
-    (some : 0 < place) (within : place ≤ rows_of nb one i) (split : IsSplit nb one two i place) where
+module _ {nb : ℕ} {one two : List ℕ} {i place : ℕ} (laid : IsLaidOut nb one) (there : i < blocks_of nb one) (spare : blocks_of nb one < nb) (some : 0 < place)
+    (within : place ≤ rows_of nb one i) (split : IsSplit nb one two i place) where
   -- the bodies are those that were, in another order
   comes : (k : ℕ) → k < nb → (m : ℕ) × (m < nb) × ComesFrom i (blocks_of nb one) k m × (body_of nb two k ≡ body_of nb one m)
   comes k lt = elim (cases_lt i k) [
@@ -147,7 +147,7 @@ module _ (nb : ℕ) (one two : List ℕ) (i place : ℕ) (laid : IsLaidOut nb on
             let s = comes k a in
             let t = comes l b in
             let same : s.0 ≡ t.0 = laid.apart s.0 t.0 s.1 t.1 (sym s.3 ∙ (e ∙ t.3)) in
-            comes_apart i (blocks_of nb one) k l s.0 there s.2 (subst (ComesFrom i (blocks_of nb one) l) (sym same) t.2);
+            comes_apart there s.2 (subst (ComesFrom i (blocks_of nb one) l) (sym same) t.2);
       }
 
   -- the words of the bodies in use stand as they stood
@@ -233,10 +233,10 @@ module _ (nb : ℕ) (one two : List ℕ) (i place : ℕ) (laid : IsLaidOut nb on
       (moved_block k (k + 1) lt (split.later k over lt) (split.later_heads k over lt)))
 
 -- the rows that stay in their body stand as they stood
-pub lower_stays : (nb : ℕ) (one copy : List ℕ) (i place s : ℕ) → IsLaidOut nb one → i < blocks_of nb one → blocks_of nb one < nb
-    → body_at nb one i ≤ s → s < body_at nb one i + 127
-    → IsCopied one copy (body_at nb one i + place) (body_at nb one (blocks_of nb one)) (rows_of nb one i - place) → slice_index copy s ≡ slice_index one s
-lower_stays nb one copy i place s laid there spare from until c =
+pub lower_stays : {nb : ℕ} {one copy : List ℕ} (i place s : ℕ) → IsLaidOut nb one → i < blocks_of nb one → blocks_of nb one < nb → body_at nb one i ≤ s
+    → s < body_at nb one i + 127 → IsCopied one copy (body_at nb one i + place) (body_at nb one (blocks_of nb one)) (rows_of nb one i - place)
+    → slice_index copy s ≡ slice_index one s
+lower_stays {nb} {one} i place s laid there spare from until c =
     let apart : body_of nb one i ≢ body_of nb one (blocks_of nb one) = λ e.
     let q = laid.apart i (blocks_of nb one) (omega arith) spare e in absurd (omega arith) in
     elim (cases_lt (body_of nb one i) (body_of nb one (blocks_of nb one))) [
@@ -245,15 +245,13 @@ lower_stays nb one copy i place s laid there spare from until c =
     ]
 
 -- the five stores of a split, one after another
-pub is_split : (nb : ℕ) (one copy heads told : List ℕ) (i place lower : ℕ) → IsLaidOut nb one → i < blocks_of nb one → blocks_of nb one < nb
-    → 0 < place → place ≤ rows_of nb one i
-    → IsCopied one copy (body_at nb one i + place) (body_at nb one (blocks_of nb one)) (rows_of nb one i - place)
+pub is_split : {nb : ℕ} {one copy heads told : List ℕ} {i place : ℕ} (lower : ℕ) → IsLaidOut nb one → i < blocks_of nb one → blocks_of nb one < nb → 0 < place
+    → place ≤ rows_of nb one i → IsCopied one copy (body_at nb one i + place) (body_at nb one (blocks_of nb one)) (rows_of nb one i - place)
     → IsPushed copy heads (i + 1) (blocks_of nb one) (slice_index copy (body_at nb one i + (place - 1)))
-    → IsPushed heads told (128 * nb + 1 + (i + 1)) (128 * nb + 1 + blocks_of nb one)
-    (128 * body_of nb one (blocks_of nb one) + (rows_of nb one i - place))
+    → IsPushed heads told (128 * nb + 1 + (i + 1)) (128 * nb + 1 + blocks_of nb one) (128 * body_of nb one (blocks_of nb one) + (rows_of nb one i - place))
     → lower + (rows_of nb one i - place + 1) ≡ slice_index one (128 * nb + 1 + i)
     → IsSplit nb one (slice_set (slice_set told (128 * nb + 1 + i) lower) (128 * nb) (blocks_of nb one + 1)) i place
-is_split nb one copy heads told i place lower laid there spare some within c h t less =
+is_split {nb} {one} {copy} {heads} {told} {i} {place} lower laid there spare some within c h t less =
     let long = c.long in
     let copied = c.copied in
     let low = c.below in
@@ -294,7 +292,7 @@ is_split nb one copy heads told i place lower laid there spare some within c h t
       heads = λ k l. stays k (λ e. omega arith) (λ e. omega arith)
           ∙ (t.below k (omega arith) ∙ (h.below k (omega arith) ∙ front k (omega arith)));
       head =
-          let first = lower_stays nb one copy i place (body_at nb one i + (place - 1)) laid there spare (omega arith) (omega arith) c in
+          let first = lower_stays i place (body_at nb one i + (place - 1)) laid there spare (omega arith) (omega arith) c in
           stays (i + 1) (λ e. omega arith) (λ e. omega arith) ∙ (t.below (i + 1) (omega arith) ∙ (h.here ∙ first));
       later_heads = λ k over l. stays (k + 1) (λ e. omega arith) (λ e. omega arith)
           ∙ (t.below (k + 1) (omega arith) ∙ (h.moved k (omega arith) l ∙ front k (omega arith)));
@@ -307,30 +305,29 @@ is_split nb one copy heads told i place lower laid there spare some within c h t
     }
 
 -- what was read of the layout says from where and to where rows are copied
-pub split_copied : (nb : ℕ) (one loaded copy : List ℕ) (i place packed count free : ℕ) → loaded ≡ one → packed ≡ slice_index one (128 * nb + 1 + i)
+pub split_copied : (nb : ℕ) {one loaded copy : List ℕ} (i place : ℕ) {packed count free : ℕ} → loaded ≡ one → packed ≡ slice_index one (128 * nb + 1 + i)
     → count ≡ blocks_of nb one → free ≡ slice_index one (128 * nb + 1 + count)
     → IsCopied loaded copy (nb + 127 * (packed / 128) + place) (nb + 127 * (free / 128)) (packed % 128 - place)
     → IsCopied one copy (body_at nb one i + place) (body_at nb one (blocks_of nb one)) (rows_of nb one i - place)
-split_copied nb one loaded copy i place packed count free same read counted freed copied =
+split_copied nb {one} {copy} i place {packed} {free} same read counted freed copied =
     let body : free ≡ slice_index one (128 * nb + 1 + blocks_of nb one) = freed ∙ ap (λ (n : ℕ). slice_index one (128 * nb + 1 + n)) counted in
     subst (λ (f : ℕ). IsCopied one copy (body_at nb one i + place) (nb + 127 * (f / 128)) (rows_of nb one i - place)) body
     (subst (λ (x : ℕ). IsCopied one copy (nb + 127 * (x / 128) + place) (nb + 127 * (free / 128)) (x % 128 - place)) read
     (subst (λ (l : List ℕ). IsCopied l copy (nb + 127 * (packed / 128) + place) (nb + 127 * (free / 128)) (packed % 128 - place)) same copied))
 
 -- the same by what was read of the layout
-pub split_done : (nb : ℕ) (one loaded copy again heads told three two : List ℕ) (i place packed count free head : ℕ) → IsLaidOut nb one
-    → i < blocks_of nb one → blocks_of nb one < nb → 0 < place → place ≤ rows_of nb one i → loaded ≡ one → packed ≡ slice_index one (128 * nb + 1 + i)
-    → count ≡ blocks_of nb one → free ≡ slice_index one (128 * nb + 1 + count)
+pub split_done : {nb : ℕ} {one loaded copy again heads told three two : List ℕ} {i place packed count free head : ℕ} → IsLaidOut nb one → i < blocks_of nb one
+    → blocks_of nb one < nb → 0 < place → place ≤ rows_of nb one i → loaded ≡ one → packed ≡ slice_index one (128 * nb + 1 + i) → count ≡ blocks_of nb one
+    → free ≡ slice_index one (128 * nb + 1 + count)
     → IsCopied loaded copy (nb + 127 * (packed / 128) + place) (nb + 127 * (free / 128)) (packed % 128 - place) → again ≡ copy
     → head ≡ slice_index copy (nb + 127 * (packed / 128) + (place - 1)) → IsPushed again heads (i + 1) count head
     → IsPushed heads told (128 * nb + 1 + (i + 1)) (128 * nb + 1 + count) (128 * (free / 128) + (packed % 128 - place))
     → three ≡ slice_set told (128 * nb + 1 + i) (packed - (packed % 128 - place + 1)) → two ≡ slice_set three (128 * nb) (count + 1)
     → IsSplit nb one two i place
-split_done nb one loaded copy again heads told three two i place packed count free head laid there spare some within same read counted freed copied
-    as_copied first
-    h t less more =
+split_done {nb} {one} {copy} {again} {heads} {told} {two} {i} {place} {packed} {count} {free} {head} laid there spare some within same read
+    counted freed copied as_copied first h t less more =
     let body : free ≡ slice_index one (128 * nb + 1 + blocks_of nb one) = freed ∙ ap (λ (n : ℕ). slice_index one (128 * nb + 1 + n)) counted in
-    let c = split_copied nb one loaded copy i place packed count free same read counted freed copied in
+    let c = split_copied nb i place same read counted freed copied in
     let word : head ≡ slice_index copy (body_at nb one i + (place - 1)) =
     first ∙ ap (λ (x : ℕ). slice_index copy (nb + 127 * (x / 128) + (place - 1))) read in
     let p : IsPushed copy heads (i + 1) (blocks_of nb one) (slice_index copy (body_at nb one i + (place - 1))) =
@@ -349,13 +346,13 @@ split_done nb one loaded copy again heads told three two i place packed count fr
     ∙ ap (λ (n : ℕ). slice_set (slice_set told (128 * nb + 1 + i) lower) (128 * nb) (n + 1)) counted) in
     let sum : lower + (rows_of nb one i - place + 1) ≡ slice_index one (128 * nb + 1 + i) = omega arith in
     subst (λ (l : List ℕ). IsSplit nb one l i place) (sym stored)
-    (is_split nb one copy heads told i place lower laid there spare some within c p q sum)
+    (is_split lower laid there spare some within c p q sum)
 
 -- how many rows the two halves have
-pub split_lower : (nb : ℕ) (one two : List ℕ) (i place : ℕ) → 0 < place → place ≤ rows_of nb one i → IsSplit nb one two i place → rows_of nb two i + 1 ≡ place
-split_lower nb one two i place some within split = let l = split.lower in omega arith
+pub split_lower : {nb : ℕ} {one two : List ℕ} {i place : ℕ} → 0 < place → place ≤ rows_of nb one i → IsSplit nb one two i place → rows_of nb two i + 1 ≡ place
+split_lower some within split = let l = split.lower in omega arith
 
 -- and those of the upper half
-pub split_upper : (nb : ℕ) (one two : List ℕ) (i place : ℕ) → place ≤ rows_of nb one i → IsSplit nb one two i place
+pub split_upper : {nb : ℕ} {one two : List ℕ} {i place : ℕ} → place ≤ rows_of nb one i → IsSplit nb one two i place
     → rows_of nb two (i + 1) + place ≡ rows_of nb one i
-split_upper nb one two i place within split = let u = split.upper in omega arith
+split_upper within split = let u = split.upper in omega arith

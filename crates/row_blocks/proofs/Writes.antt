@@ -7,15 +7,15 @@ use Rattle.std.proofs.lemmas.List.Elements.{All-weaker}
 use Rattle.row_blocks.proofs.RowSplices.{all_spliced, splice_behind}
 
 -- what was a row, and what comes, is a row after it
-pub all_written : (P Q : ℕ → Type 0) (R two more : List ℕ) (p q : ℕ) → ((w : ℕ) → P w → Q w) → two ≡ splice R p q more → All P R → All P more → All Q two
-all_written P Q R two more p q keep is rows new =
-    subst (All Q) (sym is) (all_spliced Q R more p q (All-weaker P Q keep R rows) (All-weaker P Q keep more new))
+pub all_written : (P Q : ℕ → Type 0) (R : List ℕ) {two : List ℕ} (more : List ℕ) (p q : ℕ) → ((w : ℕ) → P w → Q w) → two ≡ splice R p q more → All P R
+    → All P more → All Q two
+all_written P Q R more p q keep is rows new = subst (All Q) (sym is) (all_spliced Q R more p q (All-weaker P Q keep R rows) (All-weaker P Q keep more new))
 
 -- both steps are one splice
-pub laid_then : (R two three u v more : List ℕ) (r d at until end : ℕ) → r ≤ length R → two ≡ splice R r (r + length u) u
-    → three ≡ splice two at until v → at ≡ r + length u → until ≡ r + length u + d → r + length u + d ≡ end → u ++ v ≡ more
-    → three ≡ splice R r end more
-laid_then R two three u v more r d at until end there laid then from to all whole =
+pub laid_then : (R : List ℕ) {two three : List ℕ} (u v : List ℕ) {more : List ℕ} (r d : ℕ) {at until end : ℕ} → r ≤ length R
+    → two ≡ splice R r (r + length u) u → three ≡ splice two at until v → at ≡ r + length u → until ≡ r + length u + d → r + length u + d ≡ end
+    → u ++ v ≡ more → three ≡ splice R r end more
+laid_then R u v r d {at} {until} {end} there laid then from to all whole =
     then
     ∙ (ap (λ (l : List ℕ). splice l at until v) laid
     ∙ (ap (λ (n : ℕ). splice (splice R r (r + length u) u) n until v) from

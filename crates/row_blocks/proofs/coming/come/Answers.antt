@@ -22,10 +22,9 @@ insert_all-requires-clause-new g c =
 -- they come where the position is then
 pub returns-clause-spliced : goal.returns-clause-spliced
 returns-clause-spliced g c =
-    let ws = c.args.words.now in
     let nb = c.args.blocks in
-    let one = g.W.Loads.words ws c.args.hand.now in
-    let two = g.W.Loads.words ws c.make_room-to.new.hand in
+    let one = g.W.Loads.words c.args.words.now c.args.hand.now in
+    let two = g.W.Loads.words c.args.words.now c.make_room-to.new.hand in
     let to = c.make_room-to.result in
     c.insert_all.ensures.spliced
     ∙ (ap (λ (l : List ℕ). splice l (rank nb two to.block to.place) (rank nb two to.block to.place) c.args.more.now) c.make_room-to.ensures.same

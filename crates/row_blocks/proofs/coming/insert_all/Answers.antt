@@ -30,10 +30,9 @@ rows-init g c = record {
 -- the row that comes is a row
 pub insert-requires-clause-row : goal.insert-requires-clause-row
 insert-requires-clause-row g c =
-    let ws = c.args.words.now in
     let lt = c.rows-test.true in
     c.rows.invariant.rows (slice_index c.args.more.now c.rows.k)
-    (All-get_or (g.W.Loads.is_row ws c.args.hand.now) c.args.more.now c.rows.k 0 (omega arith) c.requires.new)
+    (All-get_or (g.W.Loads.is_row c.args.words.now c.args.hand.now) c.args.more.now c.rows.k 0 (omega arith) c.requires.new)
 
 -- one more has come
 pub rows-preserved : goal.rows-preserved
@@ -42,7 +41,6 @@ rows-preserved g c =
     let nb = c.args.blocks in
     let one = g.W.Loads.words ws c.args.hand.now in
     let two = g.W.Loads.words ws c.rows.hand in
-    let three = g.W.Loads.words ws c.insert.new.hand in
     let inv = c.rows.invariant in
     let lt = c.rows-test.true in
     let i = c.args.at.block in
@@ -67,8 +65,7 @@ rows-preserved g c =
     let row : g.W.Loads.is_row ws c.insert.new.hand w = call.rows w (inv.rows w is) in
     record {
       laid = call.laid;
-      spliced = comes_on (rows_in nb one) (rows_in nb two) (rows_in nb three) c.args.more.now r k (rank nb two i (c.args.at.place + k)) w
-          (omega arith) (omega arith) inv.spliced call.spliced at refl;
+      spliced = comes_on (rows_in nb one) c.args.more.now r k (omega arith) (omega arith) inv.spliced call.spliced at refl;
       count = call.count ∙ inv.count;
       grown = omega arith;
       others = λ j less differ. call.others j less differ ∙ inv.others j less differ;
@@ -80,17 +77,16 @@ rows-preserved g c =
       high = omega arith;
       may = call.may;
       rows = λ x p. call.rows x (inv.rows x p);
-      kept = g.W.Loads.steps_on ws c.args.hand.now c.rows.hand c.insert.new.hand inv.kept call.kept;
+      kept = g.W.Loads.steps_on _ _ _ _ inv.kept call.kept;
       steps = omega arith;
     }
 
 -- all have come
 pub returns-clause-spliced : goal.returns-clause-spliced
 returns-clause-spliced g c =
-    let ws = c.args.words.now in
     let nb = c.args.blocks in
-    let one = g.W.Loads.words ws c.args.hand.now in
-    let two = g.W.Loads.words ws c.rows.hand in
+    let one = g.W.Loads.words c.args.words.now c.args.hand.now in
+    let two = g.W.Loads.words c.args.words.now c.rows.hand in
     let r : ℕ = rank nb one c.args.at.block c.args.at.place in
     let more = c.args.more.now in
     let out = c.rows-test.false in

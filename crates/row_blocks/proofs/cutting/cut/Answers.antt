@@ -6,23 +6,21 @@ use Rattle.row_blocks.proofs.cutting.cut.Goals as goal
 -- the rows that are left to go stand behind those of the first block
 pub cut_on-requires-2-clause-fits : goal.cut_on-requires-2-clause-fits
 cut_on-requires-2-clause-fits g c =
-    let ws = c.args.words.now in
     let nb = c.args.blocks in
-    let one = g.W.Loads.words ws c.args.hand.now in
+    let one = g.W.Loads.words c.args.words.now c.args.hand.now in
     let was = c.cut_first-left.ensures in
     let there = c.requires.there in
     let count = was.count in
-    rest_fits nb (g.W.Loads.words ws c.cut_first-left.new.hand) (rows_in nb one) c.args.at.block (rank nb one c.args.at.block c.args.at.place) c.args.gone
-    c.cut_first-left.result was.laid (omega arith) was.left was.spliced was.rest c.requires.fits
+    rest_fits (rows_in nb one) c.args.at.block (rank nb one c.args.at.block c.args.at.place) c.args.gone c.cut_first-left.result was.laid (omega arith)
+    was.left was.spliced was.rest c.requires.fits
 
 -- both cuts are one
 pub returns-clause-spliced : goal.returns-clause-spliced
 returns-clause-spliced g c =
-    let ws = c.args.words.now in
     let nb = c.args.blocks in
-    let one = g.W.Loads.words ws c.args.hand.now in
-    let two = g.W.Loads.words ws c.cut_first-left.new.hand in
+    let one = g.W.Loads.words c.args.words.now c.args.hand.now in
+    let two = g.W.Loads.words c.args.words.now c.cut_first-left.new.hand in
     let was = c.cut_first-left.ensures in
     let fits = c.requires.fits in
-    cut_whole (rows_in nb one) (rows_in nb two) (rows_in nb (g.W.Loads.words ws c.cut_on-2.new.hand)) (rank nb one c.args.at.block c.args.at.place)
-    c.args.gone c.cut_first-left.result (count_to nb two (c.args.at.block + 1)) (omega arith) was.left was.spliced c.cut_on-2.ensures.spliced was.rest
+    cut_whole (rows_in nb one) (rank nb one c.args.at.block c.args.at.place) c.args.gone c.cut_first-left.result (count_to nb two (c.args.at.block + 1))
+    (omega arith) was.left was.spliced c.cut_on-2.ensures.spliced was.rest

@@ -13,7 +13,7 @@ there g c =
     let left = inv.left in
     let fits = c.requires.fits in
     let some = c.whole-test.true in
-    block_there c.args.blocks (g.W.Loads.words c.args.words.now c.args.hand.now) c.whole.end c.requires.laid inv.there (omega arith)
+    block_there c.whole.end c.requires.laid inv.there (omega arith)
 
 pub body_of-body-requires-clause-there : goal.body_of-body-requires-clause-there
 body_of-body-requires-clause-there g c =
@@ -30,29 +30,23 @@ delete-requires-clause-there g c =
 -- the rows that were left are the first ones of this block
 pub returns-then-left-body-clause-spliced : goal.returns-then-left-body-clause-spliced
 returns-then-left-body-clause-spliced g c =
-    let ws = c.args.words.now in
     let t = there g (goal.at.returns-then-left-body-clause-spliced g c).In-whole in
     let spare = c.requires.laid.spare in
-    head_gone c.args.blocks (g.W.Loads.words ws c.args.hand.now) (g.W.Loads.words ws c.body_of-body.new.hand) (g.W.Loads.words ws c.delete.new.hand)
-    c.whole.end c.whole.left _ (omega arith) (c.body_of-body.ensures.words ∙ c.whole.invariant.words) c.delete.ensures.spliced c.delete.ensures.others
-    c.whole.invariant.left
+    head_gone c.args.blocks (g.W.Loads.words c.args.words.now c.delete.new.hand) c.whole.end c.whole.left (omega arith)
+    (c.body_of-body.ensures.words ∙ c.whole.invariant.words) c.delete.ensures.spliced c.delete.ensures.others c.whole.invariant.left
 
 pub returns-then-left-body-clause-kept : goal.returns-then-left-body-clause-kept
-returns-then-left-body-clause-kept g c =
-    let ws = c.args.words.now in
-    g.W.Loads.steps_on ws c.args.hand.now c.body_of-body.new.hand c.delete.new.hand
-    (g.W.Loads.steps_on ws c.args.hand.now c.whole.hand c.body_of-body.new.hand c.whole.invariant.kept c.body_of-body.ensures.kept) c.delete.ensures.kept
+returns-then-left-body-clause-kept g c = g.W.Loads.steps_on _ _ _ _ (g.W.Loads.steps_on _ _ _ _ c.whole.invariant.kept c.body_of-body.ensures.kept)
+    c.delete.ensures.kept
 
 -- the rows of one block more are to go
 pub whole-preserved : goal.whole-preserved
 whole-preserved g c =
-    let ws = c.args.words.now in
-    let nb = c.args.blocks in
-    let one = g.W.Loads.words ws c.args.hand.now in
+    let one = g.W.Loads.words c.args.words.now c.args.hand.now in
     let inv = c.whole.invariant in
     let t = there g (goal.at.whole-preserved g c).In-whole in
-    let next = count_next nb one c.whole.end in
-    let was = ap (λ (l : List ℕ). rows_of nb l c.whole.end) inv.words in
+    let next = count_next c.args.blocks one c.whole.end in
+    let was = ap (λ (l : List ℕ). rows_of c.args.blocks l c.whole.end) inv.words in
     let rows = c.body_of-body.ensures.rows in
     let all = c.if-left-body.false in
     let left = inv.left in
@@ -66,6 +60,6 @@ whole-preserved g c =
       left = omega arith;
       may = c.body_of-body.ensures.may;
       rows = λ w r. c.body_of-body.ensures.stay w (inv.rows w r);
-      kept = g.W.Loads.steps_on ws c.args.hand.now c.whole.hand c.body_of-body.new.hand inv.kept c.body_of-body.ensures.kept;
+      kept = g.W.Loads.steps_on _ _ _ _ inv.kept c.body_of-body.ensures.kept;
       steps = omega arith;
     }

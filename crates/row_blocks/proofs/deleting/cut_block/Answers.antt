@@ -6,10 +6,8 @@ use Rattle.row_blocks.proofs.deleting.cut_block.Goals as goal
 -- behind the head rows of the body go
 pub returns-else-from-eq0-clause-cut : goal.returns-else-from-eq0-clause-cut
 returns-else-from-eq0-clause-cut g c =
-    let ws = c.args.words.now in
     let call = c.copy-else-from-eq0 in
-    cut_behind (g.W.Loads.words ws c.args.hand.now) (g.W.Loads.words ws call.new.hand) c.args.head c.args.at c.args.count c.args.from c.args.until
-    (search rules) c.requires.ordered c.requires.there c.requires.head c.requires.wide call.ensures.copied
+    cut_behind (search rules) c.requires.ordered c.requires.there c.requires.head c.requires.wide call.ensures.copied
 
 -- or the head goes, and the first row of the body that stays takes its place
 pub returns-then-from-eq0-clause-cut : goal.returns-then-from-eq0-clause-cut
@@ -22,14 +20,11 @@ returns-then-from-eq0-clause-cut g c =
     let ordered = c.requires.ordered in
     let left = c.requires.left in
     subst (λ (p : ℕ). IsCutOut one two c.args.head c.args.at c.args.count p c.args.until) (sym none)
-    (cut_front one mid two c.args.head c.args.at c.args.count c.args.until c.load-first.result (omega arith) (omega arith) c.requires.head c.requires.wide
-    c.load-first.ensures.word
-    (subst (λ (l : List ℕ). IsCopied l mid (c.args.at + c.args.until) c.args.at (c.args.count - c.args.until)) c.load-first.ensures.words c.copy.ensures.copied)
+    (cut_front (omega arith) (omega arith) c.requires.head c.requires.wide c.load-first.ensures.word (subst
+    (λ (l : List ℕ). IsCopied l mid (c.args.at + c.args.until) c.args.at (c.args.count - c.args.until)) c.load-first.ensures.words c.copy.ensures.copied)
     c.exchange.ensures.words)
 
 -- all steps are one
 pub returns-then-from-eq0-clause-kept : goal.returns-then-from-eq0-clause-kept
-returns-then-from-eq0-clause-kept g c =
-    let ws = c.args.words.now in
-    let kept_1 = g.W.Loads.steps_on ws c.args.hand.now c.load-first.new.hand c.copy.new.hand c.load-first.ensures.kept c.copy.ensures.kept in
-    g.W.Loads.steps_on ws c.args.hand.now c.copy.new.hand c.exchange.new.hand kept_1 c.exchange.ensures.kept
+returns-then-from-eq0-clause-kept g c = g.W.Loads.steps_on _ _ _ _ (g.W.Loads.steps_on _ _ _ _ c.load-first.ensures.kept c.copy.ensures.kept)
+    c.exchange.ensures.kept

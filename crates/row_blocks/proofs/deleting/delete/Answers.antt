@@ -11,19 +11,15 @@ done : (g : Over) (c : After-store_layout g) → IsSplicedBlock c.args.blocks (g
     (g.W.Loads.words c.args.words.now c.store_layout.new.hand) c.args.i c.args.from c.args.until []
     (rows_of c.args.blocks (g.W.Loads.words c.args.words.now c.args.hand.now) c.args.i - (c.args.until - c.args.from))
 done g c =
-    let ws = c.args.words.now in
-    rows_cut c.args.blocks (g.W.Loads.words ws c.args.hand.now) (g.W.Loads.words ws c.load-packed.new.hand) (g.W.Loads.words ws c.cut_block.new.hand)
-    (g.W.Loads.words ws c.store_layout.new.hand) c.args.i c.args.from c.args.until c.load-packed.result c.requires.laid c.requires.there
-    c.requires.ordered c.requires.place c.requires.left c.load-packed.ensures.words c.load-packed.ensures.word c.cut_block.ensures.cut
-    c.store_layout.ensures.words
+    rows_cut c.requires.laid c.requires.there c.requires.ordered c.requires.place c.requires.left c.load-packed.ensures.words c.load-packed.ensures.word
+    c.cut_block.ensures.cut c.store_layout.ensures.words
 
 -- the rows of its body are rows
 pub cut_block-requires-clause-others : goal.cut_block-requires-clause-others
 cut_block-requires-clause-others g c =
     let ws = c.args.words.now in
-    others_loaded c.args.blocks (g.W.Loads.words ws c.args.hand.now) c.args.i c.requires.laid c.requires.there (g.W.Loads.is_row ws c.args.hand.now)
-    (g.W.Loads.is_row ws c.load-packed.new.hand) (g.W.Loads.words ws c.load-packed.new.hand) c.load-packed.result c.load-packed.ensures.rows
-    c.load-packed.ensures.words c.load-packed.ensures.word c.requires.rows
+    others_loaded _ _ c.args.i c.requires.laid c.requires.there (g.W.Loads.is_row ws c.args.hand.now) (g.W.Loads.is_row ws c.load-packed.new.hand)
+    c.load-packed.ensures.rows c.load-packed.ensures.words c.load-packed.ensures.word c.requires.rows
 
 -- the words are laid out
 pub returns-clause-laid : goal.returns-clause-laid
@@ -52,7 +48,5 @@ returns-clause-others g c = let d = done g c in d.others
 
 -- all steps are one
 pub returns-clause-kept : goal.returns-clause-kept
-returns-clause-kept g c =
-    let ws = c.args.words.now in
-    let kept_1 = g.W.Loads.steps_on ws c.args.hand.now c.load-packed.new.hand c.cut_block.new.hand c.load-packed.ensures.kept c.cut_block.ensures.kept in
-    g.W.Loads.steps_on ws c.args.hand.now c.cut_block.new.hand c.store_layout.new.hand kept_1 c.store_layout.ensures.kept
+returns-clause-kept g c = g.W.Loads.steps_on _ _ _ _ (g.W.Loads.steps_on _ _ _ _ c.load-packed.ensures.kept c.cut_block.ensures.kept)
+    c.store_layout.ensures.kept

@@ -1,4 +1,4 @@
-use Rattle.std.proofs.Common.{◌≡◌, ℕ, ◌+◌, ◌-◌, ◌*◌, length, ap, arith}
+use Rattle.std.proofs.Common.{◌≡◌, ℕ, ◌-◌, ◌*◌, length, ap, arith}
 use Rattle.row_blocks.proofs.Fills.{IsBlockLaid, nothing_laid, rows_same, filled_to, left_on, some_left}
 use Rattle.row_blocks.proofs.filling.fill.Goals as goal
 
@@ -20,14 +20,12 @@ next-init c =
       below = call.below;
       above = call.above;
     } in
-    let before = nothing_laid nb c.args.words.now c.number.new.words c.args.rows.now c.number.ensures.length c.number.ensures.told c.number.ensures.below
-    c.number.ensures.above in
+    let before = nothing_laid c.number.ensures.length c.number.ensures.told c.number.ensures.below c.number.ensures.above in
     let told = call.told in
     let two : nb - 1 - 1 ≡ nb - 2 = omega arith in
     let all : each * (nb - 1 - 1) ≡ each * (nb - 2) = ap (λ (m : ℕ). each * m) two in
     record {
-      filling = filled_to nb c.args.words.now c.number.new.words c.lay_block.new.words c.args.rows.now 0 0 c.min-first.result c.requires.wide (omega arith)
-          (omega arith) (omega arith) (omega arith) before laid 1 c.min-first.result (omega arith) (omega arith);
+      filling = filled_to c.requires.wide (omega arith) (omega arith) (omega arith) (omega arith) before laid (omega arith) (omega arith);
       used = call.used;
       started = omega arith;
       high = omega arith;
@@ -46,7 +44,6 @@ next-preserved c =
     let inv = c.next.invariant in
     let more = c.next-test.true in
     let call = c.lay_block-in-next.ensures in
-    let each = c.rows_each-each.result in
     let some = c.rows_each-each.ensures.some in
     let most = c.rows_each-each.ensures.most in
     let count = c.min-count.ensures in
@@ -61,17 +58,15 @@ next-preserved c =
       below = call.below;
       above = call.above;
     } in
-    let room = some_left each (nb - 1 - i) (length rows - taken) (omega arith) inv.left in
-    let same = rows_same nb c.args.words.now c.next.words c.lay_block-in-next.new.words rows i taken c.min-count.result c.requires.wide high (omega arith)
-    (omega arith) (omega arith) inv.filling laid 0 (omega arith) (λ e. omega arith) in
+    let room = some_left c.rows_each-each.result (nb - 1 - i) (length rows - taken) (omega arith) inv.left in
+    let same = rows_same c.requires.wide high (omega arith) (omega arith) (omega arith) inv.filling laid 0 (omega arith) (λ e. omega arith) in
     let low = inv.low in
     record {
-      filling = filled_to nb c.args.words.now c.next.words c.lay_block-in-next.new.words rows i taken c.min-count.result c.requires.wide high (omega arith)
-          (omega arith) (omega arith) inv.filling laid (i + 1) (taken + c.min-count.result) (omega arith) (omega arith);
+      filling = filled_to c.requires.wide high (omega arith) (omega arith) (omega arith) inv.filling laid (omega arith) (omega arith);
       used = call.used;
       started = omega arith;
       high = omega arith;
       within = omega arith;
-      left = left_on each nb i (length rows) taken c.min-count.result more inv.left count;
+      left = left_on c.rows_each-each.result nb i (length rows) taken more inv.left count;
       low = omega arith;
     }

@@ -8,7 +8,7 @@ pub gather_block-requires-clause-room : goal.gather_block-requires-clause-room
 gather_block-requires-clause-room c =
     let inv = c.next.invariant in
     let lt = c.next-test.true in
-    let few = room_next c.args.blocks c.args.words.now c.next.out.items c.args.out.now.items c.next.i c.requires.laid (omega arith) inv.all in
+    let few = room_next c.args.out.now.items c.next.i c.requires.laid (omega arith) inv.all in
     let room = c.requires.room in
     let same = inv.capacity in
     omega arith
@@ -20,8 +20,7 @@ next-preserved c =
     let lt = c.next-test.true in
     record {
       high = omega arith;
-      all = gathered_next c.args.blocks c.args.words.now c.next.out.items c.gather_block.new.out.items c.args.out.now.items c.next.i inv.all
-          c.gather_block.ensures.rows;
+      all = gathered_next c.args.blocks c.args.words.now c.args.out.now.items c.next.i inv.all c.gather_block.ensures.rows;
       capacity = c.gather_block.ensures.room ∙ inv.capacity;
     }
 

@@ -13,7 +13,7 @@ body-preserved c =
     record {
       high = omega arith;
       all = c.push_reserved-in-body.ensures.items
-          ∙ gathered_on c.args.words.now c.body.out.items c.push_reserved.new.self.items _ c.body.k inv.all (omega arith);
+          ∙ gathered_on c.args.words.now c.push_reserved.new.self.items _ c.body.k inv.all (omega arith);
       capacity = search rules;
     }
 
@@ -23,5 +23,4 @@ returns-clause-rows c =
     let inv = c.body.invariant in
     let out = c.body-test.false in
     let high = inv.high in
-    gathered_block c.args.blocks c.args.words.now c.body.out.items c.args.out.now.items c.push_reserved.new.self.items c.args.i _ c.body.k
-    c.push_reserved.ensures.items inv.all (omega arith) (omega arith)
+    gathered_block c.args.blocks c.args.words.now c.args.out.now.items c.args.i c.push_reserved.ensures.items inv.all (omega arith) (omega arith)

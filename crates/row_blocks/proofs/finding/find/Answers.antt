@@ -58,15 +58,14 @@ end_is : (g : Over) (c : After-halve-found g)
     (rows_in c.args.blocks (g.W.Loads.words c.args.words.now c.args.hand.now)))
 end_is g c last =
     let one = g.W.Loads.words c.args.words.now c.args.hand.now in
-    let nb = c.args.blocks in
     let i : ℕ = c.halve-heads.result.place in
     let h = head g c in
     let r = row g c in
     let within = r.below in
     let count = rows g c in
     let used = c.load-used.ensures.word in
-    end_there nb one i c.requires.laid h.below c.halve-found.result.place c.halve-found.result.end c.halve-heads.result.end (omega arith) c.requires.low
-    r.follows (λ e. last (omega arith)) (head_next (blocks_of nb one) one i c.halve-heads.result.end h.follows)
+    end_there i c.requires.laid h.below c.halve-found.result.place c.halve-found.result.end c.halve-heads.result.end (omega arith) c.requires.low r.follows
+    (λ e. last (omega arith)) (head_next (blocks_of c.args.blocks one) one i c.halve-heads.result.end h.follows)
     (λ e. let b = c.halve-heads.ensures.last (omega arith) in omega arith)
 
 -- its block is in use
@@ -86,7 +85,7 @@ returns-then-found-gt0-clause-word g c =
     let r = row g k in
     let b = r.below in
     let some = c.if-found-gt0.true in
-    r.here some ∙ sym (row_there c.args.blocks one c.halve-heads.result.place c.requires.laid h.below c.halve-found.result.place some (omega arith))
+    r.here some ∙ sym (row_there _ one c.halve-heads.result.place c.requires.laid h.below c.halve-found.result.place some (omega arith))
 
 -- and the one behind it
 pub returns-then-found-gt0-clause-end : goal.returns-then-found-gt0-clause-end
@@ -143,8 +142,7 @@ returns-clause-word g c =
 
 -- and the row behind it
 pub returns-clause-end : goal.returns-clause-end
-returns-clause-end g c =
-    c.min-end.ensures ∙ end_is g (goal.at.returns-clause-end g c).After-halve-found c.halve-found.ensures.last
+returns-clause-end g c = c.min-end.ensures ∙ end_is g (goal.at.returns-clause-end g c).After-halve-found c.halve-found.ensures.last
 
 -- so many steps are made up to the body
 steps_to : (g : Over) (c : After-halve-found g) → (m : ℕ) → blocks_of c.args.blocks (g.W.Loads.words c.args.words.now c.args.hand.now) ≤ 2 ^ m
@@ -227,11 +225,9 @@ returns-clause-steps g c =
 
 -- all loads are one step
 kept_to : (g : Over) (c : After-halve-found g) → g.W.Loads.kept c.args.words.now c.args.hand.now c.halve-found.new.hand
-kept_to g c =
-    let ws = c.args.words.now in
-    let one = g.W.Loads.steps_on ws c.args.hand.now c.load-used.new.hand c.halve-heads.new.hand c.load-used.ensures.kept c.halve-heads.ensures.kept in
-    let two = g.W.Loads.steps_on ws c.args.hand.now c.halve-heads.new.hand c.body_of-body.new.hand one c.body_of-body.ensures.kept in
-    g.W.Loads.steps_on ws c.args.hand.now c.body_of-body.new.hand c.halve-found.new.hand two c.halve-found.ensures.kept
+kept_to g c = g.W.Loads.steps_on _ _ _ _
+    (g.W.Loads.steps_on _ _ _ _ (g.W.Loads.steps_on _ _ _ _ c.load-used.ensures.kept c.halve-heads.ensures.kept) c.body_of-body.ensures.kept)
+    c.halve-found.ensures.kept
 
 -- those of a row of a body
 pub returns-then-found-gt0-clause-kept : goal.returns-then-found-gt0-clause-kept
@@ -243,5 +239,4 @@ returns-then-heads-gt0-clause-kept g c = kept_to g (goal.at.returns-then-heads-g
 
 -- and with that of the first row
 pub returns-clause-kept : goal.returns-clause-kept
-returns-clause-kept g c = g.W.Loads.steps_on c.args.words.now c.args.hand.now c.halve-found.new.hand c.load-word.new.hand
-    (kept_to g (goal.at.returns-clause-kept g c).After-halve-found) c.load-word.ensures.kept
+returns-clause-kept g c = g.W.Loads.steps_on _ _ _ _ (kept_to g (goal.at.returns-clause-kept g c).After-halve-found) c.load-word.ensures.kept

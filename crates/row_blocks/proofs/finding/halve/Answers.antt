@@ -45,10 +45,9 @@ halve-preserved-then-read-page g c =
       same = load.words ∙ inv.same;
       may = load.may;
       rows = λ w r. load.rows w (inv.rows w r);
-      kept = g.W.Loads.steps_on ws c.args.hand.now c.halve.hand c.load-read.new.hand inv.kept load.kept;
+      kept = g.W.Loads.steps_on _ _ _ _ inv.kept load.kept;
       steps = subst (λ (n : ℕ). HasHalved (g.W.Loads.steps ws c.args.hand.now) n c.args.size (c.halve.high - (c.halve.low + size / 2))) (sym load.step)
-          (halves_on (g.W.Loads.steps ws c.args.hand.now) (g.W.Loads.steps ws c.halve.hand) c.args.size size
-          (c.halve.high - (c.halve.low + size / 2)) inv.steps (omega arith) (omega arith));
+          (halves_on _ _ _ size _ inv.steps (omega arith) (omega arith));
     }
 
 -- or behind it
@@ -74,10 +73,9 @@ halve-preserved g c =
       same = load.words ∙ inv.same;
       may = load.may;
       rows = λ w r. load.rows w (inv.rows w r);
-      kept = g.W.Loads.steps_on ws c.args.hand.now c.halve.hand c.load-read.new.hand inv.kept load.kept;
+      kept = g.W.Loads.steps_on _ _ _ _ inv.kept load.kept;
       steps = subst (λ (n : ℕ). HasHalved (g.W.Loads.steps ws c.args.hand.now) n c.args.size (c.halve.low + size / 2 - c.halve.low)) (sym load.step)
-          (halves_on (g.W.Loads.steps ws c.args.hand.now) (g.W.Loads.steps ws c.halve.hand) c.args.size size
-          (c.halve.low + size / 2 - c.halve.low) inv.steps (omega arith) (omega arith));
+          (halves_on _ _ _ size _ inv.steps (omega arith) (omega arith));
     }
 
 -- one place is left

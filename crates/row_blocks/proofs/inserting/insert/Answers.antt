@@ -11,26 +11,22 @@ done : (g : Over) (c : After-store_layout g) → IsSplicedBlock c.args.blocks (g
     (g.W.Loads.words c.args.words.now c.store_layout.new.hand) c.args.i c.args.place c.args.place (c.args.word ∷ [])
     (rows_of c.args.blocks (g.W.Loads.words c.args.words.now c.args.hand.now) c.args.i + 1)
 done g c =
-    let ws = c.args.words.now in
-    row_put c.args.blocks (g.W.Loads.words ws c.args.hand.now) (g.W.Loads.words ws c.load-packed.new.hand) (g.W.Loads.words ws c.put_at.new.hand)
-    (g.W.Loads.words ws c.store_layout.new.hand) c.args.i c.args.place c.args.word c.load-packed.result c.requires.laid c.requires.there c.requires.room
-    c.requires.place c.load-packed.ensures.words c.load-packed.ensures.word c.put_at.ensures.put c.store_layout.ensures.words
+    row_put c.requires.laid c.requires.there c.requires.room c.requires.place c.load-packed.ensures.words c.load-packed.ensures.word c.put_at.ensures.put
+    c.store_layout.ensures.words
 
 -- the head is a row
 pub put_at-requires-clause-first : goal.put_at-requires-clause-first
 put_at-requires-clause-first g c =
     let ws = c.args.words.now in
-    first_loaded c.args.blocks (g.W.Loads.words ws c.args.hand.now) c.args.i c.requires.laid c.requires.there (g.W.Loads.is_row ws c.args.hand.now)
-    (g.W.Loads.is_row ws c.load-packed.new.hand) (g.W.Loads.words ws c.load-packed.new.hand) c.load-packed.ensures.rows c.load-packed.ensures.words
-    c.requires.rows
+    first_loaded _ _ c.args.i c.requires.laid c.requires.there (g.W.Loads.is_row ws c.args.hand.now) (g.W.Loads.is_row ws c.load-packed.new.hand)
+    c.load-packed.ensures.rows c.load-packed.ensures.words c.requires.rows
 
 -- and so are the others
 pub put_at-requires-clause-others : goal.put_at-requires-clause-others
 put_at-requires-clause-others g c =
     let ws = c.args.words.now in
-    others_loaded c.args.blocks (g.W.Loads.words ws c.args.hand.now) c.args.i c.requires.laid c.requires.there (g.W.Loads.is_row ws c.args.hand.now)
-    (g.W.Loads.is_row ws c.load-packed.new.hand) (g.W.Loads.words ws c.load-packed.new.hand) c.load-packed.result c.load-packed.ensures.rows
-    c.load-packed.ensures.words c.load-packed.ensures.word c.requires.rows
+    others_loaded _ _ c.args.i c.requires.laid c.requires.there (g.W.Loads.is_row ws c.args.hand.now) (g.W.Loads.is_row ws c.load-packed.new.hand)
+    c.load-packed.ensures.rows c.load-packed.ensures.words c.load-packed.ensures.word c.requires.rows
 
 -- the words are laid out
 pub returns-clause-laid : goal.returns-clause-laid
@@ -54,7 +50,5 @@ returns-clause-others g c = let d = done g c in d.others
 
 -- all steps are one
 pub returns-clause-kept : goal.returns-clause-kept
-returns-clause-kept g c =
-    let ws = c.args.words.now in
-    let kept_1 = g.W.Loads.steps_on ws c.args.hand.now c.load-packed.new.hand c.put_at.new.hand c.load-packed.ensures.kept c.put_at.ensures.kept in
-    g.W.Loads.steps_on ws c.args.hand.now c.put_at.new.hand c.store_layout.new.hand kept_1 c.store_layout.ensures.kept
+returns-clause-kept g c = g.W.Loads.steps_on _ _ _ _ (g.W.Loads.steps_on _ _ _ _ c.load-packed.ensures.kept c.put_at.ensures.kept)
+    c.store_layout.ensures.kept

@@ -6,19 +6,15 @@ use Rattle.row_blocks.proofs.inserting.put_at.Goals as goal
 -- behind the head a row comes into the body
 pub returns-else-place-eq0-clause-put : goal.returns-else-place-eq0-clause-put
 returns-else-place-eq0-clause-put g c =
-    let ws = c.args.words.now in
     let call = c.raise-else-place-eq0 in
     let some = c.if-place-eq0.false in
-    put_behind (g.W.Loads.words ws c.args.hand.now) (g.W.Loads.words ws call.new.hand) c.args.head c.args.at c.args.count c.args.place c.args.word
-    (search rules) c.requires.there c.requires.head c.requires.wide call.ensures.pushed
+    put_behind (search rules) c.requires.there c.requires.head c.requires.wide call.ensures.pushed
 
 -- or it takes the place of the head
 pub returns-then-place-eq0-clause-put : goal.returns-then-place-eq0-clause-put
 returns-then-place-eq0-clause-put g c =
-    let ws = c.args.words.now in
-    let one = g.W.Loads.words ws c.args.hand.now in
-    let two = g.W.Loads.words ws c.raise.new.hand in
+    let one = g.W.Loads.words c.args.words.now c.args.hand.now in
+    let two = g.W.Loads.words c.args.words.now c.raise.new.hand in
     let none : c.args.place ≡ 0 = search rules in
     subst (λ (p : ℕ). IsPutIn one two c.args.head c.args.at c.args.count p c.args.word) (sym none)
-    (put_front one (g.W.Loads.words ws c.exchange-first.new.hand) two c.args.head c.args.at c.args.count c.args.word c.exchange-first.result
-    c.requires.head c.requires.wide c.exchange-first.ensures.stood c.exchange-first.ensures.words c.raise.ensures.pushed)
+    (put_front c.requires.head c.requires.wide c.exchange-first.ensures.stood c.exchange-first.ensures.words c.raise.ensures.pushed)

@@ -6,12 +6,10 @@ use Rattle.row_blocks.specs.Blocks.{IsLaidOut, blocks_of, body_at, rows_of, rows
 use Rattle.row_blocks.proofs.laying.lay.Goals as goal
 
 pub lay_rows-requires-clause-laid : goal.lay_rows-requires-clause-laid
-lay_rows-requires-clause-laid g c =
-    subst (λ (l : List ℕ). IsLaidOut c.args.blocks l) (sym c.body_of-body.ensures.words) c.requires.laid
+lay_rows-requires-clause-laid g c = subst (λ (l : List ℕ). IsLaidOut c.args.blocks l) (sym c.body_of-body.ensures.words) c.requires.laid
 
 pub lay_rows-requires-clause-there : goal.lay_rows-requires-clause-there
-lay_rows-requires-clause-there g c =
-    subst (λ (l : List ℕ). c.args.at.block < blocks_of c.args.blocks l) (sym c.body_of-body.ensures.words) c.requires.there
+lay_rows-requires-clause-there g c = subst (λ (l : List ℕ). c.args.at.block < blocks_of c.args.blocks l) (sym c.body_of-body.ensures.words) c.requires.there
 
 pub lay_rows-requires-clause-place : goal.lay_rows-requires-clause-place
 lay_rows-requires-clause-place g c =
@@ -31,8 +29,7 @@ lay_rows-requires-clause-fits g c =
     (sym c.body_of-body.ensures.words) c.requires.fits
 
 pub lay_rows-requires-clause-more : goal.lay_rows-requires-clause-more
-lay_rows-requires-clause-more g c =
-    All-weaker (g.W.Loads.is_row c.args.words.now c.args.hand.now) (g.W.Loads.is_row c.args.words.now c.body_of-body.new.hand)
+lay_rows-requires-clause-more g c = All-weaker (g.W.Loads.is_row c.args.words.now c.args.hand.now) (g.W.Loads.is_row c.args.words.now c.body_of-body.new.hand)
     c.body_of-body.ensures.stay c.args.more.now c.requires.more
 
 pub returns-clause-spliced : goal.returns-clause-spliced
@@ -42,12 +39,10 @@ returns-clause-spliced g c =
     (rank c.args.blocks l c.args.at.block c.args.at.place + length c.args.more.now) c.args.more.now) c.body_of-body.ensures.words c.lay_rows.ensures.spliced
 
 pub returns-clause-layout : goal.returns-clause-layout
-returns-clause-layout g c =
-    λ t le. c.lay_rows.ensures.layout t le ∙ ap (λ (l : List ℕ). slice_index l t) c.body_of-body.ensures.words
+returns-clause-layout g c = λ t le. c.lay_rows.ensures.layout t le ∙ ap (λ (l : List ℕ). slice_index l t) c.body_of-body.ensures.words
 
 pub returns-clause-there : goal.returns-clause-there
-returns-clause-there g c =
-    subst (λ (l : List ℕ). c.lay_rows.result.block < blocks_of c.args.blocks l) c.body_of-body.ensures.words c.lay_rows.ensures.there
+returns-clause-there g c = subst (λ (l : List ℕ). c.lay_rows.result.block < blocks_of c.args.blocks l) c.body_of-body.ensures.words c.lay_rows.ensures.there
 
 pub returns-clause-place : goal.returns-clause-place
 returns-clause-place g c =

@@ -11,16 +11,13 @@ use Rattle.row_blocks.proofs.laying.lay_rows.Goals as goal
 
 -- while rows are laid the layout is that of the beginning
 same : (g : Over) (c : In-rows g) → SameLayout c.args.blocks (g.W.Loads.words c.args.words.now c.args.hand.now) (g.W.Loads.words c.args.words.now c.rows.hand)
-same g c = same_layout c.args.blocks (g.W.Loads.words c.args.words.now c.args.hand.now) (g.W.Loads.words c.args.words.now c.rows.hand) c.rows.invariant.layout
+same g c = same_layout c.rows.invariant.layout
 
 -- and the place behind those that are laid is one of now
 spot : (g : Over) (c : In-rows g) → IsSpot c.args.blocks (g.W.Loads.words c.args.words.now c.rows.hand) c.rows.spot.at.block c.rows.spot.at.place
     c.rows.spot.body.at c.rows.spot.body.rows
     (rank c.args.blocks (g.W.Loads.words c.args.words.now c.args.hand.now) c.args.from.at.block c.args.from.at.place + c.rows.k)
-spot g c = spot_now c.args.blocks (g.W.Loads.words c.args.words.now c.args.hand.now) (g.W.Loads.words c.args.words.now c.rows.hand) c.rows.spot.at.block
-    c.rows.spot.at.place c.rows.spot.body.at c.rows.spot.body.rows
-    (rank c.args.blocks (g.W.Loads.words c.args.words.now c.args.hand.now) c.args.from.at.block c.args.from.at.place + c.rows.k) (same g c)
-    c.rows.invariant.spot
+spot g c = spot_now (same g c) c.rows.invariant.spot
 
 -- nothing is laid yet
 pub rows-init : goal.rows-init
@@ -59,9 +56,8 @@ go_on-here-requires-clause-more g c =
     let ws = c.args.words.now in
     let h = (goal.at.go_on-here-requires-clause-more g c).In-rows in
     let lt : c.rows.k < length c.args.more.now = search rules in
-    spot_below c.args.blocks (g.W.Loads.words ws c.args.hand.now) (g.W.Loads.words ws c.rows.hand) c.rows.spot.at.block c.rows.spot.at.place
-    c.rows.spot.body.at c.rows.spot.body.rows (rank c.args.blocks (g.W.Loads.words ws c.args.hand.now) c.args.from.at.block c.args.from.at.place) c.rows.k
-    (length c.args.more.now) c.requires.laid c.rows.invariant.laid (same g h) (spot g h) lt c.requires.fits
+    spot_below (rank c.args.blocks (g.W.Loads.words ws c.args.hand.now) c.args.from.at.block c.args.from.at.place) c.rows.k (length c.args.more.now)
+    c.requires.laid c.rows.invariant.laid (same g h) (spot g h) lt c.requires.fits
 
 pub lay_row-requires-clause-laid : goal.lay_row-requires-clause-laid
 lay_row-requires-clause-laid g c = subst (IsLaidOut c.args.blocks) (sym c.go_on-here.ensures.words) c.rows.invariant.laid
@@ -82,11 +78,10 @@ lay_row-requires-clause-body g c =
 
 pub lay_row-requires-clause-row : goal.lay_row-requires-clause-row
 lay_row-requires-clause-row g c =
-    let ws = c.args.words.now in
     let w = slice_index c.args.more.now c.rows.k in
     let lt = c.rows-test.true in
     c.go_on-here.ensures.rows w (c.rows.invariant.rows w
-    (All-get_or (g.W.Loads.is_row ws c.args.hand.now) c.args.more.now c.rows.k 0 (omega arith) c.requires.more))
+    (All-get_or (g.W.Loads.is_row c.args.words.now c.args.hand.now) c.args.more.now c.rows.k 0 (omega arith) c.requires.more))
 
 -- one row more is laid
 pub rows-preserved : goal.rows-preserved
@@ -109,25 +104,22 @@ rows-preserved g c =
     subst (λ (l : List ℕ). rows_in nb three ≡ slice_set (rows_in nb l) (rank nb l to.at.block to.at.place) w) go.words c.lay_row.ensures.laid_row in
     record {
       laid = c.lay_row.ensures.laid;
-      spliced = laid_more nb one two three c.args.more.now r c.rows.k (rank nb two to.at.block to.at.place) w (next_below r c.rows.k _ _ lt c.requires.fits) lt
-          inv.spliced laid here refl;
+      spliced = laid_more nb one two three c.args.more.now r c.rows.k (next_below r c.rows.k _ _ lt c.requires.fits) lt inv.spliced laid here refl;
       layout = λ t le. c.lay_row.ensures.layout t le ∙ (ap (λ (l : List ℕ). slice_index l t) go.words ∙ inv.layout t le);
-      spot = spot_on nb one two to.at.block to.at.place to.body.at to.body.rows r c.rows.k (same g h) go.there go.place go.body go.count here;
+      spot = spot_on to.at.place r c.rows.k (same g h) go.there go.place go.body go.count here;
       high = search rules;
       may = c.lay_row.ensures.may;
       rows = λ x p. c.lay_row.ensures.rows x (go.rows x (inv.rows x p));
-      kept = g.W.Loads.steps_on ws c.args.hand.now c.go_on-here.new.hand c.lay_row.new.hand
-          (g.W.Loads.steps_on ws c.args.hand.now c.rows.hand c.go_on-here.new.hand inv.kept go.kept) c.lay_row.ensures.kept;
+      kept = g.W.Loads.steps_on _ _ _ _ (g.W.Loads.steps_on _ _ _ _ inv.kept go.kept) c.lay_row.ensures.kept;
       steps = lay_steps _ _ _ _ _ _ _ _ inv.steps go.steps c.lay_row.ensures.steps;
     }
 
 -- all are laid
 pub returns-clause-spliced : goal.returns-clause-spliced
 returns-clause-spliced g c =
-    let ws = c.args.words.now in
     let nb = c.args.blocks in
-    let one = g.W.Loads.words ws c.args.hand.now in
-    let two = g.W.Loads.words ws c.rows.hand in
+    let one = g.W.Loads.words c.args.words.now c.args.hand.now in
+    let two = g.W.Loads.words c.args.words.now c.rows.hand in
     let r : ℕ = rank nb one c.args.from.at.block c.args.from.at.place in
     let more = c.args.more.now in
     let out = c.rows-test.false in

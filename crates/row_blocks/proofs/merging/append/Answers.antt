@@ -1,5 +1,5 @@
-use Rattle.std.proofs.Common.{ℕ, ◌≡◌, ◌+◌, ◌*◌, ◌/◌, ◌%◌, List, refl, sym, ap, subst, ◌∙◌, arith}
-use Rattle.std.specs.Prelude.{slice_index, slice_set}
+use Rattle.std.proofs.Common.{ℕ, ◌≡◌, ◌+◌, ◌*◌, ◌/◌, List, refl, sym, ap, subst, ◌∙◌, arith}
+use Rattle.std.specs.Prelude.{slice_index}
 use Rattle.row_blocks.proofs.Puts.{OnlyBlock, still_laid, count_stays, body_word_stays, other_block}
 use Rattle.row_blocks.proofs.Appends.{IsAppended, is_appended, started_stays, append_only, append_more, both}
 use Rattle.row_blocks.proofs.Places.{first_loaded, others_loaded}
@@ -7,36 +7,25 @@ use Rattle.row_blocks.proofs.merging.append.Given.{Over}
 use Rattle.row_blocks.proofs.merging.append.Goals.{After-store_layout}
 use Rattle.row_blocks.proofs.merging.append.Goals as goal
 
--- what the last store leaves
-abbrev Stored : (g : Over) (c : After-store_layout g) → Type 0
-Stored g c = g.W.Loads.words c.args.words.now c.store_layout.new.hand
-    ≡ slice_set (g.W.Loads.words c.args.words.now c.copy.new.hand) (128 * c.args.blocks + 1 + c.args.i)
-    (c.load-packed.result + (c.load-other.result % 128 + 1))
-
 -- what stands after all stores
-done : (g : Over) (c : After-store_layout g) → Stored g c → IsAppended c.args.blocks (g.W.Loads.words c.args.words.now c.args.hand.now)
+done : (g : Over) (c : After-store_layout g) → IsAppended c.args.blocks (g.W.Loads.words c.args.words.now c.args.hand.now)
     (g.W.Loads.words c.args.words.now c.exchange.new.hand) (g.W.Loads.words c.args.words.now c.copy.new.hand)
     (g.W.Loads.words c.args.words.now c.store_layout.new.hand) c.args.i
-done g c stored =
-    let ws = c.args.words.now in
-    let nb = c.args.blocks in
+done g c =
     let same_1 = c.load-packed.ensures.words in
     let same_2 = c.load-other.ensures.words ∙ same_1 in
     let same_3 = c.load-head.ensures.words ∙ same_2 in
-    let other = c.load-other.ensures.word ∙ ap (λ (l : List ℕ). slice_index l (128 * nb + 1 + (c.args.i + 1))) same_1 in
+    let other = c.load-other.ensures.word ∙ ap (λ (l : List ℕ). slice_index l (128 * c.args.blocks + 1 + (c.args.i + 1))) same_1 in
     let head = c.load-head.ensures.word ∙ ap (λ (l : List ℕ). slice_index l (c.args.i + 1)) same_2 in
-    is_appended nb (g.W.Loads.words ws c.args.hand.now) (g.W.Loads.words ws c.load-head.new.hand) (g.W.Loads.words ws c.exchange.new.hand)
-    (g.W.Loads.words ws c.copy.new.hand) (g.W.Loads.words ws c.store_layout.new.hand) c.args.i c.load-packed.result c.load-other.result c.load-head.result
-    same_3 c.load-packed.ensures.word other head c.exchange.ensures.words c.copy.ensures.copied stored
+    is_appended same_3 c.load-packed.ensures.word other head c.exchange.ensures.words c.copy.ensures.copied c.store_layout.ensures.words
 
 -- the head of the upper block is a row
 pub exchange-requires-clause-row : goal.exchange-requires-clause-row
 exchange-requires-clause-row g c =
     let ws = c.args.words.now in
     subst (g.W.Loads.is_row ws c.load-head.new.hand) (sym c.load-head.ensures.word)
-    (c.load-head.ensures.rows (slice_index (g.W.Loads.words ws c.load-other.new.hand) (c.args.i + 1))
-    (first_loaded c.args.blocks (g.W.Loads.words ws c.args.hand.now) (c.args.i + 1) c.requires.laid c.requires.there (g.W.Loads.is_row ws c.args.hand.now)
-    (g.W.Loads.is_row ws c.load-other.new.hand) (g.W.Loads.words ws c.load-other.new.hand)
+    (c.load-head.ensures.rows _
+    (first_loaded _ _ (c.args.i + 1) c.requires.laid c.requires.there (g.W.Loads.is_row ws c.args.hand.now) (g.W.Loads.is_row ws c.load-other.new.hand)
     (λ w r. c.load-other.ensures.rows w (c.load-packed.ensures.rows w r)) (c.load-other.ensures.words ∙ c.load-packed.ensures.words) c.requires.rows))
 
 -- and so are those of its body, which stand as they stood
@@ -51,75 +40,53 @@ copy-requires-clause-rows g c =
     λ m lt.
     let s : ℕ = nb + 127 * (c.load-other.result / 128) + m in
     let here : slice_index (g.W.Loads.words ws c.exchange.new.hand) s ≡ slice_index one s =
-    started_stays nb one (g.W.Loads.words ws c.load-head.new.hand) (g.W.Loads.words ws c.exchange.new.hand) c.args.i c.load-packed.result
-    c.load-other.result c.load-head.result m c.requires.laid c.requires.there c.requires.room same_3 c.load-packed.ensures.word other lt
+    started_stays c.args.i c.load-head.result m c.requires.laid c.requires.there c.requires.room same_3 c.load-packed.ensures.word other lt
     c.exchange.ensures.words in
     subst (g.W.Loads.is_row ws c.exchange.new.hand) (sym here)
-    (c.exchange.ensures.rows (slice_index one s) (c.load-head.ensures.rows (slice_index one s) (c.load-other.ensures.rows (slice_index one s)
-    (c.load-packed.ensures.rows (slice_index one s)
-    (others_loaded nb one (c.args.i + 1) c.requires.laid c.requires.there (g.W.Loads.is_row ws c.args.hand.now) (g.W.Loads.is_row ws c.args.hand.now) one
-    c.load-other.result (λ w r. r) refl other c.requires.rows s (omega arith) (omega arith))))))
+    (c.exchange.ensures.rows _ (c.load-head.ensures.rows _ (c.load-other.ensures.rows _ (c.load-packed.ensures.rows _
+    (others_loaded nb one (c.args.i + 1) c.requires.laid c.requires.there (g.W.Loads.is_row ws c.args.hand.now) (g.W.Loads.is_row ws c.args.hand.now)
+    (λ w r. r) refl other c.requires.rows s (omega arith) (omega arith))))))
 
 -- only the lower block has changed
-only : (g : Over) (c : After-store_layout g) → Stored g c → OnlyBlock c.args.blocks (g.W.Loads.words c.args.words.now c.args.hand.now)
+only : (g : Over) (c : After-store_layout g) → OnlyBlock c.args.blocks (g.W.Loads.words c.args.words.now c.args.hand.now)
     (g.W.Loads.words c.args.words.now c.store_layout.new.hand) c.args.i
-only g c stored =
-    let ws = c.args.words.now in
-    append_only c.args.blocks (g.W.Loads.words ws c.args.hand.now) (g.W.Loads.words ws c.exchange.new.hand) (g.W.Loads.words ws c.copy.new.hand)
-    (g.W.Loads.words ws c.store_layout.new.hand) c.args.i c.requires.laid c.requires.there c.requires.room (done g c stored)
+only g c = append_only c.requires.laid c.requires.there c.requires.room (done g c)
 
 -- the words are laid out
 pub returns-clause-laid : goal.returns-clause-laid
 returns-clause-laid g c =
-    let ws = c.args.words.now in
     let there = c.requires.there in
-    still_laid c.args.blocks (g.W.Loads.words ws c.args.hand.now) (g.W.Loads.words ws c.store_layout.new.hand) c.args.i c.requires.laid (omega arith)
-    (only g c c.store_layout.ensures.words)
+    still_laid c.requires.laid (omega arith) (only g c)
 
 -- as the block count tells
 pub returns-clause-count : goal.returns-clause-count
 returns-clause-count g c =
-    let ws = c.args.words.now in
     let there = c.requires.there in
-    count_stays c.args.blocks (g.W.Loads.words ws c.args.hand.now) (g.W.Loads.words ws c.store_layout.new.hand) c.args.i c.requires.laid (omega arith)
-    (only g c c.store_layout.ensures.words)
+    count_stays c.requires.laid (omega arith) (only g c)
 
 -- the rows of both stand in one block
 pub returns-clause-both : goal.returns-clause-both
-returns-clause-both g c =
-    let ws = c.args.words.now in
-    both c.args.blocks (g.W.Loads.words ws c.args.hand.now) (g.W.Loads.words ws c.exchange.new.hand) (g.W.Loads.words ws c.copy.new.hand)
-    (g.W.Loads.words ws c.store_layout.new.hand) c.args.i c.requires.laid c.requires.there c.requires.room (done g c c.store_layout.ensures.words)
+returns-clause-both g c = both c.requires.laid c.requires.there c.requires.room (done g c)
 
 -- the block has more rows
 pub returns-clause-more : goal.returns-clause-more
-returns-clause-more g c =
-    let ws = c.args.words.now in
-    append_more c.args.blocks (g.W.Loads.words ws c.args.hand.now) (g.W.Loads.words ws c.exchange.new.hand) (g.W.Loads.words ws c.copy.new.hand)
-    (g.W.Loads.words ws c.store_layout.new.hand) c.args.i c.requires.laid c.requires.there c.requires.room (done g c c.store_layout.ensures.words)
+returns-clause-more g c = append_more c.requires.laid c.requires.there c.requires.room (done g c)
 
 -- and the other blocks as they stood
 pub returns-clause-blocks : goal.returns-clause-blocks
 returns-clause-blocks g c =
-    let ws = c.args.words.now in
     let there = c.requires.there in
-    other_block c.args.blocks (g.W.Loads.words ws c.args.hand.now) (g.W.Loads.words ws c.store_layout.new.hand) c.args.i c.requires.laid (omega arith)
-    (only g c c.store_layout.ensures.words)
+    other_block c.requires.laid (omega arith) (only g c)
 
 -- and the other body words stand as they stood
 pub returns-clause-others : goal.returns-clause-others
 returns-clause-others g c =
-    let ws = c.args.words.now in
     let there = c.requires.there in
-    body_word_stays c.args.blocks (g.W.Loads.words ws c.args.hand.now) (g.W.Loads.words ws c.store_layout.new.hand) c.args.i c.requires.laid (omega arith)
-    (only g c c.store_layout.ensures.words)
+    body_word_stays c.requires.laid (omega arith) (only g c)
 
 -- all steps are one
 pub returns-clause-kept : goal.returns-clause-kept
 returns-clause-kept g c =
-    let ws = c.args.words.now in
-    let kept_1 = g.W.Loads.steps_on ws c.args.hand.now c.load-packed.new.hand c.load-other.new.hand c.load-packed.ensures.kept c.load-other.ensures.kept in
-    let kept_2 = g.W.Loads.steps_on ws c.args.hand.now c.load-other.new.hand c.load-head.new.hand kept_1 c.load-head.ensures.kept in
-    let kept_3 = g.W.Loads.steps_on ws c.args.hand.now c.load-head.new.hand c.exchange.new.hand kept_2 c.exchange.ensures.kept in
-    let kept_4 = g.W.Loads.steps_on ws c.args.hand.now c.exchange.new.hand c.copy.new.hand kept_3 c.copy.ensures.kept in
-    g.W.Loads.steps_on ws c.args.hand.now c.copy.new.hand c.store_layout.new.hand kept_4 c.store_layout.ensures.kept
+    let loads = g.W.Loads.steps_on _ _ _ _ (g.W.Loads.steps_on _ _ _ _ c.load-packed.ensures.kept c.load-other.ensures.kept) c.load-head.ensures.kept in
+    let rows = g.W.Loads.steps_on _ _ _ _ (g.W.Loads.steps_on _ _ _ _ loads c.exchange.ensures.kept) c.copy.ensures.kept in
+    g.W.Loads.steps_on _ _ _ _ rows c.store_layout.ensures.kept

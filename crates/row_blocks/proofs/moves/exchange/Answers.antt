@@ -8,7 +8,7 @@ pub returns-then-stood-word-clause-words : goal.returns-then-stood-word-clause-w
 returns-then-stood-word-clause-words g c =
     let old = g.W.Loads.words c.args.words.now c.args.hand.now in
     let e : c.load-stood.result ≡ c.args.word = search rules in
-    c.load-stood.ensures.words ∙ set_stood old c.args.place c.args.word c.requires.there (sym c.load-stood.ensures.word ∙ e)
+    c.load-stood.ensures.words ∙ set_stood old c.args.place c.requires.there (sym c.load-stood.ensures.word ∙ e)
 
 -- and elsewhere it is stored
 pub returns-clause-words : goal.returns-clause-words

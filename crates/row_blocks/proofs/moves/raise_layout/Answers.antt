@@ -6,7 +6,7 @@ use Rattle.row_blocks.proofs.moves.raise_layout.Goals as goal
 -- nothing has moved yet
 pub shift-init : goal.shift-init
 shift-init g c = record {
-  pushing = pushes_none (g.W.Loads.words c.args.words.now c.args.hand.now) c.args.from c.args.word;
+  pushing = pushes_none;
   low = omega arith;
   high = c.requires.ordered;
   may = c.requires.may;
@@ -18,7 +18,6 @@ shift-init g c = record {
 -- one word more has moved up
 pub shift-preserved : goal.shift-preserved
 shift-preserved g c =
-    let ws = c.args.words.now in
     let inv = c.shift.invariant in
     let call = c.exchange_layout-stood in
     let low = inv.low in
@@ -28,30 +27,27 @@ shift-preserved g c =
     let more = call.ensures.steps in
     let to_end : c.shift.to ≤ c.args.until = inv.high in
     record {
-      pushing = pushes_on (g.W.Loads.words ws c.args.hand.now) (g.W.Loads.words ws c.shift.hand) (g.W.Loads.words ws call.new.hand) c.args.from c.shift.to
-          c.args.word c.shift.carried call.result low (omega arith) inv.pushing call.ensures.stood call.ensures.words;
+      pushing = pushes_on low (omega arith) inv.pushing call.ensures.stood call.ensures.words;
       low = omega arith;
       high = omega arith;
       may = call.ensures.may;
       rows = λ w r. call.ensures.rows w (inv.rows w r);
-      kept = g.W.Loads.steps_on ws c.args.hand.now c.shift.hand call.new.hand inv.kept call.ensures.kept;
+      kept = g.W.Loads.steps_on _ _ _ _ inv.kept call.ensures.kept;
       steps = omega arith;
     }
 
 -- the last word that was carried is laid
 pub returns-clause-pushed : goal.returns-clause-pushed
 returns-clause-pushed g c =
-    let ws = c.args.words.now in
     let inv = c.shift.invariant in
     let out = c.shift-test.false in
     let high = inv.high in
     let at_end : c.shift.to ≡ c.args.until = omega arith in
-    let one = g.W.Loads.words ws c.args.hand.now in
-    let two = g.W.Loads.words ws c.shift.hand in
-    pushes_end one two (g.W.Loads.words ws c.exchange_layout.new.hand) c.args.from c.args.until c.args.word c.shift.carried c.requires.ordered c.requires.wide
-    (subst (λ (n : ℕ). IsPushing one two c.args.from n c.args.word c.shift.carried) at_end inv.pushing) c.exchange_layout.ensures.words
+    let one = g.W.Loads.words c.args.words.now c.args.hand.now in
+    let two = g.W.Loads.words c.args.words.now c.shift.hand in
+    pushes_end c.requires.ordered c.requires.wide (subst (λ (n : ℕ). IsPushing one two c.args.from n c.args.word c.shift.carried) at_end inv.pushing)
+    c.exchange_layout.ensures.words
 
 -- all steps are one
 pub returns-clause-kept : goal.returns-clause-kept
-returns-clause-kept g c =
-    g.W.Loads.steps_on c.args.words.now c.args.hand.now c.shift.hand c.exchange_layout.new.hand c.shift.invariant.kept c.exchange_layout.ensures.kept
+returns-clause-kept g c = g.W.Loads.steps_on _ _ _ _ c.shift.invariant.kept c.exchange_layout.ensures.kept

@@ -15,13 +15,12 @@ returns-then-at-body-clause-next g c =
 -- and behind the last one the head of the next block
 pub returns-then-at-used-clause-next : goal.returns-then-at-used-clause-next
 returns-then-at-used-clause-next g c =
-    let nb = c.args.blocks in
     let one = g.W.Loads.words c.args.words.now c.args.hand.now in
-    let next = count_next nb one c.args.at.block in
+    let next = count_next c.args.blocks one c.args.at.block in
     let rows = c.body_of-body.ensures.rows in
     let full = c.if-at-body.false in
     let place = c.requires.place in
-    let used = c.load-used.ensures.word ∙ ap (λ (l : List ℕ). slice_index l (128 * nb)) c.body_of-body.ensures.words in
+    let used = c.load-used.ensures.word ∙ ap (λ (l : List ℕ). slice_index l (128 * c.args.blocks)) c.body_of-body.ensures.words in
     let more = c.if-at-used.true in
     record { there = omega arith; place = omega arith; number = omega arith }
 

@@ -1,6 +1,6 @@
-use Rattle.std.proofs.Common.{◌≡◌, ℕ, ◌+◌, ◌-◌, ◌*◌, ◌<◌, ◌≤◌, ◌∙◌, List, length, sym, ap, arith}
+use Rattle.std.proofs.Common.{◌≡◌, ℕ, ◌+◌, ◌-◌, ◌∙◌, List, length, sym, ap, arith}
 use Rattle.std.specs.Prelude.{slice_index}
-use Rattle.row_blocks.specs.Blocks.{body_at, rows_in, rank}
+use Rattle.row_blocks.specs.Blocks.{rows_in, rank}
 use Rattle.row_blocks.proofs.Places.{head_there, row_there}
 use Rattle.row_blocks.proofs.positions.row_at.Goals as goal
 
@@ -21,7 +21,6 @@ returns-then-at-eq0-clause-word g c =
 -- the body stands before the layout
 pub load-requires-2-clause-there : goal.load-requires-2-clause-there
 load-requires-2-clause-there g c =
-    let at = c.body_of-body.ensures.at in
     let laid = c.requires.laid in
     let spare = laid.spare in
     let there = c.requires.there in
@@ -34,10 +33,9 @@ load-requires-2-clause-there g c =
 -- and has the other rows
 pub returns-clause-word : goal.returns-clause-word
 returns-clause-word g c =
-    let nb = c.args.blocks in
     let one = g.W.Loads.words c.args.words.now c.args.hand.now in
     let behind = c.if-at-eq0.false in
     c.load-2.ensures.word
     ∙ (ap (λ (l : List ℕ). slice_index l (c.body_of-body.result.at - 1 + c.args.at.place)) c.body_of-body.ensures.words
     ∙ (ap (λ (s : ℕ). slice_index one (s - 1 + c.args.at.place)) c.body_of-body.ensures.at
-    ∙ sym (row_there nb one c.args.at.block c.requires.laid c.requires.there c.args.at.place (omega arith) c.requires.place)))
+    ∙ sym (row_there _ one c.args.at.block c.requires.laid c.requires.there c.args.at.place (omega arith) c.requires.place)))

@@ -7,7 +7,7 @@ use Rattle.row_blocks.proofs.removing.rotate.Goals as goal
 pub bodies-init : goal.bodies-init
 bodies-init g c = record {
   bodies = c.requires.bodies;
-  rotated = rotates_none c.args.blocks (g.W.Loads.words c.args.words.now c.args.hand.now) c.args.to c.args.gap;
+  rotated = rotates_none;
   high = omega arith;
   may = c.requires.may;
   rows = λ w r. r;
@@ -18,7 +18,6 @@ bodies-init g c = record {
 -- one body word more has moved down
 pub bodies-preserved : goal.bodies-preserved
 bodies-preserved g c =
-    let ws = c.args.words.now in
     let inv = c.bodies.invariant in
     let lt = c.bodies-test.true in
     let call = c.swap in
@@ -26,12 +25,11 @@ bodies-preserved g c =
     let more = call.ensures.steps in
     record {
       bodies = call.ensures.bodies;
-      rotated = rotates_on c.args.blocks (g.W.Loads.words ws c.args.hand.now) (g.W.Loads.words ws c.bodies.hand) (g.W.Loads.words ws call.new.hand)
-          c.args.to c.args.gap c.bodies.k c.requires.some inv.rotated call.ensures.swapped;
+      rotated = rotates_on c.requires.some inv.rotated call.ensures.swapped;
       high = omega arith;
       may = call.ensures.may;
       rows = λ w r. call.ensures.rows w (inv.rows w r);
-      kept = g.W.Loads.steps_on ws c.args.hand.now c.bodies.hand call.new.hand inv.kept call.ensures.kept;
+      kept = g.W.Loads.steps_on _ _ _ _ inv.kept call.ensures.kept;
       steps = omega arith;
     }
 

@@ -10,41 +10,31 @@ use Rattle.row_blocks.proofs.removing.take_out.Goals as goal
 -- what stands after the stores
 done : (g : Over) (c : After-store_layout g) → IsTakenOut c.args.blocks (g.W.Loads.words c.args.words.now c.args.hand.now)
     (g.W.Loads.words c.args.words.now c.store_layout.new.hand) c.args.first (c.args.end - c.args.first) (c.load-count.result - c.args.end)
-done g c =
-    let ws = c.args.words.now in
-    is_out c.args.blocks (g.W.Loads.words ws c.args.hand.now) (g.W.Loads.words ws c.load-count.new.hand) (g.W.Loads.words ws c.copy.new.hand)
-    (g.W.Loads.words ws c.rotate.new.hand) (g.W.Loads.words ws c.store_layout.new.hand) c.args.first c.args.end c.load-count.result c.requires.laid
-    c.requires.some c.requires.there c.requires.left c.load-count.ensures.words c.load-count.ensures.word c.copy.ensures.copied c.rotate.ensures.rotated
-    c.rotate.ensures.bodies c.store_layout.ensures.words
+done g c = is_out _ _ _ _ _ _ _ _ _ c.requires.laid c.requires.some c.requires.there c.requires.left c.load-count.ensures.words c.load-count.ensures.word
+    c.copy.ensures.copied c.rotate.ensures.rotated c.rotate.ensures.bodies c.store_layout.ensures.words
 
 -- heads are rows
 pub copy-requires-clause-rows : goal.copy-requires-clause-rows
 copy-requires-clause-rows g c =
     let ws = c.args.words.now in
     let count = c.load-count.ensures.word in
-    λ m lt. first_loaded c.args.blocks (g.W.Loads.words ws c.args.hand.now) (c.args.end + m) c.requires.laid (omega arith)
-    (g.W.Loads.is_row ws c.args.hand.now) (g.W.Loads.is_row ws c.load-count.new.hand) (g.W.Loads.words ws c.load-count.new.hand) c.load-count.ensures.rows
-    c.load-count.ensures.words c.requires.rows
+    λ m lt. first_loaded _ _ (c.args.end + m) c.requires.laid (omega arith) (g.W.Loads.is_row ws c.args.hand.now) (g.W.Loads.is_row ws c.load-count.new.hand)
+    c.load-count.ensures.rows c.load-count.ensures.words c.requires.rows
 
 -- the words are laid out
 pub returns-clause-laid : goal.returns-clause-laid
 returns-clause-laid g c =
-    let ws = c.args.words.now in
-    laid_out c.args.blocks (g.W.Loads.words ws c.args.hand.now) (g.W.Loads.words ws c.load-count.new.hand) (g.W.Loads.words ws c.copy.new.hand)
-    (g.W.Loads.words ws c.rotate.new.hand) (g.W.Loads.words ws c.store_layout.new.hand) c.args.first c.args.end c.load-count.result c.requires.laid
-    c.requires.some c.requires.there c.requires.left c.load-count.ensures.words c.load-count.ensures.word c.copy.ensures.copied c.rotate.ensures.rotated
-    c.rotate.ensures.bodies c.store_layout.ensures.words
+    laid_out _ _ _ _ _ _ _ _ _ c.requires.laid c.requires.some c.requires.there c.requires.left c.load-count.ensures.words c.load-count.ensures.word
+    c.copy.ensures.copied c.rotate.ensures.rotated c.rotate.ensures.bodies c.store_layout.ensures.words
 
 -- the rows of the blocks that went are gone
 pub returns-clause-spliced : goal.returns-clause-spliced
 returns-clause-spliced g c =
-    let ws = c.args.words.now in
     let nb = c.args.blocks in
-    let one = g.W.Loads.words ws c.args.hand.now in
+    let one = g.W.Loads.words c.args.words.now c.args.hand.now in
     let some = c.requires.some in
     let at : c.args.first + (c.args.end - c.args.first) ≡ c.args.end = omega arith in
-    rows_taken nb one (g.W.Loads.words ws c.store_layout.new.hand) c.args.first (c.args.end - c.args.first) (c.load-count.result - c.args.end)
-    c.requires.laid (done g c)
+    rows_taken c.requires.laid (done g c)
     ∙ ap (λ (m : ℕ). splice (rows_in nb one) (count_to nb one c.args.first) (count_to nb one m) []) at
 
 -- as the block count tells
@@ -61,8 +51,6 @@ returns-clause-before g c = let d = done g c in d.told
 
 -- all steps are one
 pub returns-clause-kept : goal.returns-clause-kept
-returns-clause-kept g c =
-    let ws = c.args.words.now in
-    let kept_1 = g.W.Loads.steps_on ws c.args.hand.now c.load-count.new.hand c.copy.new.hand c.load-count.ensures.kept c.copy.ensures.kept in
-    let kept_2 = g.W.Loads.steps_on ws c.args.hand.now c.copy.new.hand c.rotate.new.hand kept_1 c.rotate.ensures.kept in
-    g.W.Loads.steps_on ws c.args.hand.now c.rotate.new.hand c.store_layout.new.hand kept_2 c.store_layout.ensures.kept
+returns-clause-kept g c = g.W.Loads.steps_on _ _ _ _
+    (g.W.Loads.steps_on _ _ _ _ (g.W.Loads.steps_on _ _ _ _ c.load-count.ensures.kept c.copy.ensures.kept) c.rotate.ensures.kept)
+    c.store_layout.ensures.kept

@@ -1,4 +1,4 @@
-use Rattle.std.proofs.Common.{◌+◌, ◌/◌, ◌<◌, arith}
+use Rattle.std.proofs.Common.{◌<◌, arith}
 use Rattle.row_blocks.proofs.Halves.{low_rank, high_rank, first_short}
 use Rattle.row_blocks.proofs.rooms.split_half.Given.{Over}
 use Rattle.row_blocks.proofs.rooms.split_half.Goals.{After-split}
@@ -10,7 +10,7 @@ short : (g : Over) (c : After-split g) → rows_of c.args.blocks (g.W.Loads.word
 short g c =
     let told = c.requires.rows_told in
     first_short c.args.blocks (g.W.Loads.words c.args.words.now c.args.hand.now) (g.W.Loads.words c.args.words.now c.split.new.hand) c.args.at.block
-    ((c.args.rows + 1) / 2) c.split.ensures.before c.split.ensures.lower c.requires.short (omega arith)
+    c.split.ensures.before c.split.ensures.lower c.requires.short (omega arith)
 
 -- where the position stays
 pub returns-then-at-half-clause-short : goal.returns-then-at-half-clause-short
@@ -19,8 +19,8 @@ returns-then-at-half-clause-short g c = short g (goal.at.returns-then-at-half-cl
 -- as many rows stand before the position
 pub returns-then-at-half-clause-rank : goal.returns-then-at-half-clause-rank
 returns-then-at-half-clause-rank g c =
-    let low = low_rank c.args.blocks (g.W.Loads.words c.args.words.now c.args.hand.now) (g.W.Loads.words c.args.words.now c.split.new.hand)
-    c.args.at.block ((c.args.rows + 1) / 2) c.split.ensures.before c.split.ensures.lower in
+    let low = low_rank c.args.blocks (g.W.Loads.words c.args.words.now c.args.hand.now) (g.W.Loads.words c.args.words.now c.split.new.hand) c.args.at.block
+    c.split.ensures.before c.split.ensures.lower in
     omega arith
 
 -- and where it is one of the upper half
@@ -38,6 +38,6 @@ returns-clause-there g c =
 pub returns-clause-rank : goal.returns-clause-rank
 returns-clause-rank g c =
     let above = c.if-at-half.false in
-    let high = high_rank c.args.blocks (g.W.Loads.words c.args.words.now c.args.hand.now) (g.W.Loads.words c.args.words.now c.split.new.hand)
-    c.args.at.block ((c.args.rows + 1) / 2) c.split.ensures.before c.split.ensures.lower in
+    let high = high_rank c.args.blocks (g.W.Loads.words c.args.words.now c.args.hand.now) (g.W.Loads.words c.args.words.now c.split.new.hand) c.args.at.block
+    c.split.ensures.before c.split.ensures.lower in
     omega arith

@@ -5,15 +5,13 @@ use Rattle.row_blocks.proofs.Pairs.{pair_there}
 use Rattle.row_blocks.proofs.settling.find_pair.Goals as goal
 
 pub returns-then-rows-behind-le127-clause-kept : goal.returns-then-rows-behind-le127-clause-kept
-returns-then-rows-behind-le127-clause-kept g c =
-    g.W.Loads.steps_on c.args.words.now c.args.hand.now c.pairs.hand c.body_of-behind.new.hand c.pairs.invariant.kept c.body_of-behind.ensures.kept
+returns-then-rows-behind-le127-clause-kept g c = g.W.Loads.steps_on _ _ _ _ c.pairs.invariant.kept c.body_of-behind.ensures.kept
 
 -- two more have too many
 pub pairs-preserved : goal.pairs-preserved
 pairs-preserved g c =
-    let ws = c.args.words.now in
     let nb = c.args.blocks in
-    let one = g.W.Loads.words ws c.args.hand.now in
+    let one = g.W.Loads.words c.args.words.now c.args.hand.now in
     let inv = c.pairs.invariant in
     let call = c.body_of-behind.ensures in
     let lt = c.pairs-test.true in
@@ -36,14 +34,13 @@ pairs-preserved g c =
       ];
       may = call.may;
       rows = λ w r. call.stay w (inv.rows w r);
-      kept = g.W.Loads.steps_on ws c.args.hand.now c.pairs.hand c.body_of-behind.new.hand inv.kept call.kept;
+      kept = g.W.Loads.steps_on _ _ _ _ inv.kept call.kept;
       steps = omega arith;
     }
 
 -- so they have more rows than there are
 pub unreachable-requires : goal.unreachable-requires
 unreachable-requires g c =
-    let one = g.W.Loads.words c.args.words.now c.args.hand.now in
     let inv = c.pairs.invariant in
     let out = c.pairs-test.false in
-    pair_there c.args.blocks one c.requires.laid c.requires.full c.requires.room (λ k some lt. inv.full k some (omega arith))
+    pair_there c.requires.laid c.requires.full c.requires.room (λ k some lt. inv.full k some (omega arith))

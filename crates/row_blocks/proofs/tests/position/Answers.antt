@@ -14,7 +14,7 @@ behind c =
     let rows = inv.rows in
     let more = c.passed-test.true in
     let there = c.requires.there in
-    block_there c.args.blocks c.args.words.now (c.passed.i + 1) c.requires.laid (omega arith) (omega arith)
+    block_there (c.passed.i + 1) c.requires.laid (omega arith) (omega arith)
 
 pub bounds-words-told-in-passed : goal.bounds-words-told-in-passed
 bounds-words-told-in-passed c =

@@ -1,4 +1,4 @@
-use Rattle.std.proofs.Common.{ℕ, [], ◌≡◌, ◌+◌, ◌-◌, List, ◌++◌, length, take, drop, ap, ◌∙◌, arith}
+use Rattle.std.proofs.Common.{ℕ, [], ◌≡◌, ◌-◌, List, ◌++◌, length, take, drop, ap, ◌∙◌, arith}
 use Rattle.std.proofs.lemmas.List.{append-nil, take-append-drop, length-take-le, length-drop, take_all}
 use Rattle.std.proofs.lemmas.List.Elements.{All-weaker, All-take, All-drop}
 use Rattle.row_blocks.specs.Blocks.{rows_in, rank}
@@ -10,48 +10,42 @@ use Rattle.row_blocks.proofs.writing.replace.Goals as goal
 pub come-requires-clause-rows : goal.come-requires-clause-rows
 come-requires-clause-rows g c =
     let ws = c.args.words.now in
-    let nb = c.args.blocks in
     let one = g.W.Loads.words ws c.args.hand.now in
     let P = g.W.Loads.is_row ws c.args.hand.now in
     let more = c.args.more.now in
     let lay = c.lay-to.ensures in
-    all_written P (g.W.Loads.is_row ws c.lay-to.new.hand) (rows_in nb one) (rows_in nb (g.W.Loads.words ws c.lay-to.new.hand)) (take c.args.gone more)
-    _ _ lay.rows lay.spliced c.requires.rows (All-take P c.args.gone more c.requires.new)
+    all_written P (g.W.Loads.is_row ws c.lay-to.new.hand) (rows_in c.args.blocks one) (take c.args.gone more) _ _ lay.rows lay.spliced c.requires.rows
+    (All-take P c.args.gone more c.requires.new)
 
 -- and those that come
 pub come-requires-clause-new : goal.come-requires-clause-new
 come-requires-clause-new g c =
-    let ws = c.args.words.now in
-    let P = g.W.Loads.is_row ws c.args.hand.now in
+    let P = g.W.Loads.is_row c.args.words.now c.args.hand.now in
     let more = c.args.more.now in
     let rest : List ℕ = drop c.args.gone more in
-    All-weaker P (g.W.Loads.is_row ws c.lay-to.new.hand) c.lay-to.ensures.rows (take (length more - c.args.gone) rest)
+    All-weaker P (g.W.Loads.is_row c.args.words.now c.lay-to.new.hand) c.lay-to.ensures.rows (take (length more - c.args.gone) rest)
     (All-take P (length more - c.args.gone) rest (All-drop P c.args.gone more c.requires.new))
 
 -- others stand over all rows that go, and more have come behind them
 pub returns-then-gone-more-clause-spliced : goal.returns-then-gone-more-clause-spliced
 returns-then-gone-more-clause-spliced g c =
-    let ws = c.args.words.now in
     let nb = c.args.blocks in
-    let one = g.W.Loads.words ws c.args.hand.now in
-    let two = g.W.Loads.words ws c.lay-to.new.hand in
-    let three = g.W.Loads.words ws c.come.new.hand in
+    let one = g.W.Loads.words c.args.words.now c.args.hand.now in
     let more = c.args.more.now in
     let gone = c.args.gone in
     let u : List ℕ = take gone more in
     let r : ℕ = rank nb one c.args.at.block c.args.at.place in
-    let at : ℕ = rank nb two c.lay-to.result.block c.lay-to.result.place in
     let lay = c.lay-to.ensures in
     let fewer = c.if-gone-more.true in
     let fits = c.requires.fits in
-    let same = same_layout nb one two lay.layout in
+    let same = same_layout lay.layout in
     let long : length u ≡ gone = length-take-le gone more (omega arith) in
     let before = same.before c.lay-to.result.block in
     let rank_two = lay.rank in
     let rest : take (length more - gone) (drop gone more) ≡ drop gone more =
     take_all (length more - gone) (drop gone more) (let l = length-drop gone more in omega arith) in
-    laid_then (rows_in nb one) (rows_in nb two) (rows_in nb three) u (take (length more - gone) (drop gone more)) more r 0 at at (r + gone) (omega arith)
-    lay.spliced c.come.ensures.spliced (omega arith) (omega arith) (omega arith) (ap (λ (l : List ℕ). u ++ l) rest ∙ take-append-drop gone more)
+    laid_then (rows_in nb one) u (take (length more - gone) (drop gone more)) r 0 (omega arith) lay.spliced c.come.ensures.spliced (omega arith) (omega arith)
+    (omega arith) (ap (λ (l : List ℕ). u ++ l) rest ∙ take-append-drop gone more)
 
 -- rows that are laid are rows
 pub cut-requires-clause-rows : goal.cut-requires-clause-rows
@@ -60,21 +54,17 @@ cut-requires-clause-rows g c =
     let nb = c.args.blocks in
     let one = g.W.Loads.words ws c.args.hand.now in
     let lay = c.lay-to-2.ensures in
-    all_written (g.W.Loads.is_row ws c.args.hand.now) (g.W.Loads.is_row ws c.lay-to-2.new.hand) (rows_in nb one)
-    (rows_in nb (g.W.Loads.words ws c.lay-to-2.new.hand)) c.args.more.now _ _ lay.rows lay.spliced c.requires.rows c.requires.new
+    all_written (g.W.Loads.is_row ws c.args.hand.now) (g.W.Loads.is_row ws c.lay-to-2.new.hand) (rows_in nb one) c.args.more.now _ _ lay.rows lay.spliced
+    c.requires.rows c.requires.new
 
 -- there are as many rows as before
 pub cut-requires-clause-fits : goal.cut-requires-clause-fits
 cut-requires-clause-fits g c =
-    let ws = c.args.words.now in
-    let nb = c.args.blocks in
-    let one = g.W.Loads.words ws c.args.hand.now in
-    let two = g.W.Loads.words ws c.lay-to-2.new.hand in
     let lay = c.lay-to-2.ensures in
-    let same = same_layout nb one two lay.layout in
+    let same = same_layout lay.layout in
     let before = same.before c.lay-to-2.result.block in
     let rank_two = lay.rank in
-    let long = rows_long nb one two c.requires.laid lay.laid same in
+    let long = rows_long c.requires.laid lay.laid same in
     let fits = c.requires.fits in
     let all = c.if-gone-more.false in
     omega arith
@@ -82,21 +72,15 @@ cut-requires-clause-fits g c =
 -- others stand over some rows that go, and the rest has gone
 pub returns-clause-spliced : goal.returns-clause-spliced
 returns-clause-spliced g c =
-    let ws = c.args.words.now in
     let nb = c.args.blocks in
-    let one = g.W.Loads.words ws c.args.hand.now in
-    let two = g.W.Loads.words ws c.lay-to-2.new.hand in
-    let three = g.W.Loads.words ws c.cut.new.hand in
+    let one = g.W.Loads.words c.args.words.now c.args.hand.now in
     let more = c.args.more.now in
-    let gone = c.args.gone in
-    let d : ℕ = gone - length more in
+    let d : ℕ = c.args.gone - length more in
     let r : ℕ = rank nb one c.args.at.block c.args.at.place in
-    let at : ℕ = rank nb two c.lay-to-2.result.block c.lay-to-2.result.place in
     let lay = c.lay-to-2.ensures in
     let all = c.if-gone-more.false in
     let fits = c.requires.fits in
-    let same = same_layout nb one two lay.layout in
+    let same = same_layout lay.layout in
     let before = same.before c.lay-to-2.result.block in
     let rank_two = lay.rank in
-    laid_then (rows_in nb one) (rows_in nb two) (rows_in nb three) more [] more r d at (at + d) (r + gone) (omega arith) lay.spliced
-    c.cut.ensures.spliced (omega arith) (omega arith) (omega arith) (append-nil more)
+    laid_then (rows_in nb one) more [] r d (omega arith) lay.spliced c.cut.ensures.spliced (omega arith) (omega arith) (omega arith) (append-nil more)

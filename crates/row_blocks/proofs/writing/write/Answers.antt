@@ -18,11 +18,8 @@ settle-requires-clause-rows g c =
     (rank nb (g.W.Loads.words ws c.args.hand.now) i j + c.args.gone) c.args.more.now =
     subst (λ (l : List ℕ). rows_in nb two ≡ splice (rows_in nb l) (rank nb l i j) (rank nb l i j + c.args.gone) c.args.more.now) load.words was.spliced in
     all_written (g.W.Loads.is_row ws c.args.hand.now) (g.W.Loads.is_row ws c.replace-near.new.hand) (rows_in nb (g.W.Loads.words ws c.args.hand.now))
-    (rows_in nb two) c.args.more.now _ _ (λ w p. was.rows w (load.rows w p)) same c.requires.rows c.requires.new
+    c.args.more.now _ _ (λ w p. was.rows w (load.rows w p)) same c.requires.rows c.requires.new
 
 pub returns-clause-kept : goal.returns-clause-kept
-returns-clause-kept g c =
-    let ws = c.args.words.now in
-    g.W.Loads.steps_on ws c.args.hand.now c.replace-near.new.hand c.settle.new.hand
-    (g.W.Loads.steps_on ws c.args.hand.now c.load-before.new.hand c.replace-near.new.hand c.load-before.ensures.kept c.replace-near.ensures.kept)
+returns-clause-kept g c = g.W.Loads.steps_on _ _ _ _ (g.W.Loads.steps_on _ _ _ _ c.load-before.ensures.kept c.replace-near.ensures.kept)
     c.settle.ensures.kept
