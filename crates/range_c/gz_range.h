@@ -1,13 +1,13 @@
-/* The range lock of Gazmrobik, for which gz_ is short, and not for gzip: proved, for up to 16 threads in C and C++.
+/* The proved range lock of Gazmrobik (gz_, which has nothing to do with gzip), for up to 16 threads in C and C++.
 
-   A range is the whole numbers from lo on and below hi; what they number (bytes, pages, rows) is yours to say. A handle
-   holds one range at a time, as a reader or as a writer. Two handles of one table never hold ranges that overlap at
-   once where one of them is a writer's. Beside the lock a table has client words: 64-bit atomic numbers of yours.
+   A range is the whole numbers from lo on and below hi; what they number (bytes, pages, rows) is up to you. A handle
+   holds one range at a time, as a reader or as a writer. Two handles of one table never hold overlapping ranges at once
+   if one of them is a writer's. Beside the lock a table has client words: 64-bit atomic numbers for your own use.
 
-   A table has a fixed number of seats, and each open handle has one: at most as many handles as seats are open at once.
-   Open the first handle with gz_range_open, get one more for each thread with gz_range_share, and close each with
-   gz_range_close; the last one frees the table. The seat of a closed handle is free, and goes to a later share by any
-   handle of the table: so threads may come and go, as in the example pool.c.
+   A table has a fixed number of seats, and each open handle has one, so at most as many handles as seats are open at
+   once. Open the first handle with gz_range_open, get one more for each thread with gz_range_share, and close each with
+   gz_range_close; closing the last one frees the table. The seat of a closed handle is free, and goes to a later share
+   by any handle of the table: so threads may come and go, as in the example pool.c.
 
        #include <gz_range.h>
        #include <stdio.h>
@@ -28,34 +28,34 @@
    It prints: seat 1 has or wants 10 to 20.
 
    What you may rely on:
-   - What each call of the archive answers, and what it leaves of its handles, is proved, over what the list below says
-     that you owe; but of gz_range_end only its answer and that the handle is closed, and not that the range is given
-     back and the last one frees the table, which is tested. The calls that are written in this header, acquire and
-     close among them, are C over those of the archive, and tested.
+   - What each call of the archive answers, and what it leaves in its handles, is proved, as long as you keep what the
+     list below says that you owe. Of gz_range_end only its answer is proved, and that the handle is closed; that the
+     range is given back and the last one frees the table is tested. The calls that are written in this header, such as
+     acquire and close, are C over those of the archive, and are tested.
    - What a thread wrote before it gave a range back is seen by each thread that later holds a range in conflict with
      it: a release happens before that grant, in the words of C11. So does a step on a client word before a later step
      on the same word. Two readers are in no order to each other, and neither are ranges that don't overlap. This isn't
-     proved of your memory: it rests on each step of the library being sequentially consistent, and on a compiler
-     moving no access across a call.
-   - No call sleeps or takes a lock. gz_range_acquire alone waits without a bound, by trying again; gz_range_try and
-     gz_range_pause wait a bounded number of turns. open, open_cut and share alone take memory; the others can't fail
-     for want of it. A table takes 2 to 25 KB for 1 to 16 seats, once for each of its
-     lists, twice as much while it is opened, and 8 bytes for each client word; each further handle takes 128 bytes.
+     proved of your memory: it rests on each step of the library being sequentially consistent, and on a compiler that
+     moves no access across a call.
+   - No call sleeps or takes a lock. Only gz_range_acquire waits without a bound, by trying again; gz_range_try and
+     gz_range_pause wait a bounded number of turns. Only open, open_cut and share take memory; the others can't fail for
+     want of it. A table takes 2 to 25 KB for 1 to 16 seats, once for each of its lists, twice as much while it is
+     opened, and 8 bytes for each client word; each further handle takes 128 bytes.
 
    What you owe. Nothing checks it:
-   - A handle begins as GZ_RANGE_CLOSED, and nobody writes or copies it afterwards but these calls.
+   - A handle begins as GZ_RANGE_CLOSED, and afterwards only these calls write or copy it.
    - A handle is in one call at a time. The handles of one table may be in calls at once; that is what they are for.
    - A handle goes to another thread by a lock, by a thread's start or join, or by a sequentially consistent atomic.
-   - A pointer is to a live object of its type that nobody else uses meanwhile. None is null; for no client words there
-     is gz_range_open_plain, and for no busy gz_range_try_plain.
+   - A pointer is to a live object of its type that nobody else uses meanwhile. None is null; without client words use
+     gz_range_open_plain, and without busy gz_range_try_plain.
    - No call is made in a signal handler, or in the forked child of a process that has threads. No call is left by
-     longjmp or by an asynchronous cancel; none is a point at which a deferred cancel comes.
-   - malloc, realloc and free are of one allocator, which aligns a block to each power of two up to 16 that divides its
-     size.
+     longjmp or by an asynchronous cancel; none is a cancellation point.
+   - malloc, realloc and free belong to one allocator, which aligns a block to each power of two up to 16 that divides
+     its size.
    - A thread that ends without closing its handle leaves its range held and its seat taken for ever.
 
-   The archive is for Linux on x86-64. Programs that aren't installed link two archives in order, librange_c.a and the
-   kit's liblibc_c.a; `install` beside this header makes one of them, with a file for pkg-config. */
+   The archive is for Linux on x86-64. `install` beside this header makes one archive, with a file for pkg-config;
+   without it, programs link librange_c.a and the kit's liblibc_c.a, in this order. */
 #ifndef GZ_RANGE_H
 #define GZ_RANGE_H
 
@@ -69,8 +69,8 @@
 #endif
 
 /* The version of this header and its archive: 100 for each step of the first number, 1 for each of the second. The
-   second rises where calls, names or causes of a refusal came; the first, which the shared object's name has too, where
-   a program for the version before may not compile any more, or means something else.
+   second rises when calls, names or causes of a refusal are added; the first, which the shared object's name has too,
+   when a program for the version before may no longer compile, or may mean something else.
    1.1 has gz_range_open_cut, BAD_CUT, gz_range_held, gz_range_pause and the names of the modes; gz_range_end refuses an
    open `next`; what gz_range_try waits between two tries grows; the seat of a closed handle is shared again. */
 #define GZ_RANGE_VERSION 101
@@ -105,25 +105,24 @@ typedef struct gz_range {
 #define GZ_RANGE_MOST_WORDS 1048576
 #define GZ_RANGE_HIGHEST 4611686018427387904
 
-/* What the calls' `writer` means: a writer's range is in conflict with each that overlaps it, a reader's with writers'
-   alone. */
+/* What the calls' `writer` means: a writer's range is in conflict with each that overlaps it, a reader's only with
+   writers'. */
 #define GZ_RANGE_READER false
 #define GZ_RANGE_WRITER true
 
 /* A range of a handle, the numbers from lo on and below hi, with the number of that handle's seat, counted from 0, and
-   whether it is a writer's. A try that is refused shows the one that was in its way, held or only asked for, and
-   gz_range_held a handle's own.
-   The first handle of a table of n seats has seat n - 1, and each call of share on it gives the next one below; then
-   it gives seats that were given back. The number is below n, and no two open handles of one table have the same. */
+   whether it is a writer's. A refused try shows the range that was in its way, held or only asked for; gz_range_held
+   shows a handle's own.
+   The first handle of a table of n seats has seat n - 1, and each share from it gives the next one below, and after
+   the last, seats that were given back. The number is below n, and no two open handles of one table have the same. */
 typedef struct gz_busy {
     uint64_t lo, hi;
     uint32_t owner;
     bool writer;
 } gz_busy;
 
-/* What a call answers. Each call's comment names those that it gives. BUSY, AGAIN, LONG and NO_NODE alone mean that a
-   later try may do better. The examples meet each answer but AGAIN, LONG and NO_NODE, which need another thread inside
-   a call. */
+/* What a call answers. Each call's comment names its answers. Only BUSY, AGAIN, LONG and NO_NODE mean that a later try
+   may do better. The examples meet each answer but AGAIN, LONG and NO_NODE, which need another thread inside a call. */
 typedef enum gz_range_answer {
     GZ_RANGE_DONE = 0,       /* the call did what it is for */
     GZ_RANGE_BUSY = 1,       /* at a step of the last try another seat held, or asked for, the range in busy */
@@ -175,24 +174,24 @@ static inline const char *gz_range_text(gz_range_answer answer) {
     return "no answer of the range lock";
 }
 
-/* Opens a handle over a new table of so many seats, 1 to 16, whose client words begin as copies of these, at most 2^20.
-   The handle holds nothing and has seats - 1 seats to share.
-   DONE; IS_OPEN, BAD_WORDS, BAD_SEATS, NO_MEMORY, the first of these that is so. After a refusal nothing has changed.
+/* Opens a handle over a new table of that many seats, 1 to 16, whose client words begin as copies of `words`, at most
+   2^20. The handle holds nothing and has seats - 1 seats to share.
+   DONE; or the first of IS_OPEN, BAD_WORDS, BAD_SEATS, NO_MEMORY that applies. After a refusal nothing has changed.
    Any thread. It allocates. */
 GZ_RANGE_MUST_CHECK
 gz_range_answer gz_range_open(uint32_t seats, const uint64_t *words, size_t count, gz_range *handle);
 
 /* The same over a cut of the numbers into regions, 1 to 16, in blocks of 2^bits numbers, with bits at most 62. The
-   first block is of the first region, the next one of the second, and so on; behind the last region it is the first
-   one's turn again. Each region has a list of its own, and where there are several, one more list is for the ranges
-   in more than one of them.
+   first block belongs to the first region, the next one to the second, and so on; after the last region the first one
+   has its turn again. Each region has a list of its own; where there are several, one more list is for the ranges in
+   more than one region.
    A cut is for many threads at ranges of different regions: while nobody asks for or holds a range in several of them,
-   they change no word of a list in common, where with one list they all change its head. So a block is best as large as most ranges fit into; with bits 16 it has 65536
-   numbers. A range in several regions takes longer: a look at the list of each, and more where somebody is there. A
-   table takes as many times the memory as it has lists. All else is as with gz_range_open, whose tables have one
-   list: which ranges are in conflict, and what each call answers. Which cut serves a load best, or whether any does,
-   only measuring tells.
-   DONE; IS_OPEN, BAD_CUT, BAD_WORDS, BAD_SEATS, NO_MEMORY, the first of these that is so. After a refusal nothing has
+   they change no word of a list in common, where with one list they all change its head. So most ranges should fit into
+   a block; with bits 16 it has 65536 numbers. A range in several regions takes longer: a look at the list of each, and
+   more where somebody is there. A table takes as many times the memory as it has lists. All else is as with
+   gz_range_open, whose tables have one list: which ranges are in conflict, and what each call answers. Which cut serves
+   a load best, or whether any does, only measuring tells.
+   DONE; or the first of IS_OPEN, BAD_CUT, BAD_WORDS, BAD_SEATS, NO_MEMORY that applies. After a refusal nothing has
    changed.
    Any thread. It allocates. */
 GZ_RANGE_MUST_CHECK
@@ -206,12 +205,12 @@ static inline gz_range_answer gz_range_open_plain(uint32_t seats, gz_range *hand
     return gz_range_open(seats, &none, 0, handle);
 }
 
-/* Opens a handle with a seat of its own in the table of `from`: the last of those that `from` has left to share, or
-   where it has none, one that a closed handle gave back. It holds nothing, and has none left itself; so it shares those
-   alone that were given back. What `from` holds stays.
-   DONE; IS_OPEN of handle, IS_CLOSED of from, NONE_LEFT, NO_MEMORY, the first of these that is so. After a refusal
-   nothing has changed. After NONE_LEFT a later share may do better: once a close of another handle has returned, its
-   seat is there for the next share, unless another share takes it first.
+/* Opens a handle with a seat of its own in the table of `from`: the last of those that `from` has left to share, or if
+   it has none, one that a closed handle gave back. The new handle holds nothing and has no seats left to share, so a
+   share from it gives only seats that were given back. What `from` holds stays.
+   DONE; or the first of IS_OPEN (handle), IS_CLOSED (from), NONE_LEFT, NO_MEMORY that applies. After a refusal nothing
+   has changed. After NONE_LEFT a later share may do better: once a close of another handle has returned, its seat is
+   there for the next share, unless another share takes it first.
    The thread that has `from`. It allocates. */
 GZ_RANGE_MUST_CHECK
 gz_range_answer gz_range_share(gz_range *from, gz_range *handle);
@@ -220,28 +219,29 @@ gz_range_answer gz_range_share(gz_range *from, gz_range *handle);
    and at most `tries` times. A try makes at most 64 atomic steps and 386 for each seat of the table, whatever other
    threads do; for a range in several regions of a cut it makes at most that many for each list of the table. After
    BUSY, LONG or NO_NODE it waits before the next try, as gz_range_pause does, and after AGAIN not at all. With tries 1
-   it makes one, with no wait, and waits for nobody; with 0 it only looks at what is asked.
+   it makes one and waits for nobody; with 0 it only checks what is asked.
    How many tries to ask for: a single try may be refused though no range is in conflict, as a weak compare-exchange may
-   fail. That is AGAIN, LONG or NO_NODE, and comes of another thread being at work in the list. Four busy threads at
-   ranges apart were refused 28 of 100 single tries so, 2 of 100 with 4 tries, and 1 of 1,000 with 16. Ask for 1 where
-   you have something else to do, and for 4 to 16 where you want the range soon: 4 wait at most 7,168 turns, some 90
-   microseconds, and each one above 4 at most another 100 microseconds.
-   DONE, and the range is held from a step of this call on; IS_CLOSED, HAS_ONE, BAD_RANGE, NOT_TRIED, the first of
-   these that is so, with the handle as it was; BUSY, AGAIN, LONG or NO_NODE, where all tries were refused: why the last
-   one was, with nothing held. busy is filled after BUSY, and all 0 after each other answer.
+   fail. The answer is then AGAIN, LONG or NO_NODE, and comes from another thread's work in the list. So four busy
+   threads at ranges apart were refused 28 of 100 calls with 1 try, 2 of 100 with 4 tries, and 1 of 1,000 with 16
+   (crates/range_c/bench/refusals.c of the repository). Ask for 1 if you have something else to do, and for 4 to 16 if
+   you want the range soon: 4 tries wait at most 7,168 turns, and each one above 4 at most another 8,192.
+   DONE, and the range is held from a step of this call on; or the first of IS_CLOSED, HAS_ONE, BAD_RANGE, NOT_TRIED
+   that applies, with the handle as it was; or BUSY, AGAIN, LONG or NO_NODE if all tries were refused: why the last one
+   was, with nothing held. busy is filled after BUSY, and all 0 after each other answer.
    The thread that has the handle. */
 GZ_RANGE_MUST_CHECK
 gz_range_answer gz_range_try(gz_range *handle, uint64_t lo, uint64_t hi, bool writer, uint32_t tries, gz_busy *busy);
 
-/* Waits between two tries of a program that waits by itself, as gz_range_acquire does: *turns turns of the processor's
-   pause, and at least 1,024 and at most 8,192. *turns is 0 at first, and becomes twice what was waited, at most 8,192.
-   A turn is some 12 ns at 2.5 GHz. It doesn't yield the processor.
-   true where this wait was one of 8,192 turns: then let other threads run, by sched_yield or a sleep.
+/* Waits as gz_range_acquire does between two tries, for a program with a loop of its own: *turns turns of the
+   processor's pause, but at least 1,024 and at most 8,192. *turns is 0 at first, and becomes twice what was waited, at
+   most 8,192. How long a turn takes depends on the processor; at 12 ns, as was seen at 2.5 GHz, 8,192 take some 100
+   microseconds. The call doesn't yield the processor.
+   true if this wait was one of 8,192 turns: then let other threads run, by sched_yield or a sleep.
    Any thread. */
 GZ_RANGE_NONNULL
 bool gz_range_pause(uint32_t *turns);
 
-/* Gives the held range back, in one atomic step or two.
+/* Gives the held range back, in one or two atomic steps.
    DONE, and nothing is held; IS_CLOSED or HAS_NONE, with the handle as it was.
    The thread that has the handle. */
 GZ_RANGE_NONNULL
@@ -249,13 +249,13 @@ gz_range_answer gz_range_release(gz_range *handle);
 
 /* Tells what the handle holds, and the number of its seat, in `held`. Nothing changes, but the handle is in a call as
    in any other: two threads may not look at one at once.
-   DONE, where it holds a range; HAS_NONE, with the number of the seat and all else 0; IS_CLOSED, with all 0.
+   DONE if it holds a range; HAS_NONE, with the number of the seat and all else 0; IS_CLOSED, with all 0.
    The thread that has the handle. */
 GZ_RANGE_NONNULL
 gz_range_answer gz_range_held(const gz_range *handle, gz_busy *held);
 
-/* Each of the next four is one sequentially consistent atomic step on client word i, counted from 0. No range need be
-   held for it. What the handle holds stays.
+/* Each of the next four is one sequentially consistent atomic step on client word i, counted from 0. It needs no held
+   range. What the handle holds stays.
    DONE; IS_CLOSED or NO_WORD, with nothing changed and nothing written.
    The thread that has the handle. */
 
@@ -271,23 +271,23 @@ gz_range_answer gz_range_store(gz_range *handle, uint32_t i, uint64_t value);
 GZ_RANGE_NONNULL
 gz_range_answer gz_range_add(gz_range *handle, uint32_t i, uint64_t by, uint64_t *before);
 
-/* Puts value into the word where it is *expected. Where it has another value the answer is OTHER, the word stays, and
+/* Puts value into the word if the word is *expected. If it has another value, the answer is OTHER, the word stays, and
    *expected becomes what was found. */
 GZ_RANGE_MUST_CHECK
 gz_range_answer gz_range_exchange(gz_range *handle, uint32_t i, uint64_t *expected, uint64_t value);
 
-/* What gz_range_close calls: it puts `next`, which is to be closed, in the place of the handle, and ends what that was:
-   the range that it holds is given back, then the seats that it had left to share, and its own. It waits for nobody, and
+/* What gz_range_close calls. It puts `next`, a closed handle, in the place of the handle, and ends the old one: the
+   held range is given back, then the seats that were left to share, and the handle's own. It waits for nobody, and
    other handles of the table may be in calls meanwhile.
-   IS_OPEN where next is open, with nothing changed; else DONE, or IS_CLOSED where the handle was closed already, and
-   the handle is closed. */
+   IS_OPEN if next is open, with nothing changed; else DONE, or IS_CLOSED if the handle was already closed, and the
+   handle is closed. */
 GZ_RANGE_NONNULL
 gz_range_answer gz_range_end(gz_range *handle, gz_range next);
 
-/* ThreadSanitizer sees no step of the archive. In a program that is compiled for it the calls below this line go by
-   functions that tell it what they do: a grant and a release meet at each number of the range modulo 64, and two steps
-   on client words at each number of the word modulo 64. So it reports no right program, and of the wrong ones not
-   those that are in order only by such numbers, or by what readers do. */
+/* ThreadSanitizer sees no step of the archive. In a program that is compiled for it, the calls below this line go
+   through functions that tell it what they do: a grant and a release meet at each number of the range modulo 64, and
+   two steps on client words at each number of the word modulo 64. So it reports no correct program, and misses the
+   wrong ones that are in order only by such numbers, or by what readers do. */
 #if defined(__SANITIZE_THREAD__)
 #define GZ_RANGE_TELLS 1
 #elif defined(__has_feature)
@@ -371,7 +371,7 @@ static inline gz_range_answer gz_range_exchange_told(gz_range *handle, uint32_t 
 #define gz_range_exchange gz_range_exchange_told
 #endif
 
-/* gz_range_try without busy, where who is in the way doesn't matter. */
+/* gz_range_try without busy, for when it doesn't matter who is in the way. */
 GZ_RANGE_MUST_CHECK
 static inline gz_range_answer gz_range_try_plain(gz_range *handle, uint64_t lo, uint64_t hi, bool writer,
                                                  uint32_t tries) {
@@ -379,9 +379,9 @@ static inline gz_range_answer gz_range_try_plain(gz_range *handle, uint64_t lo, 
     return gz_range_try(handle, lo, hi, writer, tries, &busy);
 }
 
-/* Closes a handle: what it holds is given back, its seat is gone for good, and so are the seats that it had left to
-   share. The last handle of a table frees it.
-   DONE; IS_CLOSED where it was closed already. The handle is closed after both.
+/* Closes a handle: gives back what it holds, and its seat with those that it had left to share, which later shares of
+   the table may take. Closing the last handle of a table frees the table.
+   DONE; IS_CLOSED if it was already closed. The handle is closed after both.
    The thread that has the handle. */
 GZ_RANGE_NONNULL
 static inline gz_range_answer gz_range_close(gz_range *handle) {
@@ -393,19 +393,20 @@ static inline gz_range_answer gz_range_close(gz_range *handle) {
 GZ_RANGE_NONNULL
 static inline bool gz_range_is_open(const gz_range *handle) { return handle->opened != 0; }
 
-/* Whether a try was refused in a way that a later one may not be: BUSY, AGAIN, LONG or NO_NODE. */
+/* Whether an answer is a refusal after which a later try may do better: BUSY, AGAIN, LONG or NO_NODE. */
 static inline bool gz_range_may_retry(gz_range_answer answer) {
     return answer >= GZ_RANGE_BUSY && answer <= GZ_RANGE_NO_NODE;
 }
 
-/* Holds a range, however long that takes, as pthread_mutex_lock does: it tries once; after BUSY, LONG or NO_NODE it
-   waits and tries again, 1,024 turns at first, then twice as long each time, up to 8,192 turns, some 100 microseconds,
-   behind each of which it lets other threads run; after AGAIN it tries again at once. So a range that is given back may
-   be free for as long before a thread that waits takes it.
-   Nothing is claimed of when it returns, or of any order among those that wait. Measured with four threads that want
-   one range again and again, 60 in 100 as readers: 1.6 microseconds in the mean, one call of a thousand above 66, and
-   the longest of 10 seconds 17 ms, on four processors that others took part of; over a table of four regions 3.0, 131
-   and 12 ms of 2 seconds; for a pthread_mutex 1.3, 33 and 15 ms of 3 seconds.
+/* Holds a range, however long that takes, as pthread_mutex_lock does. It tries once. After BUSY, LONG or NO_NODE it
+   waits and tries again: 1,024 turns of gz_range_pause at first, then twice as many each time, up to 8,192; after each
+   wait of 8,192 it lets other threads run. After AGAIN it tries again at once. So a range that is given back may be
+   free for as long as a wait before a waiting thread takes it.
+   Nothing is claimed of when it returns, or of any order among those that wait. Measured in three rounds of 80 ms with
+   threads that take one range of 256 slots again and again, 60 in 100 as readers, on four processors
+   (bench/figures.d/peers_tables.md of the repository): four threads had 0.66 million turns a second and a longest wait
+   of 2.4 ms, over a table of regions 0.58 and 1.7 ms, under a pthread_mutex 0.44 and 2.8 ms; the longest wait of
+   sixteen threads was 12, 9.3 and 15 ms. Longer runs may have longer waits.
    It uses its processor as long as it waits, and under SCHED_FIFO, where sched_yield gives nothing to threads of lower
    priority, it may try for ever. The example waiting.c has two ways to wait by sleeping: until a deadline, and until
    another thread gives a range back.
