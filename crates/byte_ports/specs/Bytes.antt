@@ -1,6 +1,7 @@
--- What a sink got of a text when the writing of it stopped early. The words for whole texts and for reads, `Appends`,
--- `Consumes`, `Keeps` and `IsAtEnd`, are std's. All of them say nothing of a port that doesn't say which bytes it has.
-use Rattle.std.specs.Prelude.{◌≡◌, ℕ, List, ◌++◌, Option}
+-- What a sink got of a text when the writing of it stopped early, and how a number stands between two texts. The words
+-- for whole texts and for reads, `Appends`, `Consumes`, `Keeps` and `IsAtEnd`, are std's. All of them say nothing of a
+-- port that doesn't say which bytes it has.
+use Rattle.std.specs.Prelude.{◌≡◌, ℕ, List, ◌++◌, Option, decimal}
 use Rattle.std.specs.Io.KnownBytes.{Appends}
 
 -- known bytes grow by some first part of a text, which may be empty or the whole
@@ -15,3 +16,7 @@ pub record AppendsAllBut (old new : Option (List ℕ)) (text rest : List ℕ) : 
   pub front : List ℕ
   pub whole : text ≡ front ++ rest
   pub appended : Appends old new front
+
+-- a number in decimal, with a text before it and one behind it
+abbrev pub numbered : List ℕ → ℕ → List ℕ → List ℕ
+numbered before number behind = before ++ (decimal number ++ behind)

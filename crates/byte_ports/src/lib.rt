@@ -7,6 +7,7 @@
 mod clean;
 mod drip;
 mod fill;
+mod input;
 mod memory;
 mod moves;
 mod ports;
@@ -16,7 +17,8 @@ mod whole;
 pub use clean::{CleanSink, CleanSource};
 pub use drip::{DripSink, DripSource};
 pub use fill::FillSource;
+pub use input::{Unread, read_all};
 pub use memory::{MemorySink, MemorySource};
 pub use ports::{Failed, Sink, Source};
 pub use standard::{StdSink, StdSource};
-pub use whole::write_all;
+pub use whole::{write_all, write_decimal, write_numbered};

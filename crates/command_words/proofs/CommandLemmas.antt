@@ -18,9 +18,11 @@ use Rattle.command_words.specs.declared.commands.Command.{Command}
 use Rattle.command_words.specs.declared.commands.Command.TheVariants.{Play, Load, Check}
 use Rattle.command_words.specs.declared.commands.Given.{Given}
 use Rattle.command_words.specs.declared.commands.Given.TheVariants.{Opening, Log, Touched, Threads, Seed, Calls}
-use Rattle.command_words.specs.Commands.{option_name, number_of, HasNumberInRange, AreWritten, BeginsWithOption, AreSpellings, Kind}
+use Rattle.command_words.specs.Spellings.{AreSpellings, Ask}
+use Rattle.command_words.specs.Commands.{option_name, number_of, HasNumberInRange, AreWritten, BeginsWithOption, Kind}
 use Rattle.command_words.specs.Commands.{of_opening, of_log, of_touched, of_threads, of_seed, of_calls, value_for, asked_for, DoAsk}
-use Rattle.command_words.specs.Commands.{IsCommand, HasRanges, AskFor, IsFlag, IsNamed, IsNumbered, Adds, IsAsked}
+use Rattle.command_words.specs.Commands.{IsCommand, HasRanges, AskFor, IsFlag, IsNamed, IsNumbered}
+use Rattle.command_words.proofs.Spellings.{of_option, value_once}
 
 -- the first two letters of an option's name, behind its dashes, as one number
 abbrev letter : List ℕ → ℕ
@@ -287,87 +289,8 @@ not_apart word value behind words e no_equals no_flag none given rest begins =
     ]
 
 -- what was asked for so far, and what these words ask for besides
-pub record LeftOver (before : Asked) (words : List (List ℕ)) (after : Asked) : Type 0 where
-  -- the options of these words
-  pub given : List Given
-  -- the words are their spellings
-  pub spelled : AreSpellings given words
-  -- of each kind, what was asked for and what they give is what is asked for in all
-  pub asks : (kind : Kind) → asked_for kind before ++ filter_map (value_for kind) given ≡ asked_for kind after
-
--- one option more was added
-both_parts : (before middle after : Asked) (given : Given) (more : List Given) (kind : Kind) → Adds before given middle
-    → asked_for kind before ++ filter_map (value_for kind) (given ∷ more) ≡ asked_for kind middle ++ filter_map (value_for kind) more
-both_parts before middle after given more kind adds =
-    let f = filter_map (value_for kind) more in
-    ap (λ (xs : List ℕ). asked_for kind before ++ xs) (cons_append (value_for kind given) f)
-    ∙ sym (append_assoc (asked_for kind before) (option_to_list (value_for kind given)) f)
-    ∙ ap (λ (xs : List ℕ). xs ++ f) (sym (adds kind))
-  where
-    cons_append : (value : Option ℕ) (xs : List ℕ) → cons_option value xs ≡ option_to_list value ++ xs
-    cons_append None xs = refl
-    cons_append (Some x) xs = refl
-
--- what is left behind an option that was added is left before it too, with that option in front
-pub left_before : (before middle after : Asked) (given : Given) (rest words : List (List ℕ)) → Adds before given middle
-    → BeginsWithOption given rest words → LeftOver middle rest after → LeftOver before words after
-left_before before middle after given rest words adds begins left = record {
-  given = given ∷ left.given;
-  spelled = (rest, begins, left.spelled);
-  asks = λ kind. both_parts before middle after given left.given kind adds ∙ left.asks kind;
-}
-
--- the options of words that aren't empty begin with one
-pub record First (before : Asked) (words : List (List ℕ)) (after : Asked) : Type 0 where
-  -- the first option
-  pub given : Given
-  -- the words behind it
-  pub rest : List (List ℕ)
-  -- the options of these
-  pub more : List Given
-  -- the words begin with the first option
-  pub begins : BeginsWithOption given rest words
-  -- and go on with the others
-  pub spelled : AreSpellings more rest
-  -- of each kind, what was asked for and what all of them give is what is asked for in all
-  pub asks : (kind : Kind) → asked_for kind before ++ filter_map (value_for kind) (given ∷ more) ≡ asked_for kind after
-
-first_with : (given : List Given) (before after : Asked) (words : List (List ℕ)) → 0 < length words → AreSpellings given words
-    → ((kind : Kind) → asked_for kind before ++ filter_map (value_for kind) given ≡ asked_for kind after) → First before words after
-first_with [] before after words some spelled asks =
-    let none : length words ≡ 0 = ap length spelled in absurd (omega arith)
-first_with (given ∷ more) before after words some spelled asks = record {
-  given = given;
-  rest = spelled.0;
-  more = more;
-  begins = spelled.1;
-  spelled = spelled.2;
-  asks = asks;
-}
-
--- where words aren't empty, what they ask for begins with one option
-pub first_left : (before after : Asked) (words : List (List ℕ)) → 0 < length words → LeftOver before words after → First before words after
-first_left before after words some left = first_with left.given before after words some left.spelled left.asks
-
--- what is left before an option is left behind it, once it was added
-pub left_behind : (before middle after : Asked) (given : Given) (rest words : List (List ℕ)) → Adds before given middle
-    → BeginsWithOption given rest words → 0 < length words → LeftOver before words after → LeftOver middle rest after
-left_behind before middle after given rest words adds begins some left =
-    let first = first_left before after words some left in
-    let (same, behind) = begins_once first.given given first.rest rest words first.begins begins in record {
-      given = first.more;
-      spelled = subst (λ (ws : List (List ℕ)). AreSpellings first.more ws) behind first.spelled;
-      asks = λ kind.
-          sym (both_parts before middle after given first.more kind adds)
-          ∙ ap (λ (g : Given). asked_for kind before ++ filter_map (value_for kind) (g ∷ first.more)) (sym same)
-          ∙ first.asks kind;
-    }
-
--- words that begin with no option are no spelling
-pub left_of_none : (before after : Asked) (words : List (List ℕ)) → 0 < length words
-    → ((given : Given) (rest : List (List ℕ)) → BeginsWithOption given rest words → ⊥) → LeftOver before words after → ⊥
-left_of_none before after words some none left =
-    let first = first_left before after words some left in none first.given first.rest first.begins
+abbrev pub LeftOver : Asked → List (List ℕ) → Asked → Type 0
+LeftOver before words after = Ask BeginsWithOption value_for (λ kind. asked_for kind before) words (λ kind. asked_for kind after)
 
 -- what a flag gives
 abbrev flag_list : Bool → List ℕ
@@ -377,34 +300,14 @@ of_flag : (b : Bool) → length (flag_list b) ≤ 1
 of_flag true = omega arith
 of_flag false = omega arith
 
-of_option : (value : Option ℕ) → length (option_to_list value) ≤ 1
-of_option None = omega arith
-of_option (Some x) = omega arith
-
 -- nothing is asked for twice
-at_most_one : (kind : Kind) (asked : Asked) → length (asked_for kind asked) ≤ 1
+pub at_most_one : (kind : Kind) (asked : Asked) → length (asked_for kind asked) ≤ 1
 at_most_one of_opening asked = of_flag asked.opening
 at_most_one of_log asked = of_flag asked.log
 at_most_one of_touched asked = of_flag asked.touched
 at_most_one of_threads asked = of_option asked.threads
 at_most_one of_seed asked = of_option asked.seed
 at_most_one of_calls asked = of_option asked.calls
-
--- words that begin with an option that was asked for already ask for nothing
-pub left_of_asked : (before after : Asked) (given : Given) (rest words : List (List ℕ)) → 0 < length words
-    → BeginsWithOption given rest words → IsAsked before given → LeftOver before words after → ⊥
-left_of_asked before after given rest words some begins again left =
-    let first = first_left before after words some left in
-    let (same, behind) = begins_once first.given given first.rest rest words first.begins begins in
-    let kind = again.kind in
-    let value : value_for kind first.given ≡ Some again.value = rw same again.gives in
-    let whole = first.asks kind in
-    let list : filter_map (value_for kind) (first.given ∷ first.more) ≡ again.value ∷ filter_map (value_for kind) first.more =
-    ap (λ (v : Option ℕ). cons_option v (filter_map (value_for kind) first.more)) value in
-    let size : length (asked_for kind before ++ (again.value ∷ filter_map (value_for kind) first.more)) ≡ length (asked_for kind after) =
-    ap length (ap (λ (xs : List ℕ). asked_for kind before ++ xs) (sym list) ∙ whole) in
-    let sum = length-append (asked_for kind before) (again.value ∷ filter_map (value_for kind) first.more) in
-    omega (arith, again.already, at_most_one kind after)
 
 -- where no words are left, all was asked for
 flag_once : (a b : Bool) → flag_list a ≡ flag_list b → a ≡ b
@@ -413,17 +316,12 @@ flag_once true false e = cc
 flag_once false true e = cc
 flag_once false false e = refl
 
-value_once : (a b : Option ℕ) → option_to_list a ≡ option_to_list b → a ≡ b
-value_once None None e = refl
-value_once None (Some y) e = cc
-value_once (Some x) None e = cc
-value_once (Some x) (Some y) e = cc
-
 make : Bool → Bool → Bool → Option ℕ → Option ℕ → Option ℕ → Asked
 make opening log touched threads seed calls =
     record { opening = opening; log = log; touched = touched; threads = threads; seed = seed; calls = calls }
 
-same_asked : (a b : Asked) → ((kind : Kind) → asked_for kind a ≡ asked_for kind b) → a ≡ b
+-- what is asked for of each kind is all that is asked for
+pub same_asked : (a b : Asked) → ((kind : Kind) → asked_for kind a ≡ asked_for kind b) → a ≡ b
 unfolding make
 same_asked a b h =
     let o = flag_once a.opening b.opening (h of_opening) in
@@ -439,25 +337,14 @@ same_asked a b h =
     ∙ ap (λ (x : Option ℕ). make b.opening b.log b.touched b.threads x a.calls) s
     ∙ ap (λ (x : Option ℕ). make b.opening b.log b.touched b.threads b.seed x) c
 
-none_left : (given : List Given) (before after : Asked) → AreSpellings given []
-    → ((kind : Kind) → asked_for kind before ++ filter_map (value_for kind) given ≡ asked_for kind after) → before ≡ after
-none_left [] before after spelled asks = same_asked before after (λ kind. sym (append-nil (asked_for kind before)) ∙ asks kind)
-none_left (given ∷ more) before after spelled asks =
-    elim (looks given spelled.0 [] spelled.1) [
+-- no words begin with no option
+pub not_empty : (given : Given) (rest : List (List ℕ)) → BeginsWithOption given rest [] → ⊥
+not_empty given rest begins =
+    elim (looks given rest [] begins) [
       | as_flag h is ↦ absurd (cc is)
       | as_two n h is ↦ absurd (cc is)
       | as_one n h is ↦ absurd (cc is)
     ]
-
--- where no words are left, what was asked for is what all of them ask for
-pub left_of_nothing : (before after : Asked) (words : List (List ℕ)) → length words ≡ 0 → LeftOver before words after → before ≡ after
-left_of_nothing before after [] e left = none_left left.given before after left.spelled left.asks
-left_of_nothing before after (w ∷ ws) e left = absurd (omega arith)
-
--- no words ask for nothing besides
-pub nothing_left : (asked : Asked) (words : List (List ℕ)) → length words ≡ 0 → LeftOver asked words asked
-nothing_left asked [] e = record { given = []; spelled = refl; asks = λ kind. append-nil (asked_for kind asked) }
-nothing_left asked (w ∷ ws) e = absurd (omega arith)
 
 -- words of which the first is this one, and behind which this is asked for, spell one command
 pub spells_once : (first : List ℕ) (behind words : List (List ℕ)) (asked : Asked) (result : Option Command) → words ≡ first ∷ behind
@@ -518,7 +405,7 @@ first_of_value kind given rest n more None in_range is later e = later e
 first_of_value kind given rest n more (Some m) in_range is later e =
     let same : m ≡ n = cc e in value_in_range kind given n in_range (is ∙ ap (λ (x : ℕ). Some x) same)
 
-first_in_range : (kind : Kind) (given : List Given) (words : List (List ℕ)) (n : ℕ) (more : List ℕ) → AreSpellings given words
+first_in_range : (kind : Kind) (given : List Given) (words : List (List ℕ)) (n : ℕ) (more : List ℕ) → AreSpellings BeginsWithOption given words
     → filter_map (value_for kind) given ≡ n ∷ more → MayBe kind n
 first_in_range kind [] words n more spelled e = absurd cc
 first_in_range kind (given ∷ others) words n more spelled e =

@@ -4,7 +4,6 @@
 -- reader may rely on each list of words asking for one thing at most.
 use Rattle.std.specs.Prelude.{◌≡◌, ℕ, ◌<◌, ◌≤◌, List, [], ◌∷◌, ◌++◌, Option, Some, None, ⊤, ◌⊎◌, option_to_list}
 use Rattle.std.specs.Prelude.{unwrap_or, length, if◌then◌else◌, codes, Bool, false}
-use Rattle.std.specs.List.{filter_map}
 use Rattle.std.specs.Fmt.{decimal}
 use Rattle.command_words.specs.declared.commands.Command.{Command}
 use Rattle.command_words.specs.declared.commands.Command.TheVariants.{Play, Load, Check}
@@ -12,6 +11,7 @@ use Rattle.command_words.specs.declared.commands.Given.{Given}
 use Rattle.command_words.specs.declared.commands.Given.TheVariants.{Opening, Log, Touched, Threads, Seed, Calls}
 use Rattle.command_words.specs.declared.commands.Asked.{Asked}
 use Rattle.command_words.specs.declared.commands.Options.{Options}
+use Rattle.command_words.specs.Spellings.{Ask, AddsOne}
 
 -- the name of an option
 abbrev pub option_name : Given → List ℕ
@@ -51,11 +51,6 @@ AreWritten name (Some n) rest words = (words ≡ name ∷ decimal n ∷ rest) �
 abbrev pub BeginsWithOption : Given → List (List ℕ) → List (List ℕ) → Type 0
 BeginsWithOption given rest words = HasNumberInRange given × AreWritten (option_name given) (number_of given) rest words
 
--- the words are the spellings of these options, one behind the other
-abbrev pub AreSpellings : List Given → List (List ℕ) → Type 0
-AreSpellings [] words = words ≡ []
-AreSpellings (given ∷ more) words = (rest : List (List ℕ)) × BeginsWithOption given rest words × AreSpellings more rest
-
 -- which option it is
 pub data Kind : Type 0 where
   of_opening : Kind
@@ -85,10 +80,8 @@ asked_for of_seed asked = option_to_list asked.seed
 asked_for of_calls asked = option_to_list asked.calls
 
 -- the words are spellings of options that ask for this: of each kind, what they give is what is asked for
-pub record DoAsk (words : List (List ℕ)) (asked : Asked) : Type 0 where
-  pub given : List Given
-  pub spelled : AreSpellings given words
-  pub asks : (kind : Kind) → filter_map (value_for kind) given ≡ asked_for kind asked
+abbrev pub DoAsk : List (List ℕ) → Asked → Type 0
+DoAsk words asked = Ask BeginsWithOption value_for (λ kind. []) words (λ kind. asked_for kind asked)
 
 -- what the first word makes of the options behind it. `play` takes its own alone, and is on one thread where no number
 -- is asked for; `load` takes all three of its own, and no other; `check` takes `--opening` alone
@@ -174,7 +167,7 @@ pub record IsNumbered (name value : List ℕ) (given : Given) : Type 0 where
 
 -- what was asked for, and this option besides
 abbrev pub Adds : Asked → Given → Asked → Type 0
-Adds before given after = (kind : Kind) → asked_for kind after ≡ asked_for kind before ++ option_to_list (value_for kind given)
+Adds before given after = AddsOne value_for (λ kind. asked_for kind before) given (λ kind. asked_for kind after)
 
 -- an option of the same kind was asked for already
 pub record IsAsked (before : Asked) (given : Given) : Type 0 where

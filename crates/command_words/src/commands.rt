@@ -310,8 +310,8 @@ fn is_in_range(given: Given) -> bool
     }
 }
 
-/// The number that is printed as this text.
-fn number(text: &str) -> Option<u32>
+/// The number that is printed as this text: of 32 bits, in decimal digits, without a sign or zeros before it.
+pub fn number(text: &str) -> Option<u32>
     ensures is { IfSome result (λ n. text.now ≡ decimal n) }
     ensures none { IsNone result → (n : ℕ) → n < 2 ^ 32 → ¬ (text.now ≡ decimal n) }
 {

@@ -5,4 +5,4 @@
 
 mod commands;
 
-pub use commands::{Asked, Command, Given, Options, command_of};
+pub use commands::{Asked, Command, Given, Options, command_of, number};
