@@ -9,8 +9,8 @@ use Rattle.byte_ports.specs.declared.input.Unread.TheVariants.{Failed, Long, Mem
 abbrev pub Drains : Option (List ℕ) → Option (List ℕ) → List ℕ → Type 0
 Drains old new all = IfSome old (λ bytes. (bytes ≡ all) × (new ≡ Some []))
 
--- why an input isn't read to its end: the source's count of failed calls rose, or it has more bytes than this limit. Out
--- of memory has no cause to show
+-- why an input isn't read to its end: the source's count of failed calls rose, or it has more bytes than this limit.
+-- Out of memory has no cause to show
 abbrev pub IsUnread : ℕ → Option (List ℕ) → ℕ → ℕ → Unread → Type 0
 IsUnread limit bytes before after Failed = Rose before after
 IsUnread limit bytes before after Long = IfSome bytes (λ all. limit < length all)

@@ -1,5 +1,5 @@
--- Options are asked for one by one, whatever they are: what was asked for so far, with what is left, is what all of them
--- ask. Words begin with one option alone, which each program shows of its own.
+-- Options are asked for one by one, whatever they are: what was asked for so far, with what is left, is what all of
+-- them ask. Words begin with one option alone, which each program shows of its own.
 use Rattle.std.proofs.Common.{◌≡◌, ℕ, ◌+◌, ◌<◌, ◌≤◌, List, [], ◌∷◌, ◌++◌, length, Option, Some, None, refl, sym, subst, ap, ◌∙◌}
 use Rattle.std.proofs.Common.{arith, append_assoc, append-nil, length-append, option_to_list}
 use Rattle.std.specs.List.{filter_map, cons_option}

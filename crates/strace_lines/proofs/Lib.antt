@@ -1,3 +1,3 @@
-mod Draining
+mod CountLemmas
 mod RunLemmas
 mod WordLemmas

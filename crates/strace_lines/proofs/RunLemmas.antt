@@ -17,10 +17,9 @@ use Rattle.strace_lines.specs.declared.status.Status.TheVariants.{Done, Helped, 
 use Rattle.strace_lines.specs.declared.words.Asked.TheVariants.{Help, Rewrite}
 use Rattle.strace_lines.specs.Words.{AskFor, AskForOne, RefusesWords}
 use Rattle.strace_lines.specs.Texts.{help_text}
-use Rattle.strace_lines.specs.Run.{Drains, IsStopped, Wrote, HasCause, status_of, IsOutcome, IsOnlyOutcome, IsHindered}
+use Rattle.byte_ports.specs.Input.{Drains}
+use Rattle.strace_lines.specs.Run.{Heard, HasCause, status_of, IsOutcome, IsOnlyOutcome, IsHindered}
 use Rattle.strace_lines.specs.Run.IsOutcome.{usage, helped, input_too_long, not_rewritten, done}
-
--- ---- the input isn't read to its end
 
 -- ---- the one status
 
@@ -56,7 +55,7 @@ only_outcome words bytes process strict status one asked long fault whole other
     out counts calls ends (subst (λ (q : Option ℕ). IsRewriting q bytes out counts calls) same.0 is) cut
 
 -- an input that is too long has that status alone
-pub long_only : (words : List (List ℕ)) (bytes : List ℕ) (process : Option ℕ) (strict : Bool) → AskForOne words
+long_only : (words : List (List ℕ)) (bytes : List ℕ) (process : Option ℕ) (strict : Bool) → AskForOne words
     → AskFor words (Rewrite process strict) → 67108864 < length bytes → IsOnlyOutcome words bytes LongInput
 long_only words bytes process strict one asked above = record {
   called_for = input_too_long asked above;
@@ -65,58 +64,27 @@ long_only words bytes process strict one asked above = record {
       (λ within none out counts calls ends is cut. absurd (omega (arith, within, above)));
 }
 
--- where the input isn't read to its end, it is too long, or the run was hindered
-pub stopped_complete : (words : List (List ℕ)) (bytes : List ℕ) (process : Option ℕ) (strict : Bool) (input_old : Option (List ℕ))
-    (before after : ℕ) (writes : ℕ × ℕ) (status : Status) → IsStopped input_old before after status
-    → AskFor words (Rewrite process strict) → AskForOne words → input_old ≡ Some bytes
-    → IsOnlyOutcome words bytes status ⊎ IsHindered (before, after) writes status
-stopped_complete words bytes process strict input_old before after writes status (inl e) asked one known =
-    inr (subst (IsHindered (before, after) writes) (sym e) tt)
-stopped_complete words bytes process strict input_old before after writes status (inr (inl h)) asked one known =
-    inr (subst (IsHindered (before, after) writes) (sym h.0) h.1)
-stopped_complete words bytes process strict input_old before after writes status (inr (inr h)) asked one known =
-    let above : 67108864 < length bytes = subst (λ (o : Option (List ℕ)). IfSome o (λ all. 67108864 < length all)) known h.1 in
-    inl (subst (IsOnlyOutcome words bytes) (sym h.0) (long_only words bytes process strict one asked above))
+-- where the input that is too long is known
+pub long_complete : (words : List (List ℕ)) (bytes : List ℕ) (process : Option ℕ) (strict : Bool) (input_old : Option (List ℕ)) → AskForOne words
+    → AskFor words (Rewrite process strict) → input_old ≡ Some bytes → IfSome input_old (λ all. 67108864 < length all) → IsOnlyOutcome words bytes LongInput
+long_complete words bytes process strict input_old one asked known above =
+    long_only words bytes process strict one asked (subst (λ (o : Option (List ℕ)). IfSome o (λ all. 67108864 < length all)) known above)
 
 -- the bytes that were read are those that the input had
-same_bytes : (input_old input_new : Option (List ℕ)) (bytes all : List ℕ) → input_old ≡ Some bytes → Drains input_old input_new all → bytes ≡ all
+pub same_bytes : (input_old input_new : Option (List ℕ)) (bytes all : List ℕ) → input_old ≡ Some bytes → Drains input_old input_new all → bytes ≡ all
 same_bytes input_old input_new bytes all known drains =
     let here : Drains (Some bytes) input_new all = subst (λ (o : Option (List ℕ)). Drains o input_new all) known drains in here.0
 
 -- ---- the log isn't rewritten
 
 -- the status has its cause
-pub fault_cause : (words : List (List ℕ)) (input_old input_new : Option (List ℕ)) (reads writes : ℕ × ℕ) (process : Option ℕ) (strict : Bool)
-    (bytes : List ℕ) (fault : Fault) → Drains input_old input_new bytes → length bytes ≤ 67108864 → IsFault process strict bytes fault
-    → AskFor words (Rewrite process strict) → HasCause words input_old input_new reads writes (status_of fault)
-fault_cause words input_old input_new reads writes process strict bytes (CantRead line column cause) drained within is asked = record {
-  process = process;
-  strict = strict;
-  accepted = asked;
-  bytes = bytes;
-  drained = drained;
-  within = within;
-  holds = is;
-}
-fault_cause words input_old input_new reads writes process strict bytes (TooLong line) drained within is asked = record {
-  process = process;
-  strict = strict;
-  accepted = asked;
-  bytes = bytes;
-  drained = drained;
-  within = within;
-  holds = is;
-}
-fault_cause words input_old input_new reads writes process strict bytes Silent drained within is asked = record {
-  process = process;
-  strict = strict;
-  accepted = asked;
-  bytes = bytes;
-  drained = drained;
-  within = within;
-  holds = is;
-}
-fault_cause words input_old input_new reads writes process strict bytes NoMemory drained within is asked = tt
+pub fault_cause : (words : List (List ℕ)) (input_old input_new : Option (List ℕ)) (reads writes : ℕ × ℕ) (fault : Fault)
+    → Heard words input_old input_new (λ process strict bytes. IsFault process strict bytes fault)
+    → HasCause words input_old input_new reads writes (status_of fault)
+fault_cause words input_old input_new reads writes (CantRead line column cause) heard = heard
+fault_cause words input_old input_new reads writes (TooLong line) heard = heard
+fault_cause words input_old input_new reads writes Silent heard = heard
+fault_cause words input_old input_new reads writes NoMemory heard = tt
 
 -- a fault is the one that came, unless that is want of memory
 only_fault : {T : Type 0} (fault other : Fault) → (◌≡◌ {A = Result T Fault} (Err fault) (Err other)) ⊎ (◌≡◌ {A = Result T Fault} (Err fault) (Err NoMemory))
@@ -124,8 +92,8 @@ only_fault : {T : Type 0} (fault other : Fault) → (◌≡◌ {A = Result T Fau
 only_fault fault other (inl e) some = cc
 only_fault fault other (inr e) some = absurd (some cc)
 
--- a log that isn't rewritten has that status alone
-caused_only : {T : Type 0} (words : List (List ℕ)) (bytes : List ℕ) (process : Option ℕ) (strict : Bool) (fault : Fault) → AskForOne words
+-- a log that isn't rewritten, whose fault has its cause, has that status alone
+pub caused_only : {T : Type 0} (words : List (List ℕ)) (bytes : List ℕ) (process : Option ℕ) (strict : Bool) (fault : Fault) → AskForOne words
     → AskFor words (Rewrite process strict) → length bytes ≤ 67108864 → (fault ≡ NoMemory → ⊥) → IsCausedFault process strict bytes fault
     → ((other : Fault) → IsCausedFault process strict bytes other
     → (◌≡◌ {A = Result T Fault} (Err fault) (Err other)) ⊎ (◌≡◌ {A = Result T Fault} (Err fault) (Err NoMemory)))
@@ -137,27 +105,15 @@ caused_only {T = T} words bytes process strict fault one asked within some cause
       (λ _ none out counts calls ends is cut. absurd (none fault caused));
 }
 
--- where the log isn't rewritten, the status is the only one, unless there was no memory
-pub fault_complete : {T : Type 0} (words : List (List ℕ)) (input_old input_new : Option (List ℕ)) (reads writes : ℕ × ℕ) (process : Option ℕ)
-    (strict : Bool) (known bytes : List ℕ) (fault : Fault) → Drains input_old input_new bytes → length bytes ≤ 67108864
-    → IsFault process strict bytes fault
-    → ((other : Fault) → IsCausedFault process strict bytes other
-    → (◌≡◌ {A = Result T Fault} (Err fault) (Err other)) ⊎ (◌≡◌ {A = Result T Fault} (Err fault) (Err NoMemory)))
-    → AskFor words (Rewrite process strict) → AskForOne words → input_old ≡ Some known
-    → IsOnlyOutcome words known (status_of fault) ⊎ IsHindered reads writes (status_of fault)
-fault_complete {T = T} words input_old input_new reads writes process strict known bytes (CantRead line column cause) drained within is complete asked one e =
-    let same = same_bytes input_old input_new known bytes e drained in
-    inl (subst (λ (b : List ℕ). IsOnlyOutcome words b (Unreadable line column cause)) (sym same)
-    (caused_only {T = T} words bytes process strict (CantRead line column cause) one asked within (λ no. absurd cc) is complete))
-fault_complete {T = T} words input_old input_new reads writes process strict known bytes (TooLong line) drained within is complete asked one e =
-    let same = same_bytes input_old input_new known bytes e drained in
-    inl (subst (λ (b : List ℕ). IsOnlyOutcome words b (LongLine line)) (sym same)
-    (caused_only {T = T} words bytes process strict (TooLong line) one asked within (λ no. absurd cc) is complete))
-fault_complete {T = T} words input_old input_new reads writes process strict known bytes Silent drained within is complete asked one e =
-    let same = same_bytes input_old input_new known bytes e drained in
-    inl (subst (λ (b : List ℕ). IsOnlyOutcome words b NoProcess) (sym same)
-    (caused_only {T = T} words bytes process strict Silent one asked within (λ no. absurd cc) is complete))
-fault_complete words input_old input_new reads writes process strict known bytes NoMemory drained within is complete asked one e = inr tt
+-- the status is the only one, unless there was no memory
+pub fault_complete : (words : List (List ℕ)) (bytes log : List ℕ) (process : Option ℕ) (strict : Bool) (reads writes : ℕ × ℕ) (fault : Fault)
+    → IsFault process strict log fault
+    → ((fault ≡ NoMemory → ⊥) → IsCausedFault process strict log fault → IsOnlyOutcome words bytes (status_of fault))
+    → IsOnlyOutcome words bytes (status_of fault) ⊎ IsHindered reads writes (status_of fault)
+fault_complete words bytes log process strict reads writes (CantRead line column cause) is only = inl (only (λ no. absurd cc) is)
+fault_complete words bytes log process strict reads writes (TooLong line) is only = inl (only (λ no. absurd cc) is)
+fault_complete words bytes log process strict reads writes Silent is only = inl (only (λ no. absurd cc) is)
+fault_complete words bytes log process strict reads writes NoMemory is only = inr tt
 
 -- ---- the log is rewritten
 

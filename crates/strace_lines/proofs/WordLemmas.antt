@@ -6,13 +6,15 @@ use Rattle.std.proofs.lemmas.List.{append_cancel_left, get_or-map, length-map, m
 use Rattle.std.proofs.lemmas.List.Elements.{Contains-get_or, Contains-push_cases}
 use Rattle.std.proofs.lemmas.Fmt.{decimal_injective}
 use Rattle.std.specs.Fmt.{decimal}
-use Rattle.std.specs.List.{filter_map, cons_option}
+use Rattle.std.specs.List.{filter_map}
+use Rattle.command_words.specs.Spellings.{Ask}
+use Rattle.command_words.proofs.Spellings.{of_option, value_once}
 use Rattle.strace_lines.specs.declared.words.Given.{Given}
 use Rattle.strace_lines.specs.declared.words.Given.TheVariants.{Strict, Process}
 use Rattle.strace_lines.specs.declared.words.Options.{Options}
 use Rattle.strace_lines.specs.declared.words.Asked.{Asked}
 use Rattle.strace_lines.specs.declared.words.Asked.TheVariants.{Help, Rewrite}
-use Rattle.strace_lines.specs.Words.{BeginsWithOption, AreSpellings, AskToRewrite, AskFor, process_of, strict_of, flag_list, Adds, IsAsked, AskForHelp, AskForOne}
+use Rattle.strace_lines.specs.Words.{BeginsWithOption, Kind, of_strict, of_process, value_for, flag_list, asked_for, AskToRewrite, AskFor, IsAsked, AskForHelp, AskForOne}
 
 -- ---- help
 
@@ -114,12 +116,10 @@ pub apart_begins : (word value : List ℕ) (rest words : List (List ℕ)) (n : �
 apart_begins word value rest words n e w v fits = (fits, inl (e ∙ (λ i. w i ∷ v i ∷ sym (ap (drop 2) e) i)))
 
 -- no words begin with no option
-pub not_empty : (words : List (List ℕ)) → length words ≡ 0 → (given : Given) (rest : List (List ℕ)) → BeginsWithOption given rest words → ⊥
-not_empty words none Strict rest e = let size : length words ≡ length (codes "--strict" ∷ rest) = ap length e in omega arith
-not_empty words none (Process n) rest (fits, inl e) =
-    let size : length words ≡ length (codes "--process" ∷ decimal n ∷ rest) = ap length e in omega arith
-not_empty words none (Process n) rest (fits, inr e) =
-    let size : length words ≡ length ((codes "--process=" ++ decimal n) ∷ rest) = ap length e in omega arith
+pub not_empty : (given : Given) (rest : List (List ℕ)) → BeginsWithOption given rest [] → ⊥
+not_empty Strict rest e = absurd (cc e)
+not_empty (Process n) rest (fits, inl e) = absurd (cc e)
+not_empty (Process n) rest (fits, inr e) = absurd (cc e)
 
 -- one number has one text
 same_process : (m n : ℕ) → m < 2 ^ 32 → n < 2 ^ 32 → decimal m ≡ decimal n → Process m ≡ Process n
@@ -150,170 +150,68 @@ begins_once (Process m) (Process n) r s words (f, inr b) (k, inr d) = (
 
 -- ---- what is left over
 
--- the words ask for the rest of this, behind what was asked for so far
-pub record LeftOver (before : Options) (words : List (List ℕ)) (process : Option ℕ) (strict : Bool) : Type 0 where
-  -- the options of these words
-  pub given : List Given
-  -- the words are their spellings
-  pub spelled : AreSpellings given words
-  -- what was named and what they name is the process in all
-  pub processes : option_to_list before.process ++ filter_map process_of given ≡ option_to_list process
-  -- and the same of the flag
-  pub stricts : flag_list before.strict ++ filter_map strict_of given ≡ flag_list strict
+-- what was asked for so far, and what these words ask for besides
+abbrev pub LeftOver : Options → List (List ℕ) → Option ℕ → Bool → Type 0
+LeftOver before words process strict = Ask BeginsWithOption value_for (λ kind. asked_for kind before) words
+    (λ kind. asked_for kind (record { process = process; strict = strict }))
 
--- no words ask for nothing besides
-pub nothing_left : (options : Options) (words : List (List ℕ)) → length words ≡ 0 → LeftOver options words options.process options.strict
-nothing_left options [] e = record {
-  given = [];
-  spelled = refl;
-  processes = append-nil (option_to_list options.process);
-  stricts = append-nil (flag_list options.strict);
-}
-nothing_left options (w ∷ ws) e = absurd (omega arith)
-
--- what all words ask for is left over at the start
-pub from_all : (words : List (List ℕ)) (process : Option ℕ) (strict : Bool) → AskToRewrite words process strict
-    → LeftOver (record { process = None; strict = false }) words process strict
-from_all words process strict h = record { given = h.given; spelled = h.spelled; processes = h.processes; stricts = h.stricts }
-
--- and what is left over at the start is what all words ask for
+-- what is left over at the start is what all words ask for
 pub to_all : (words : List (List ℕ)) (process : Option ℕ) (strict : Bool) → LeftOver (record { process = None; strict = false }) words process strict
     → AskToRewrite words process strict
-to_all words process strict h = record { given = h.given; spelled = h.spelled; processes = h.processes; stricts = h.stricts }
+to_all words process strict h = record { given = h.given; spelled = h.spelled; asks = λ kind. start kind (filter_map (value_for kind) h.given) ∙ h.asks kind }
+  where
+    start : (kind : Kind) (xs : List ℕ) → xs ≡ asked_for kind (record { process = None; strict = false }) ++ xs
+    start of_strict xs = refl
+    start of_process xs = refl
 
--- an option's own part moves from what is left to what was asked for
-moved : (list more : List ℕ) (value : Option ℕ) (after : List ℕ) → after ≡ list ++ option_to_list value → list ++ cons_option value more ≡ after ++ more
-moved list more None after e = ap (λ (xs : List ℕ). xs ++ more) (sym (append-nil list) ∙ sym e)
-moved list more (Some x) after e = sym (append_assoc list (x ∷ []) more) ∙ ap (λ (xs : List ℕ). xs ++ more) (sym e)
+-- and what all words ask for is left over at the start
+pub from_all : (words : List (List ℕ)) (process : Option ℕ) (strict : Bool) → AskToRewrite words process strict
+    → LeftOver (record { process = None; strict = false }) words process strict
+from_all words process strict h = record { given = h.given; spelled = h.spelled; asks = λ kind. start kind (filter_map (value_for kind) h.given) ∙ h.asks kind }
+  where
+    start : (kind : Kind) (xs : List ℕ) → asked_for kind (record { process = None; strict = false }) ++ xs ≡ xs
+    start of_strict xs = refl
+    start of_process xs = refl
 
--- what is left behind an option that was added is left before it too, with that option in front
-pub left_before : (before middle : Options) (process : Option ℕ) (strict : Bool) (given : Given) (rest words : List (List ℕ))
-    → Adds before given middle → BeginsWithOption given rest words → LeftOver middle rest process strict → LeftOver before words process strict
-left_before before middle process strict given rest words adds begins left = record {
-  given = given ∷ left.given;
-  spelled = (rest, begins, left.spelled);
-  processes = moved (option_to_list before.process) (filter_map process_of left.given) (process_of given) (option_to_list middle.process) adds.0
-      ∙ left.processes;
-  stricts = moved (flag_list before.strict) (filter_map strict_of left.given) (strict_of given) (flag_list middle.strict) adds.1 ∙ left.stricts;
-}
+-- an option that was asked for already, by its kind and what it gives
+pub record IsAgain (before : Options) (given : Given) : Type 0 where
+  pub kind : Kind
+  pub value : ℕ
+  pub gives : value_for kind given ≡ Some value
+  pub already : 0 < length (asked_for kind before)
 
--- the options of words that aren't empty begin with one
-pub record First (before : Options) (words : List (List ℕ)) (process : Option ℕ) (strict : Bool) : Type 0 where
-  -- the first option
-  pub given : Given
-  -- the words behind it
-  pub rest : List (List ℕ)
-  -- the options of these
-  pub more : List Given
-  -- the words begin with the first option
-  pub begins : BeginsWithOption given rest words
-  -- and go on with the others
-  pub spelled : AreSpellings more rest
-  -- what was named and what all of them name is the process in all
-  pub processes : option_to_list before.process ++ filter_map process_of (given ∷ more) ≡ option_to_list process
-  -- and the same of the flag
-  pub stricts : flag_list before.strict ++ filter_map strict_of (given ∷ more) ≡ flag_list strict
+again : (strict : Bool) (process : Option ℕ) (given : Given) → IsAsked (record { process = process; strict = strict }) given
+    → IsAgain (record { process = process; strict = strict }) given
+again true process Strict h = record { kind = of_strict; value = 0; gives = refl; already = omega arith }
+again false process Strict h = absurd (cc h)
+again strict (Some m) (Process n) h = record { kind = of_process; value = n; gives = refl; already = omega arith }
+again strict None (Process n) h = absurd (cc h)
 
-first_with : (given : List Given) (before : Options) (words : List (List ℕ)) (process : Option ℕ) (strict : Bool) → 0 < length words
-    → AreSpellings given words → option_to_list before.process ++ filter_map process_of given ≡ option_to_list process
-    → flag_list before.strict ++ filter_map strict_of given ≡ flag_list strict → First before words process strict
-first_with [] before words process strict some spelled p s =
-    let none : length words ≡ 0 = ap length spelled in absurd (omega arith)
-first_with (given ∷ more) before words process strict some spelled p s = record {
-  given = given;
-  rest = spelled.0;
-  more = more;
-  begins = spelled.1;
-  spelled = spelled.2;
-  processes = p;
-  stricts = s;
-}
+-- it is of a kind of which one was asked for
+pub is_again : (before : Options) (given : Given) → IsAsked before given → IsAgain before given
+is_again before given h = again before.strict before.process given h
 
--- where words aren't empty, what they ask for begins with one option
-first_left : (before : Options) (words : List (List ℕ)) (process : Option ℕ) (strict : Bool) → 0 < length words
-    → LeftOver before words process strict → First before words process strict
-first_left before words process strict some left = first_with left.given before words process strict some left.spelled left.processes left.stricts
+-- nothing is asked for twice
+pub at_most_one : (kind : Kind) (options : Options) → length (asked_for kind options) ≤ 1
+at_most_one of_strict options = of_flag options.strict
+  where
+    of_flag : (flag : Bool) → length (flag_list flag) ≤ 1
+    of_flag true = omega arith
+    of_flag false = omega arith
+at_most_one of_process options = of_option options.process
 
--- what is left before an option is left behind it, once it was added
-pub left_behind : (before middle : Options) (process : Option ℕ) (strict : Bool) (given : Given) (rest words : List (List ℕ))
-    → Adds before given middle → BeginsWithOption given rest words → 0 < length words → LeftOver before words process strict
-    → LeftOver middle rest process strict
-left_behind before middle process strict given rest words adds begins some left =
-    let first = first_left before words process strict some left in
-    let once = begins_once first.given given first.rest rest words first.begins begins in record {
-      given = first.more;
-      spelled = subst (λ (ws : List (List ℕ)). AreSpellings first.more ws) once.1 first.spelled;
-      processes = sym (moved (option_to_list before.process) (filter_map process_of first.more) (process_of given) (option_to_list middle.process) adds.0)
-          ∙ ap (λ (g : Given). option_to_list before.process ++ filter_map process_of (g ∷ first.more)) (sym once.0)
-          ∙ first.processes;
-      stricts = sym (moved (flag_list before.strict) (filter_map strict_of first.more) (strict_of given) (flag_list middle.strict) adds.1)
-          ∙ ap (λ (g : Given). flag_list before.strict ++ filter_map strict_of (g ∷ first.more)) (sym once.0)
-          ∙ first.stricts;
-    }
-
--- words that begin with no option are no spelling
-pub left_of_none : (before : Options) (words : List (List ℕ)) (process : Option ℕ) (strict : Bool) → 0 < length words
-    → ((given : Given) (rest : List (List ℕ)) → BeginsWithOption given rest words → ⊥) → LeftOver before words process strict → ⊥
-left_of_none before words process strict some none left =
-    let first = first_left before words process strict some left in none first.given first.rest first.begins
-
--- a list of one number at most has no second
-two_values : (a b : Option ℕ) (x y : ℕ) (more : List ℕ) → option_to_list (Some x) ++ (y ∷ more) ≡ option_to_list b → ⊥
-two_values a None x y more e = let size : length (x ∷ (y ∷ more)) ≡ 0 = ap length e in omega arith
-two_values a (Some z) x y more e = let size : length (x ∷ (y ∷ more)) ≡ 1 = ap length e in omega arith
-
-two_flags : (strict : Bool) (more : List ℕ) → flag_list true ++ (0 ∷ more) ≡ flag_list strict → ⊥
-two_flags true more e = let size : length (0 ∷ (0 ∷ more)) ≡ 1 = ap length e in omega arith
-two_flags false more e = let size : length (0 ∷ (0 ∷ more)) ≡ 0 = ap length e in omega arith
-
-again_of : (old : Option ℕ) (flag : Bool) (given : Given) (more : List Given) (process : Option ℕ) (strict : Bool)
-    → IsAsked (record { process = old; strict = flag }) given
-    → option_to_list old ++ filter_map process_of (given ∷ more) ≡ option_to_list process
-    → flag_list flag ++ filter_map strict_of (given ∷ more) ≡ flag_list strict → ⊥
-again_of old true Strict more process strict again p s = two_flags strict (filter_map strict_of more) s
-again_of old false Strict more process strict again p s = absurd (cc again)
-again_of None flag (Process n) more process strict again p s = absurd (cc again)
-again_of (Some m) flag (Process n) more process strict again p s = two_values None process m n (filter_map process_of more) p
-
--- words that begin with an option that was asked for already ask for nothing
-pub left_of_asked : (before : Options) (given : Given) (rest words : List (List ℕ)) (process : Option ℕ) (strict : Bool) → 0 < length words
-    → BeginsWithOption given rest words → IsAsked before given → LeftOver before words process strict → ⊥
-left_of_asked before given rest words process strict some begins again left =
-    let first = first_left before words process strict some left in
-    let once = begins_once first.given given first.rest rest words first.begins begins in
-    again_of before.process before.strict first.given first.more process strict
-    (subst (IsAsked before) (sym once.0) again) first.processes first.stricts
-
--- where no words are left, all was asked for
 flag_once : (a b : Bool) → flag_list a ≡ flag_list b → a ≡ b
 flag_once true true e = refl
 flag_once true false e = cc
 flag_once false true e = cc
 flag_once false false e = refl
 
-value_once : (a b : Option ℕ) → option_to_list a ≡ option_to_list b → a ≡ b
-value_once None None e = refl
-value_once None (Some y) e = cc
-value_once (Some x) None e = cc
-value_once (Some x) (Some y) e = cc
-
-none_left : (given : List Given) (before : Options) (process : Option ℕ) (strict : Bool) → AreSpellings given []
-    → option_to_list before.process ++ filter_map process_of given ≡ option_to_list process
-    → flag_list before.strict ++ filter_map strict_of given ≡ flag_list strict
-    → (before.process ≡ process) × (before.strict ≡ strict)
-none_left [] before process strict spelled p s = (
-  value_once before.process process (sym (append-nil (option_to_list before.process)) ∙ p),
-  flag_once before.strict strict (sym (append-nil (flag_list before.strict)) ∙ s),
-)
-none_left (given ∷ more) before process strict spelled p s = absurd (not_empty [] refl given spelled.0 spelled.1)
-
--- where no words are left, what was asked for is what all of them ask for
-pub left_of_nothing : (before : Options) (words : List (List ℕ)) (process : Option ℕ) (strict : Bool) → length words ≡ 0
-    → LeftOver before words process strict → before ≡ record { process = process; strict = strict }
-left_of_nothing before [] process strict e left =
-    let both = none_left left.given before process strict left.spelled left.processes left.stricts in
-    λ i. record { process = both.0 i; strict = both.1 i }
-left_of_nothing before (w ∷ ws) process strict e left = absurd (omega arith)
+-- what is asked for of each kind is all that is asked for
+pub same_options : (a b : Options) → ((kind : Kind) → asked_for kind a ≡ asked_for kind b) → a ≡ b
+same_options a b h =
+    let process = value_once a.process b.process (h of_process) in
+    let strict = flag_once a.strict b.strict (h of_strict) in
+    λ i. record { process = process i; strict = strict i }
 
 -- ---- what is asked for
 

@@ -4,6 +4,7 @@ use Rattle.std.specs.Prelude.{◌≡◌, ◌⊎◌, ℕ, ◌<◌, ◌≤◌, Lis
 use Rattle.std.specs.Io.KnownBytes.{Appends, Keeps}
 use Rattle.byte_ports.specs.Bytes.{AppendsPrefix}
 use Rattle.byte_ports.specs.Counts.{Rose}
+use Rattle.byte_ports.specs.Input.{Drains}
 use Rattle.raw_logs.specs.declared.counts.Counts.{Counts}
 use Rattle.raw_trace.specs.declared.fault.Fault.{Fault}
 use Rattle.raw_trace.specs.declared.fault.Fault.TheVariants.{Unreadable as CantRead, LongLine as TooLong, NoProcess as Silent, Memory as NoMemory}
@@ -15,16 +16,6 @@ use Rattle.strace_lines.specs.declared.status.Status.TheVariants.{Done, Helped, 
 use Rattle.strace_lines.specs.declared.words.Asked.TheVariants.{Help, Rewrite}
 use Rattle.strace_lines.specs.Words.{AskFor, RefusesWords}
 use Rattle.strace_lines.specs.Texts.{help_text, said}
-
--- the known bytes are all, and none of them is left
-abbrev pub Drains : Option (List ℕ) → Option (List ℕ) → List ℕ → Type 0
-Drains old new all = IfSome old (λ bytes. (bytes ≡ all) × (new ≡ Some []))
-
--- the reading of the input ended so before its end: there was no memory, the source failed, or it has too many bytes
-abbrev pub IsStopped : Option (List ℕ) → ℕ → ℕ → Status → Type 0
-IsStopped input_old before after status = (status ≡ Memory)
-    ⊎ (((status ≡ ReadFault) × Rose before after)
-    ⊎ ((status ≡ LongInput) × IfSome input_old (λ all. 67108864 < length all)))
 
 -- with words that ask for it the whole input was read, within its limit, and this holds of what was asked and its bytes
 pub record Heard (words : List (List ℕ)) (input_old input_new : Option (List ℕ)) (P : Option ℕ → Bool → List ℕ → Type 0) : Type 0 where

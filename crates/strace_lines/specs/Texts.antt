@@ -1,7 +1,10 @@
 -- What the program writes besides lines: the help, the counts of a run, and the line that says why a run ended without
 -- its lines. Each begins with the program's name but the help, so that it can be told apart in a pipe. The texts are
 -- this project's own profile, and docs/FORMATS.md lists them too.
-use Rattle.std.specs.Prelude.{ℕ, ◌==◌, List, [], ◌++◌, Bool, if◌then◌else◌, codes, decimal}
+use Rattle.std.specs.Prelude.{ℕ, ◌==◌, List, [], ◌∷◌, ◌++◌, Bool, if◌then◌else◌, codes}
+use Rattle.std.specs.Borrow.{Bor}
+use Rattle.std.specs.List.{flat_map}
+use Rattle.byte_ports.specs.Bytes.{numbered}
 use Rattle.line_parts.specs.declared.refusal.What.{What}
 use Rattle.line_parts.specs.declared.refusal.What.TheVariants.{Number, Wide, Word, Comma, Close, Result as AtResult, Form as MapsForm, Order}
 use Rattle.raw_logs.specs.declared.counts.Counts.{Counts}
@@ -18,10 +21,6 @@ help_text = codes "usage: strace_lines [--strict] [--process N] < raw.log > my.t
     (codes "  --strict      end with status 3 at the first line of a call that can't be read\n" ++
     codes "  -h, --help    print this\n")))
 
--- a number in decimal, with a text before it and one behind it
-abbrev pub numbered : List ℕ → ℕ → List ℕ → List ℕ
-numbered before number behind = before ++ (decimal number ++ behind)
-
 -- a text with the number of lines
 abbrev pub count_line : List ℕ → ℕ → List ℕ
 count_line text n = codes "strace_lines: " ++ (text ++ numbered (codes ": ") n (codes "\n"))
@@ -30,47 +29,42 @@ count_line text n = codes "strace_lines: " ++ (text ++ numbered (codes ": ") n (
 abbrev pub counted_text : List ℕ → ℕ → List ℕ
 counted_text text n = if n == 0 then [] else count_line text n
 
--- how many lines were changed
-abbrev pub changed_text : Counts → List ℕ
-changed_text c = counted_text (codes "lines without what options add") c.stripped ++ counted_text (codes "process numbers changed") c.numbered
+-- what is counted, and how often it came: the lines that were changed; those left out that are of the program; those
+-- that are of other spaces or don't tell of which they are; and what became of calls
+abbrev pub named_counts : Counts → List (List ℕ × ℕ)
+named_counts c =
+    (codes "lines without what options add", c.stripped) ∷
+    (codes "process numbers changed", c.numbered) ∷
+    (codes "messages of strace left out", c.messages) ∷
+    (codes "stack lines left out", c.stack) ∷
+    (codes "lines of unknown beginning left out", c.unknown) ∷
+    (codes "long lines left out", c.long) ∷
+    (codes "lines of other processes left out", c.elsewhere) ∷
+    (codes "lines before an execve left out", c.earlier) ∷
+    (codes "lines that don't tell what was made", c.untold) ∷
+    (codes "numbers that were made and have no line", c.silent) ∷
+    (codes "numbers that have lines and weren't made", c.foreign) ∷
+    (codes "calls joined", c.joined) ∷
+    (codes "calls mended", c.mended) ∷
+    (codes "calls that never returned", c.unreturned) ∷
+    (codes "lines left unread", c.unread) ∷
+    (codes "calls of other forms, not played", c.forms) ∷ []
 
--- how many lines were left out that are of the program
-abbrev pub left_out_text : Counts → List ℕ
-left_out_text c =
-    counted_text (codes "messages of strace left out") c.messages ++
-    (counted_text (codes "stack lines left out") c.stack ++
-    (counted_text (codes "lines of unknown beginning left out") c.unknown ++
-    counted_text (codes "long lines left out") c.long))
+-- what a text points to, and the count beside it
+abbrev pub named_count : Bor (List ℕ) × ℕ → List ℕ × ℕ
+named_count c = (c.0.now, c.1)
 
--- how many lines were left out that are of other spaces, and how many don't tell of which they are
-abbrev pub others_text : Counts → List ℕ
-others_text c =
-    counted_text (codes "lines of other processes left out") c.elsewhere ++
-    (counted_text (codes "lines before an execve left out") c.earlier ++
-    (counted_text (codes "lines that don't tell what was made") c.untold ++
-    (counted_text (codes "numbers that were made and have no line") c.silent ++
-    counted_text (codes "numbers that have lines and weren't made") c.foreign)))
-
--- what became of calls
-abbrev pub calls_text : Counts → List ℕ
-calls_text c =
-    counted_text (codes "calls joined") c.joined ++
-    (counted_text (codes "calls mended") c.mended ++
-    (counted_text (codes "calls that never returned") c.unreturned ++
-    (counted_text (codes "lines left unread") c.unread ++
-    counted_text (codes "calls of other forms, not played") c.forms)))
+-- the lines of such counts, one behind the other; none for a count of 0
+abbrev pub counts_text : List (List ℕ × ℕ) → List ℕ
+counts_text counts = flat_map (λ c. counted_text c.0 c.1) counts
 
 -- that the log ends within a line, where it does
 abbrev pub cut_text : Bool → List ℕ
 cut_text ends_cut = if ends_cut then codes "strace_lines: last line cut, left out\n" else []
 
--- what was changed and left out; nothing where nothing was
-abbrev pub counts_text : Counts → Bool → List ℕ
-counts_text c ends_cut = changed_text c ++ (left_out_text c ++ (others_text c ++ (calls_text c ++ cut_text ends_cut)))
-
 -- how many calls were written, and what was changed and left out
 abbrev pub done_text : ℕ → Counts → Bool → List ℕ
-done_text calls c ends_cut = count_line (codes "calls written") calls ++ counts_text c ends_cut
+done_text calls c ends_cut = count_line (codes "calls written") calls ++ (counts_text (named_counts c) ++ cut_text ends_cut)
 
 -- what was due in a line that can't be read
 abbrev pub what_text : What → List ℕ

@@ -3,7 +3,7 @@
 -- words, help is asked for, whatever the others are.
 use Rattle.std.specs.Prelude.{◌≡◌, ◌⊎◌, ℕ, ◌^◌, ◌<◌, List, [], ◌∷◌, ◌++◌, Option, Some, None, Bool, if◌then◌else◌}
 use Rattle.std.specs.Prelude.{codes, Contains, decimal, option_to_list, true, IsSome}
-use Rattle.std.specs.List.{filter_map}
+use Rattle.command_words.specs.Spellings.{Ask, AddsOne}
 use Rattle.strace_lines.specs.declared.words.Asked.{Asked}
 use Rattle.strace_lines.specs.declared.words.Asked.TheVariants.{Help, Rewrite}
 use Rattle.strace_lines.specs.declared.words.Given.{Given}
@@ -20,31 +20,30 @@ BeginsWithOption Strict rest words = words ≡ codes "--strict" ∷ rest
 BeginsWithOption (Process n) rest words = (n < 2 ^ 32)
     × ((words ≡ codes "--process" ∷ decimal n ∷ rest) ⊎ (words ≡ (codes "--process=" ++ decimal n) ∷ rest))
 
--- the words are the spellings of these options, one behind the other
-abbrev pub AreSpellings : List Given → List (List ℕ) → Type 0
-AreSpellings [] words = words ≡ []
-AreSpellings (given ∷ more) words = (rest : List (List ℕ)) × BeginsWithOption given rest words × AreSpellings more rest
+-- which option it is
+pub data Kind : Type 0 where
+  of_strict : Kind
+  of_process : Kind
 
--- the process that an option names
-abbrev pub process_of : Given → Option ℕ
-process_of Strict = None
-process_of (Process n) = Some n
-
--- the option is that every line has to be read
-abbrev pub strict_of : Given → Option ℕ
-strict_of Strict = Some 0
-strict_of (Process n) = None
+-- what an option gives, if it is of this kind: its number, or 0 where it takes none
+abbrev pub value_for : Kind → Given → Option ℕ
+value_for of_strict Strict = Some 0
+value_for of_process (Process n) = Some n
+value_for _ _ = None
 
 -- what a flag gives
 abbrev pub flag_list : Bool → List ℕ
 flag_list given = if given then 0 ∷ [] else []
 
+-- what is asked for of this kind, once or not at all
+abbrev pub asked_for : Kind → Options → List ℕ
+asked_for of_strict options = flag_list options.strict
+asked_for of_process options = option_to_list options.process
+
 -- the words ask for a log to be rewritten: each option is given once or not at all
-pub record AskToRewrite (words : List (List ℕ)) (process : Option ℕ) (strict : Bool) : Type 0 where
-  pub given : List Given
-  pub spelled : AreSpellings given words
-  pub processes : filter_map process_of given ≡ option_to_list process
-  pub stricts : filter_map strict_of given ≡ flag_list strict
+abbrev pub AskToRewrite : List (List ℕ) → Option ℕ → Bool → Type 0
+AskToRewrite words process strict =
+    Ask BeginsWithOption value_for (λ kind. []) words (λ kind. asked_for kind (record { process = process; strict = strict }))
 
 -- the words ask for this
 abbrev pub AskFor : List (List ℕ) → Asked → Type 0
@@ -61,8 +60,7 @@ AskForOne words = (first other : Asked) → AskFor words first → AskFor words 
 
 -- what was asked for, and this option besides
 abbrev pub Adds : Options → Given → Options → Type 0
-Adds before given after = (option_to_list after.process ≡ option_to_list before.process ++ option_to_list (process_of given))
-    × (flag_list after.strict ≡ flag_list before.strict ++ option_to_list (strict_of given))
+Adds before given after = AddsOne value_for (λ kind. asked_for kind before) given (λ kind. asked_for kind after)
 
 -- the option was asked for already
 abbrev pub IsAsked : Options → Given → Type 0

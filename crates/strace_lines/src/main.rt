@@ -3,7 +3,6 @@
 //! words, its standard streams and its exit status.
 #![tactic(auto)]
 
-mod input;
 mod run;
 mod said;
 mod status;

@@ -9,15 +9,17 @@ ghost use Rattle.strace_lines.specs.declared.words.Asked.TheVariants.{Rewrite};
 ghost use Rattle.strace_lines.specs.Words.{AskFor, AskForOne, RefusesWords};
 ghost use Rattle.strace_lines.specs.Run.{Wrote, HasCause, IsOnlyOutcome, IsHindered, IsUnwritten, Says, status_of};
 
-use crate::input::read_input;
 use crate::said::say;
 use crate::status::Status;
 use crate::words::{Asked, asked_of};
-use byte_ports::{Sink, Source, write_all};
+use byte_ports::{Sink, Source, Unread, read_all, write_all};
 use raw_trace::{
     Fault, good_lines_stay, good_texts_stay, rewrite, rewriting_keeps_calls, rewriting_keeps_orders,
 };
 use std::alloc::Global;
+
+/// How many bytes an input may have: 64 MiB.
+const INPUT_LIMIT: usize = 67_108_864;
 
 /// The help.
 const HELP: &[u8] = b"usage: strace_lines [--strict] [--process N] < raw.log > my.trace
@@ -110,9 +112,11 @@ fn rewrite_input<S: Source, K: Sink>(
     ensures no_usage { result ≢ Status.Usage }
     ensures nothing_written { IsUnwritten result → out.new ≡ out.old }
 {
-    let bytes = match read_input(alloc, input) {
+    let bytes = match read_all(alloc, input, INPUT_LIMIT) {
         Ok(bytes) => bytes,
-        Err(status) => return status,
+        Err(Unread::Failed) => return Status::ReadFault,
+        Err(Unread::Long) => return Status::LongInput,
+        Err(Unread::Memory) => return Status::Memory,
     };
     let found = match rewrite(alloc, bytes.as_slice(), process, strict) {
         Ok(found) => found,

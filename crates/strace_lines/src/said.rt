@@ -1,49 +1,21 @@
 //! What a run says on standard error: its counts where it wrote its lines, else why it did not. It takes no memory, so
 //! that it can say that there is none. `said` in `specs/Texts.antt` has the texts.
 
-ghost use Rattle.std.specs.Prelude.{◌≡◌, ◌≤◌, OnOk, OnErr, decimal};
+ghost use Rattle.std.specs.Prelude.{◌≡◌, ◌≤◌, map, OnOk, OnErr};
 ghost use Rattle.std.specs.Io.KnownBytes.{Appends};
 ghost use Rattle.byte_ports.specs.Bytes.{AppendsPrefix};
 ghost use Rattle.byte_ports.specs.Counts.{Rose};
-ghost use Rattle.strace_lines.specs.Texts.{said, numbered, count_line, counted_text, changed_text, left_out_text, others_text, calls_text, cut_text, counts_text, done_text};
+ghost use Rattle.strace_lines.specs.Texts.{said, count_line, counted_text, counts_text, named_count, named_counts, cut_text, done_text};
 ghost use Rattle.strace_lines.specs.Texts.{cause_text, what_text, unreadable_text};
 
 use crate::status::Status;
-use byte_ports::{Failed, Sink, write_all};
+use byte_ports::{Failed, Sink, write_all, write_numbered};
 use raw_logs::Counts;
 use raw_trace::Cause;
 use strace_reader::What;
 
 /// The line for words that are not accepted.
 const USAGE: &[u8] = b"usage: strace_lines [--strict] [--process N] < raw.log > my.trace\n";
-
-/// Writes a number in decimal.
-fn write_decimal<K: Sink>(err: &mut K, number: u32) -> Result<(), Failed>
-    ensures all { OnOk result (Appends (K.contents err.old) (K.contents err.new) (decimal number)) }
-    ensures failed_prefix { OnErr result (AppendsPrefix (K.contents err.old) (K.contents err.new) (decimal number)) }
-    ensures failed_rose { OnErr result (Rose (K.fault_count err.old) (K.fault_count err.new)) }
-    ensures never_falls { K.fault_count err.old ≤ K.fault_count err.new }
-{
-    let mut buffer = itoa::Buffer::new();
-    write_all(err, buffer.format(number).as_bytes())
-}
-
-/// Writes a number in decimal, with a text before it and one behind it.
-fn write_numbered<K: Sink>(
-    err: &mut K,
-    before: &[u8],
-    number: u32,
-    behind: &[u8],
-) -> Result<(), Failed>
-    ensures all { OnOk result (Appends (K.contents err.old) (K.contents err.new) (numbered before.now number behind.now)) }
-    ensures failed_prefix { OnErr result (AppendsPrefix (K.contents err.old) (K.contents err.new) (numbered before.now number behind.now)) }
-    ensures failed_rose { OnErr result (Rose (K.fault_count err.old) (K.fault_count err.new)) }
-    ensures never_falls { K.fault_count err.old ≤ K.fault_count err.new }
-{
-    write_all(err, before)?;
-    write_decimal(err, number)?;
-    write_all(err, behind)
-}
 
 /// Writes the line of a count.
 fn write_count_line<K: Sink>(err: &mut K, text: &[u8], count: u32) -> Result<(), Failed>
@@ -54,7 +26,7 @@ fn write_count_line<K: Sink>(err: &mut K, text: &[u8], count: u32) -> Result<(),
 {
     write_all(err, b"strace_lines: ")?;
     write_all(err, text)?;
-    write_numbered(err, b": ", count, b"\n")
+    write_numbered(err, b": ", count as u64, b"\n")
 }
 
 /// Writes the line of a count, where it isn't 0.
@@ -71,64 +43,41 @@ fn write_count<K: Sink>(err: &mut K, text: &[u8], count: u32) -> Result<(), Fail
     }
 }
 
-/// Writes how many lines were changed.
-fn write_changed<K: Sink>(err: &mut K, counts: &Counts) -> Result<(), Failed>
-    ensures all { OnOk result (Appends (K.contents err.old) (K.contents err.new) (changed_text counts.now)) }
-    ensures failed_prefix { OnErr result (AppendsPrefix (K.contents err.old) (K.contents err.new) (changed_text counts.now)) }
+/// Writes the lines of counts, each with what it counts.
+fn write_counts<K: Sink>(err: &mut K, counts: &[(&[u8], u32)]) -> Result<(), Failed>
+    ensures all { OnOk result (Appends (K.contents err.old) (K.contents err.new) (counts_text (map named_count counts.now))) }
+    ensures failed_prefix { OnErr result (AppendsPrefix (K.contents err.old) (K.contents err.new) (counts_text (map named_count counts.now))) }
     ensures failed_rose { OnErr result (Rose (K.fault_count err.old) (K.fault_count err.new)) }
     ensures never_falls { K.fault_count err.old ≤ K.fault_count err.new }
 {
-    write_count(err, b"lines without what options add", counts.stripped)?;
-    write_count(err, b"process numbers changed", counts.numbered)
+    for &(text, count) in counts {
+        write_count(err, text, count)?;
+    }
+    Ok(())
 }
 
-/// Writes how many lines were left out that are of the program.
-fn write_left_out<K: Sink>(err: &mut K, counts: &Counts) -> Result<(), Failed>
-    ensures all { OnOk result (Appends (K.contents err.old) (K.contents err.new) (left_out_text counts.now)) }
-    ensures failed_prefix { OnErr result (AppendsPrefix (K.contents err.old) (K.contents err.new) (left_out_text counts.now)) }
-    ensures failed_rose { OnErr result (Rose (K.fault_count err.old) (K.fault_count err.new)) }
-    ensures never_falls { K.fault_count err.old ≤ K.fault_count err.new }
+/// What each count counts, in the order in which they are written.
+fn named_counts(counts: &Counts) -> [(&'static [u8], u32); 16]
+    ensures { map named_count result ≡ named_counts counts.now }
 {
-    write_count(err, b"messages of strace left out", counts.messages)?;
-    write_count(err, b"stack lines left out", counts.stack)?;
-    write_count(err, b"lines of unknown beginning left out", counts.unknown)?;
-    write_count(err, b"long lines left out", counts.long)
-}
-
-/// Writes how many lines were left out that are of other spaces, and how many don't tell of which they are.
-fn write_others<K: Sink>(err: &mut K, counts: &Counts) -> Result<(), Failed>
-    ensures all { OnOk result (Appends (K.contents err.old) (K.contents err.new) (others_text counts.now)) }
-    ensures failed_prefix { OnErr result (AppendsPrefix (K.contents err.old) (K.contents err.new) (others_text counts.now)) }
-    ensures failed_rose { OnErr result (Rose (K.fault_count err.old) (K.fault_count err.new)) }
-    ensures never_falls { K.fault_count err.old ≤ K.fault_count err.new }
-{
-    write_count(err, b"lines of other processes left out", counts.elsewhere)?;
-    write_count(err, b"lines before an execve left out", counts.earlier)?;
-    write_count(err, b"lines that don't tell what was made", counts.untold)?;
-    write_count(
-        err,
-        b"numbers that were made and have no line",
-        counts.silent,
-    )?;
-    write_count(
-        err,
-        b"numbers that have lines and weren't made",
-        counts.foreign,
-    )
-}
-
-/// Writes what became of calls.
-fn write_calls<K: Sink>(err: &mut K, counts: &Counts) -> Result<(), Failed>
-    ensures all { OnOk result (Appends (K.contents err.old) (K.contents err.new) (calls_text counts.now)) }
-    ensures failed_prefix { OnErr result (AppendsPrefix (K.contents err.old) (K.contents err.new) (calls_text counts.now)) }
-    ensures failed_rose { OnErr result (Rose (K.fault_count err.old) (K.fault_count err.new)) }
-    ensures never_falls { K.fault_count err.old ≤ K.fault_count err.new }
-{
-    write_count(err, b"calls joined", counts.joined)?;
-    write_count(err, b"calls mended", counts.mended)?;
-    write_count(err, b"calls that never returned", counts.unreturned)?;
-    write_count(err, b"lines left unread", counts.unread)?;
-    write_count(err, b"calls of other forms, not played", counts.forms)
+    [
+        (b"lines without what options add", counts.stripped),
+        (b"process numbers changed", counts.numbered),
+        (b"messages of strace left out", counts.messages),
+        (b"stack lines left out", counts.stack),
+        (b"lines of unknown beginning left out", counts.unknown),
+        (b"long lines left out", counts.long),
+        (b"lines of other processes left out", counts.elsewhere),
+        (b"lines before an execve left out", counts.earlier),
+        (b"lines that don't tell what was made", counts.untold),
+        (b"numbers that were made and have no line", counts.silent),
+        (b"numbers that have lines and weren't made", counts.foreign),
+        (b"calls joined", counts.joined),
+        (b"calls mended", counts.mended),
+        (b"calls that never returned", counts.unreturned),
+        (b"lines left unread", counts.unread),
+        (b"calls of other forms, not played", counts.forms),
+    ]
 }
 
 /// Writes that the log ends within a line, where it does.
@@ -145,20 +94,6 @@ fn write_cut<K: Sink>(err: &mut K, ends_cut: bool) -> Result<(), Failed>
     }
 }
 
-/// Writes what was changed and left out.
-fn write_counts<K: Sink>(err: &mut K, counts: &Counts, ends_cut: bool) -> Result<(), Failed>
-    ensures all { OnOk result (Appends (K.contents err.old) (K.contents err.new) (counts_text counts.now ends_cut)) }
-    ensures failed_prefix { OnErr result (AppendsPrefix (K.contents err.old) (K.contents err.new) (counts_text counts.now ends_cut)) }
-    ensures failed_rose { OnErr result (Rose (K.fault_count err.old) (K.fault_count err.new)) }
-    ensures never_falls { K.fault_count err.old ≤ K.fault_count err.new }
-{
-    write_changed(err, counts)?;
-    write_left_out(err, counts)?;
-    write_others(err, counts)?;
-    write_calls(err, counts)?;
-    write_cut(err, ends_cut)
-}
-
 /// Writes how many calls were written, and what was changed and left out.
 fn write_done<K: Sink>(
     err: &mut K,
@@ -172,7 +107,8 @@ fn write_done<K: Sink>(
     ensures never_falls { K.fault_count err.old ≤ K.fault_count err.new }
 {
     write_count_line(err, b"calls written", calls)?;
-    write_counts(err, counts, ends_cut)
+    write_counts(err, &named_counts(counts))?;
+    write_cut(err, ends_cut)
 }
 
 /// How the line says what was due, with the colon before it and the newline.
@@ -215,8 +151,8 @@ fn write_unreadable<K: Sink>(
     ensures failed_prefix { OnErr result (AppendsPrefix (K.contents err.old) (K.contents err.new) (unreadable_text line column cause)) }
     ensures failed_rose { OnErr result (Rose (K.fault_count err.old) (K.fault_count err.new)) }
 {
-    write_numbered(err, b"strace_lines: line ", line, b" column ")?;
-    write_numbered(err, b"", column, why(cause))
+    write_numbered(err, b"strace_lines: line ", line as u64, b" column ")?;
+    write_numbered(err, b"", column as u64, why(cause))
 }
 
 /// Writes what a run says that ended so.
@@ -249,7 +185,7 @@ pub fn say<K: Sink>(err: &mut K, status: &Status) -> Result<(), Failed>
         Status::LongLine { line } => write_numbered(
             err,
             b"strace_lines: line ",
-            *line,
+            *line as u64,
             b": limit line: 65536\n",
         ),
     }

@@ -9,6 +9,8 @@ ghost use Rattle.strace_lines.specs.declared.words.Given.{Given};
 ghost use Rattle.strace_lines.specs.Words.{AskForHelp, AskFor, AskForOne, AskToRewrite, RefusesWords};
 ghost use Rattle.strace_lines.specs.Words.{BeginsWithOption, Adds, IsAsked};
 
+use command_words::number;
+
 /// What the words ask for.
 #[derive(Clone, Copy, Debug, PartialEq, Eq)]
 pub enum Asked {
@@ -52,22 +54,6 @@ fn asks_for_help(words: &[String]) -> bool
         }
     }
     false
-}
-
-/// The number that is printed as this text.
-fn number(text: &str) -> Option<u32>
-    ensures is { IfSome result (λ n. text.now ≡ decimal n) }
-    ensures none { IsNone result → (n : ℕ) → n < 2 ^ 32 → ¬ (text.now ≡ decimal n) }
-{
-    let Ok(number) = text.parse::<u32>() else {
-        return None;
-    };
-    let mut buffer = itoa::Buffer::new();
-    if buffer.format(number) == text {
-        Some(number)
-    } else {
-        None
-    }
 }
 
 /// The option that the words begin with.

@@ -13,3 +13,15 @@ returns-in-Ok-clause-complete g c bytes known =
 -- and so is that of words that aren't accepted
 pub returns-in-None-clause-complete : goal.returns-in-None-clause-complete
 returns-in-None-clause-complete g c bytes known = inl (usage_only (map string_bytes c.args.words.now) bytes (c.in-None.ensures.refused refl))
+
+-- where a rewriting is asked for, what is said of it is so of these words
+pub returns-in-Some-Rewrite-clause-out : goal.returns-in-Some-Rewrite-clause-out
+returns-in-Some-Rewrite-clause-out g c =
+    c.rewrite_input.ensures.out (map string_bytes c.args.words.now)
+    (subst (AskFor (map string_bytes c.args.words.now)) c.in-Some-Rewrite.field-0-is c.in-Some-Rewrite.ensures.spelled)
+
+-- and its status has its cause
+pub returns-in-Some-Rewrite-clause-cause : goal.returns-in-Some-Rewrite-clause-cause
+returns-in-Some-Rewrite-clause-cause g c =
+    c.rewrite_input.ensures.cause (map string_bytes c.args.words.now)
+    (subst (AskFor (map string_bytes c.args.words.now)) c.in-Some-Rewrite.field-0-is c.in-Some-Rewrite.ensures.spelled)

@@ -2,7 +2,8 @@ use Rattle.std.proofs.Common.{[], codes}
 use Rattle.std.proofs.KnownBytes.{Appends-trans}
 use Rattle.std.proofs.lemmas.Result.{on_err_weaker, on_ok_weaker}
 use Rattle.byte_ports.proofs.Pieces.{AppendsPrefix-more, AppendsPrefix-after, on_err}
-use Rattle.strace_lines.specs.Texts.{numbered, cause_text}
+use Rattle.byte_ports.specs.Bytes.{numbered}
+use Rattle.strace_lines.specs.Texts.{cause_text}
 use Rattle.strace_lines.proofs.said.write_unreadable.Goals as goal
 
 -- a first part of the part with the line is a first part of the text
@@ -15,8 +16,8 @@ pub returns-clause-all : goal.returns-clause-all
 returns-clause-all g c =
     let same = c.why.ensures in
     on_ok_weaker _
-    (λ last. Appends-trans (g.K.Sink.contents c.args.err.now) (g.K.Sink.contents c.write_numbered.new.err)
-    (g.K.Sink.contents c.write_numbered-2.new.err) (numbered (codes "strace_lines: line ") c.args.line (codes " column "))
+    (λ last. Appends-trans (g.K.Sink.contents c.args.err.now) (g.K.Sink.contents c.write_numbered.new.out)
+    (g.K.Sink.contents c.write_numbered-2.new.out) (numbered (codes "strace_lines: line ") c.args.line (codes " column "))
     (numbered [] c.args.column (cause_text c.args.cause)) c.in_ok-write_numbered.ensures.all last)
     (rw same at c.write_numbered-2.ensures.all)
 
