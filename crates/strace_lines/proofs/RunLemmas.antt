@@ -1,9 +1,7 @@
 -- How the parts of a run make its clauses: the reading of the input, the rewriting of its bytes and the words that ask
 -- for it. Words and bytes call for one status, since words ask for one thing, and a log has one rewriting or one fault.
-use Rattle.std.proofs.Common.{◌≡◌, ◌⊎◌, ℕ, ◌<◌, ◌≤◌, List, length, Bool, Option, None, Some, Result, Ok, Err, IfSome}
+use Rattle.std.proofs.Common.{◌≡◌, ◌⊎◌, ℕ, ◌<◌, ◌≤◌, List, length, Bool, Option, Some, Result, Ok, Err, IfSome}
 use Rattle.std.proofs.Common.{inl, inr, refl, sym, subst, ap, ◌∙◌, arith}
-use Rattle.std.specs.Io.KnownBytes.{Appends, Keeps}
-use Rattle.byte_ports.specs.Bytes.{AppendsPrefix}
 use Rattle.raw_logs.specs.declared.counts.Counts.{Counts}
 use Rattle.raw_trace.specs.declared.fault.Fault.{Fault}
 use Rattle.raw_trace.specs.declared.fault.Fault.TheVariants.{Unreadable as CantRead, LongLine as TooLong, NoProcess as Silent, Memory as NoMemory}
@@ -13,10 +11,9 @@ use Rattle.raw_trace.specs.Rewriting.{IsRewriting}
 use Rattle.raw_logs.specs.Reading.{EndsCut}
 use Rattle.raw_logs.proofs.OneEnd.{one_end}
 use Rattle.strace_lines.specs.declared.status.Status.{Status}
-use Rattle.strace_lines.specs.declared.status.Status.TheVariants.{Done, Helped, Usage, Unreadable, NoProcess, ReadFault, WriteFault, Memory, LongInput, LongLine}
+use Rattle.strace_lines.specs.declared.status.Status.TheVariants.{Done, Helped, Usage, LongInput}
 use Rattle.strace_lines.specs.declared.words.Asked.TheVariants.{Help, Rewrite}
 use Rattle.strace_lines.specs.Words.{AskFor, AskForOne, RefusesWords}
-use Rattle.strace_lines.specs.Texts.{help_text}
 use Rattle.byte_ports.specs.Input.{Drains}
 use Rattle.strace_lines.specs.Run.{Heard, HasCause, status_of, IsOutcome, IsOnlyOutcome, IsHindered}
 use Rattle.strace_lines.specs.Run.IsOutcome.{usage, helped, input_too_long, not_rewritten, done}

@@ -1,7 +1,7 @@
 -- The spellings of the command line are read in one way. Options are asked for one by one: what was asked for so far,
 -- with what is left, is what all of them ask.
 use Rattle.std.proofs.Common.{◌≡◌, ℕ, ◌+◌, ◌<◌, ◌^◌, List, [], ◌∷◌, ◌++◌, length, get_or, drop, Bool, true, false, Option, Some, None, codes}
-use Rattle.std.proofs.Common.{option_to_list, arith, inl, inr, refl, sym, subst, ap, ◌∙◌, append-nil, append_assoc, length-append, map, take, Contains, ◌≤◌}
+use Rattle.std.proofs.Common.{arith, inl, inr, refl, sym, subst, ap, ◌∙◌, length-append, map, take, Contains, ◌≤◌}
 use Rattle.std.proofs.lemmas.List.{append_cancel_left, get_or-map, length-map, map_more, take_all}
 use Rattle.std.proofs.lemmas.List.Elements.{Contains-get_or, Contains-push_cases}
 use Rattle.std.proofs.lemmas.Fmt.{decimal_injective}

@@ -1,6 +1,6 @@
 -- What a run writes, and why it ends. With words that ask for a log to be rewritten the whole input is read, and its
 -- one rewriting is written; nothing is written before all of it is known. Each status comes only with its cause.
-use Rattle.std.specs.Prelude.{◌≡◌, ◌⊎◌, ℕ, ◌<◌, ◌≤◌, List, [], length, Bool, Option, Some, IfSome, ⊤}
+use Rattle.std.specs.Prelude.{◌≡◌, ◌⊎◌, ℕ, ◌<◌, ◌≤◌, List, length, Bool, Option, IfSome, ⊤}
 use Rattle.std.specs.Io.KnownBytes.{Appends, Keeps}
 use Rattle.byte_ports.specs.Bytes.{AppendsPrefix}
 use Rattle.byte_ports.specs.Counts.{Rose}

@@ -1,10 +1,10 @@
-use Rattle.std.proofs.Common.{ℕ, List, [], ◌+◌, arith, sym, subst, take_all, map}
+use Rattle.std.proofs.Common.{ℕ, List, [], ◌+◌, arith, sym, subst}
 use Rattle.std.specs.Borrow.{Bor}
 use Rattle.std.specs.Io.KnownBytes.{Appends}
 use Rattle.std.proofs.KnownBytes.{Appends-trans}
 use Rattle.byte_ports.specs.Bytes.{AppendsPrefix}
 use Rattle.byte_ports.proofs.Pieces.{AppendsPrefix-after, on_err}
-use Rattle.strace_lines.specs.Texts.{counts_text, named_count}
+use Rattle.strace_lines.specs.Texts.{named_count}
 use Rattle.strace_lines.proofs.CountLemmas.{counts_next, counts_stop}
 use Rattle.strace_lines.proofs.said.write_counts.Goals as goal
 
