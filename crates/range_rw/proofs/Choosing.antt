@@ -8,12 +8,15 @@ use native.Mathlib.Decide.{ℕ_discrete}
 use Rattle.atomic_table.specs.Seated.{TableId}
 use Rattle.lock_core.specs.Range.{Interval}
 use Rattle.lock_core.specs.declared.range.Held.{Held}
-use Rattle.list_cuts.specs.Cut.{Regions, list_count}
+use Rattle.list_cuts.specs.Cut.{Regions, list_count, TakesOne, TakesTwo}
+use Rattle.list_cuts.proofs.Cutting.{takes_there, takes_behind}
 use Rattle.lock_core.specs.declared.views.View.{View}
 use Rattle.lock_core.specs.declared.views.Own.TheVariants.{Nothing}
 use Rattle.lock_core.specs.Machine.{held_at, numbers_from}
 use Rattle.epoch_pools.specs.declared.views.SeatPart.{SeatPart}
 use Rattle.epoch_pools.specs.declared.views.Beside.{Beside}
+use Rattle.epoch_pools.specs.declared.views.Standing.{Standing}
+use Rattle.epoch_pools.specs.declared.views.Standing.TheVariants.{Free, Narrow, Wide}
 use Rattle.epoch_pools.specs.Standings.{is_here, is_whole, is_counted}
 use Rattle.epoch_pools.specs.Beside.{shown_core, shown_grant}
 use Rattle.epoch_pools.specs.Hands.{IsResting}
@@ -30,45 +33,70 @@ use Rattle.range_rw.specs.Contract.{
   IsSpentIn,
   IsCause,
   IsListCause,
+  IsLockCall,
+  AsksOnly,
   OpenScan,
   WorksIn,
   TellsList,
   KeepsOthers,
+  StandsIn,
   pools_at,
   in_list,
 }
-use Rattle.range_rw.specs.Seats.{pools_of, scan_of, walk_of, placed_scan, placed_in, seat_state_in, seat_state_of}
+use Rattle.range_rw.specs.Seats.{counted_in, pools_of, scan_of, walk_of, placed_scan, placed_in, seat_state_in, seat_state_of}
 use Rattle.range_rw.specs.Trying.{IsLaterInTry}
 use Rattle.range_rw.specs.Several.{list_state, IsLaterInLists, IsFreeSeat, HoldsAlone, IsCauseIn, ShowsOthers}
 use Rattle.range_rw.proofs.Pieces.{own_at, only_stays, here_state, rests_free, cause_before, cause_kept}
-use Rattle.range_rw.proofs.Seated.{count_numbers, pools_shown}
+use Rattle.range_rw.proofs.Asking.{asks_from}
+use Rattle.range_rw.proofs.Moves.{lists_on, narrow_counts, wide_counts}
+use Rattle.range_rw.proofs.Seated.{count_numbers, pools_shown, try_lists, lists_call}
+
+-- a call of a try in the list to which the hand is turned, of a seat that held nothing
+pub record Here {P : Type 0} (p q : SeatPart (Beside P)) : Type 0 where
+  pub free : IsFreeSeat p
+  pub later : IsLaterInTry p q
+  pub outside : IsOutside q.core
+  pub cursor : q.core.cursor ≡ None
 
 module _ {P : Type 0} where
   -- a seat that holds nothing may sweep the list to which it is turned
   pub free_sweeps : (p : SeatPart (Beside P)) → IsFreeSeat p → MaySweep p.core
   free_sweeps p f = rests_free p.core f.rests (ap (λ (v : View). v.own) (sym (own_at p p.pass.list (λ i. p.pass.list))) ∙ f.free p.pass.list)
 
+  -- what is held in the list to which the hand is turned is held there
+  pub alone_there : {at : ℕ} {asked : Held} {q : SeatPart (Beside P)} → HoldsAlone at asked q → HoldsAlone q.pass.list asked q
+  alone_there {at} {asked} {q} h = record { rests = h.rests; turned = refl; held = h.held; others = λ j away. h.others j (λ e. away (e ∙ sym h.turned)) }
+
+  -- a narrow range counts through its list, and a wide one that has passed all through list 0
+  pub alone_narrow : {at : ℕ} {asked : Held} {q : SeatPart (Beside P)} → HoldsAlone at asked q → q.pass.standing ≡ Narrow at
+      → is_counted q.pass.lists q.pass.standing q.pass.list ≡ true
+  alone_narrow {at} {asked} {q} h s = ap (λ t. is_counted q.pass.lists t q.pass.list) s ∙ narrow_counts q.pass.lists at q.pass.list h.turned
+
+  pub alone_wide : {asked : Held} {q : SeatPart (Beside P)} → HoldsAlone 0 asked q → q.pass.standing ≡ Wide q.pass.lists
+      → is_counted q.pass.lists q.pass.standing q.pass.list ≡ true
+  alone_wide {asked} {q} h s = ap (λ t. is_counted q.pass.lists t q.pass.list) s ∙ wide_counts q.pass.lists q.pass.list h.turned
+
   -- with one list all that is held counts
   pub one_counts : (b : Beside P) → b.lists ≡ 1 → is_counted b.lists b.standing b.list ≡ true
   one_counts b one = ap (λ (c : Bool). c || is_here b.standing b.list && is_whole b.standing b.lists) (eq-eqb b.lists 1 one)
 
-  module _ (p q : SeatPart (Beside P)) (f : IsFreeSeat p) (l : IsLaterInTry p q) (o : IsOutside q.core) where
-    pub here_list : q.pass.list ≡ p.pass.list
-    here_list = ap (λ (b : Beside P). b.list) l.pass
+  module _ {p q : SeatPart (Beside P)} (h : Here p q) where
+    here_list : q.pass.list ≡ p.pass.list
+    here_list = ap (λ (b : Beside P). b.list) h.later.pass
 
-    pub here_only : (j : ℕ) → j ≢ p.pass.list → shown_core q j ≡ shown_core p j
-    here_only = only_stays p q here_list (ap (λ (b : Beside P). b.others) l.pass)
+    here_only : (j : ℕ) → j ≢ p.pass.list → shown_core q j ≡ shown_core p j
+    here_only = only_stays p q here_list (ap (λ (b : Beside P). b.others) h.later.pass)
+
+    here_rests : IsResting q.core
+    here_rests = record { outside = h.outside.even; cursor = h.cursor; hand = h.outside.hand }
 
     -- what a call of a try leaves of the list it leaves of the seat
     pub here_later : IsLaterInLists p q
-    here_later = record {
-      number = l.number;
-      seats = l.seats;
-      lists = ap (λ (b : Beside P). b.lists) l.pass;
-      pass = ap (λ (b : Beside P). b.pass) l.pass;
-      client = l.client;
-      taken = l.taken;
-    }
+    here_later = try_lists p q h.later
+
+    -- nothing that counted before counts by another list
+    pub here_standing : q.pass.standing ≡ Free
+    here_standing = ap (λ (b : Beside P). b.standing) h.later.pass ∙ h.free.standing
 
     pub here_ready : IsReadyLeft p.core.ready q.core.ready → (j : ℕ) → IsReadyLeft (shown_core p j).ready (shown_core q j).ready
     here_ready left j = dite (ℕ_discrete j p.pass.list)
@@ -91,23 +119,38 @@ module _ {P : Type 0} where
     pub here_others : (c : Regions) (range : Interval) → p.pass.list ≡ 0 → ShowsOthers c range p q
     here_others c range first j none = here_only j (λ e. none (inl (e ∙ first)))
 
-    module _ (rests : IsResting q.core) where
-      pub here_alone : (asked : Held) → held_at q.core.own ≡ Some asked → HoldsAlone q.pass.list asked q
-      here_alone asked held = record {
-        rests = rests;
-        turned = λ i. q.pass.list;
-        held = held;
-        others = λ j away. ap (λ (v : View). v.own) (here_only j (λ e. away (e ∙ sym here_list))) ∙ f.free j;
-      }
+    pub here_alone : {asked : Held} → held_at q.core.own ≡ Some asked → HoldsAlone q.pass.list asked q
+    here_alone {asked} held = record {
+      rests = here_rests;
+      turned = λ i. q.pass.list;
+      held = held;
+      others = λ j away. ap (λ (v : View). v.own) (here_only j (λ e. away (e ∙ sym here_list))) ∙ h.free.free j;
+    }
 
-      pub here_free : q.core.own ≡ Nothing → IsFreeSeat q
-      here_free own = record {
-        rests = rests;
-        free = λ j. dite (ℕ_discrete j p.pass.list)
-            (λ e. ap (λ (v : View). v.own) (own_at q j (here_list ∙ sym e)) ∙ own)
-            (λ away. ap (λ (v : View). v.own) (here_only j away) ∙ f.free j);
-        standing = ap (λ (b : Beside P). b.standing) l.pass ∙ f.standing;
-      }
+    pub here_free : q.core.own ≡ Nothing → IsFreeSeat q
+    here_free own = record {
+      rests = here_rests;
+      free = λ j. dite (ℕ_discrete j p.pass.list)
+          (λ e. ap (λ (v : View). v.own) (own_at q j (here_list ∙ sym e)) ∙ own)
+          (λ away. ap (λ (v : View). v.own) (here_only j away) ∙ h.free.free j);
+      standing = here_standing;
+    }
+
+-- where a range stands, by how it counts: with one list in that, with several in the one that it takes, or in list 0
+pub stands_first : {c : Regions} {range : Interval} {s : Standing} → TakesOne c range 0 → s ≡ Free → StandsIn c range (counted_in s)
+stands_first {c} {range} {s} one is = subst (λ t. StandsIn c range (counted_in t)) (sym is) (inl one)
+
+pub stands_narrow : {c : Regions} {range : Interval} {at : ℕ} {s : Standing} → TakesOne c range at → s ≡ Narrow at → StandsIn c range (counted_in s)
+stands_narrow {c} {range} {at} {s} one is = subst (λ t. StandsIn c range (counted_in t)) (sym is) (inl one)
+
+pub stands_wide : {c : Regions} {range : Interval} {n : ℕ} {s : Standing} → TakesTwo c range → s ≡ Wide n → StandsIn c range (counted_in s)
+stands_wide {c} {range} {n} {s} two is = subst (λ t. StandsIn c range (counted_in t)) (sym is) (inr (two, refl))
+
+-- with several lists the one that a range takes alone is behind list 0, and there
+pub narrow_list : {c : Regions} {range : Interval} {at : ℕ} (lists : ℕ) → 0 < c.count → lists ≡ list_count c → list_count c ≢ 1 → TakesOne c range at
+    → (0 < at) × (at < lists)
+narrow_list {c} {range} {at} lists some all many one =
+    let less = takes_there c range at some one.takes in (takes_behind c range at some many one.takes, omega arith)
 
 -- leaving an epoch leaves the ready nodes of every list
 pub left_ready : {P : Type 0} (p m : SeatPart (Beside P)) → IsLaterInTry p m → m.core.ready ≡ p.core.ready
@@ -118,16 +161,20 @@ left_ready p m l ready j = dite (ℕ_discrete j p.pass.list)
     (λ away. ap (λ (v : View). v.ready)
     (only_stays p m (ap (λ (b : Beside _). b.list) l.pass) (ap (λ (b : Beside _). b.others) l.pass) j away))
 
-module _ {P : Type 0} (was at now : TableId) (p m q : SeatPart (Beside P)) (l : IsLaterInTry p m) (ready : (j : ℕ) → (shown_core m j).ready ≡ (shown_core p
-    j).ready)
-    (lists : q.pass.lists ≡ m.pass.lists) where
+-- a seat leaves the epoch in which it was, and goes on
+pub record Left {P : Type 0} (was at now : TableId) (p m q : SeatPart (Beside P)) : Type 0 where
+  pub later : IsLaterInTry p m
+  pub ready : (j : ℕ) → (shown_core m j).ready ≡ (shown_core p j).ready
+  pub lists : q.pass.lists ≡ m.pass.lists
+
+module _ {P : Type 0} {was at now : TableId} {p m q : SeatPart (Beside P)} (left : Left was at now p m q) where
   walk_on : {b s : SeatState P} (c d : SeatState P) → b.trace.taken ≡ m.trace.taken
       → (s.trace.looked ≡ q.trace.looked) × (s.trace.taken ≡ q.trace.taken) → c.trace.taken ≡ p.trace.taken
       → (d.trace.looked ≡ q.trace.looked) × (d.trace.taken ≡ q.trace.taken) → IsWalkOf b s → IsWalkOf c d
   walk_on c d before after first last w = record {
     walk = w.walk;
     is = last.0 ∙ (sym after.0 ∙ w.is);
-    from = let n = w.from in let t = l.taken in omega arith;
+    from = let n = w.from in let t = left.later.taken in omega arith;
     below = let n = w.below in let a = after.1 in let b = last.1 in omega arith;
   }
 
@@ -136,8 +183,8 @@ module _ {P : Type 0} (was at now : TableId) (p m q : SeatPart (Beside P)) (l : 
       → IsCause (seat_state_of (record { table = was; part = p })) (seat_state_of (record { table = now; part = q })) asked why
   seat_cause_in c asked why x =
       let i = x.0 in
-      let there : i < p.pass.lists = let a = x.1 in let e = ap (λ (b : Beside P). b.lists) l.pass in omega arith in
-      let here : i < q.pass.lists = let e = ap (λ (b : Beside P). b.lists) l.pass in omega arith in
+      let there : i < p.pass.lists = let a = x.1 in let e = ap (λ (b : Beside P). b.lists) left.later.pass in omega arith in
+      let here : i < q.pass.lists = let e = ap (λ (b : Beside P). b.lists) left.later.pass in let f = left.lists in omega arith in
       let before = in_list i (seat_state_of (record { table = was; part = p })) in
       let after = in_list i (seat_state_of (record { table = now; part = q })) in
       let pools = pools_shown was p i there in
@@ -146,8 +193,8 @@ module _ {P : Type 0} (was at now : TableId) (p m q : SeatPart (Beside P)) (l : 
         i,
         omega arith,
         cause_kept before (list_state at q i) after refl pools_now refl refl refl refl refl (omega arith) i asked why
-            (cause_before before (list_state at m i) (list_state at q i) l.taken l.number (λ e. ap (λ (x : Pools). x.ready) pools ∙ (sym (ready i) ∙ e))
-            i asked why x.3),
+            (cause_before before (list_state at m i) (list_state at q i) left.later.taken left.later.number
+            (λ e. ap (λ (x : Pools). x.ready) pools ∙ (sym (left.ready i) ∙ e)) i asked why x.3),
       )
 
   -- and the list that it tells is one in which the try works
@@ -213,3 +260,23 @@ closed_even {P} p none = by (p.core.epoch % 2 == 0) refl none
     by true e z = eqb-true (p.core.epoch % 2) 0 e
     by false e z = absurd (let x : ◌≡◌ {A = Option OpenScan} (Some (placed_scan p.pass.lists p.pass.list
         (walk_of (16 * p.seats + 1) p.core.cursor p.trace.looked))) None = z in cc)
+
+-- what the calls of a try leave of a seat: a call on it, which asks for that range alone, and leaves each list in which
+-- it doesn't work as it was, where no scan was open
+pub record Called {P : Type 0} (c : Regions) (range : Held) (before after : SeatState P) : Type 0 where
+  pub call : IsLockCall before after
+  pub asks : AsksOnly range before.trace.asked after.trace.asked
+  pub only : before.scan ≡ None → KeepsOthers c range.range before after
+
+-- by what its hand shows before, once it is outside its epoch, and after
+pub called_by : {P : Type 0} {was now : TableId} {p m q : SeatPart (Beside P)} {c : Regions} {range : Held} → now ≡ was → IsLaterInTry p m
+    → (p.core.epoch % 2 ≡ 0 → m ≡ p) → m.pass.lists ≡ list_count c → m.trace.asked ≡ p.trace.asked → IsLaterInLists m q
+    → AsksOnly range m.trace.asked q.trace.asked → ShowsOthers c range.range m q
+    → Called c range (seat_state_of (record { table = was; part = p })) (seat_state_of (record { table = now; part = q }))
+called_by {P} {was} {now} {p} {m} {q} {c} {range} same left stays lists asked later asks only =
+    let first = try_lists p m left in let all = lists_on first later in
+    record {
+      call = lists_call was now p q same all;
+      asks = asks_from asked asks;
+      only = λ closed. others_kept was now p m q c range.range (sym first.lists ∙ lists) all.lists (stays (closed_even p closed)) only;
+    }

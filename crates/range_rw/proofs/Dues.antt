@@ -152,8 +152,8 @@ pub record Swept {P : Type 0} (home other : ℕ) (asked : Held) (p w t : SeatPar
 module _ {P : Type 0} {home other : ℕ} {asked : Held} {p w t : SeatPart (Beside P)} (swept : Swept home other asked p w t) where
   -- the range is held as before, and the hand is turned to it
   pub swept_alone : HoldsAlone home asked t
-  swept_alone = holds_turned home asked w t swept.turn swept.stays swept.rests
-      (holds_on home other asked p w (λ e. swept.differ (sym e)) swept.holds swept.sweep swept.free)
+  swept_alone = holds_turned swept.turn swept.stays swept.rests
+      (holds_on (λ e. swept.differ (sym e)) swept.holds swept.sweep swept.free)
 
   pub swept_lists : t.pass.lists ≡ p.pass.lists
   swept_lists = ap (λ (x : SeatPart (Beside P)). x.pass.lists) swept.turn ∙ swept.sweep.later.lists
@@ -164,13 +164,13 @@ module _ {P : Type 0} {home other : ℕ} {asked : Held} {p w t : SeatPart (Besid
   -- and then the list is looked at
   module _ {s : Standing} {h : SeatPart (Beside P)} (look : h ≡ after_look t s) where
     pub looked_later : IsLaterInLists p h
-    looked_later = lists_on p t h (lists_on p w t swept.sweep.later (turn_on w t home swept.turn)) (look_on t h s look)
+    looked_later = lists_on (lists_on swept.sweep.later (turn_on w swept.turn)) (look_on t look)
 
     pub looked_alone : HoldsAlone home asked h
-    looked_alone = holds_looked home asked t h s look swept_alone
+    looked_alone = holds_looked look swept_alone
 
     looked_shows : (j : ℕ) → shown_core h j ≡ shown_core w j
-    looked_shows j = look_shows t h s look j ∙ swept.stays j
+    looked_shows j = look_shows t look j ∙ swept.stays j
 
     -- each other list is as it was
     pub looked_only : (j : ℕ) → j ≢ other → shown_core h j ≡ shown_core p j
@@ -182,4 +182,4 @@ module _ {P : Type 0} {home other : ℕ} {asked : Held} {p w t : SeatPart (Besid
 
     -- and asks for nothing
     pub looked_asks : w.trace.asked ≡ p.trace.asked → h.trace.asked ≡ p.trace.asked
-    looked_asks same = look_asks t h s look ∙ (turn_asks w t home swept.turn ∙ same)
+    looked_asks same = look_asks t look ∙ (turn_asks w swept.turn ∙ same)

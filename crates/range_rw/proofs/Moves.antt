@@ -7,6 +7,7 @@ use mathlib.Core.Logic.{dite}
 use native.Mathlib.Decide.{dec_le, ℕ_discrete}
 use Rattle.list_cuts.specs.Cut.{Regions, first_list, list_count, Takes, TakesOne, TakesTwo}
 use Rattle.list_cuts.proofs.Cutting.{takes_there, none_before}
+use Rattle.atomic_table.specs.Seated.{TableId}
 use Rattle.lock_core.specs.Range.{Interval}
 use Rattle.lock_core.specs.declared.range.Held.{Held}
 use Rattle.lock_core.specs.declared.views.View.{View}
@@ -22,9 +23,11 @@ use Rattle.epoch_pools.specs.Hands.{IsResting, turned}
 use Rattle.epoch_pools.specs.Passing.{after_look, MayCount, MayPass, HoldsToo}
 use Rattle.range_rw.specs.Contract.{AsksOnly, IsReadyLeft}
 use Rattle.marked_list.specs.Causes.{nodes_in, IsSpent}
+use Rattle.range_rw.specs.declared.refusals.NotHeld.{NotHeld}
 use Rattle.range_rw.specs.Several.{IsLaterInLists, IsPiece, IsFreeSeat, HoldsAlone, HoldsIn, HasSpent, HasPassed, TakesNone}
+use Rattle.range_rw.specs.Several.{list_state, IsCauseAt, KeepsCauses}
 use Rattle.range_rw.proofs.Asking.{asks_kept}
-use Rattle.range_rw.proofs.Pieces.{own_at}
+use Rattle.range_rw.proofs.Pieces.{own_at, cause_before}
 
 -- ---- which lists are taken
 
@@ -94,6 +97,14 @@ ready_from {before} {mid} {after} same left = subst (λ l. IsReadyLeft l after) 
 pub some_held : {o : Option Held} {range : Held} → o ≡ Some range → o ≢ None
 some_held {o} {range} is none = absurd (let z : ◌≡◌ {A = Option Held} (Some range) None = sym is ∙ none in cc)
 
+-- a seat that held nothing has linked a range in one list, and perhaps looked at another
+pub record Linking {P : Type 0} (at : ℕ) (asked : Held) (p q : SeatPart (Beside P)) : Type 0 where
+  pub later : IsLaterInLists p q
+  pub alone : HoldsAlone at asked q
+  pub ready : IsReadyLeft (shown_core p at).ready (shown_core q at).ready
+  pub only : (j : ℕ) → j ≢ at → shown_core q j ≡ shown_core p j
+  pub asks : AsksOnly asked p.trace.asked q.trace.asked
+
 -- a range that its list holds is linked in another list too, and the hand turns back
 pub record Crossing {P : Type 0} (home other : ℕ) (asked : Held) (p l t : SeatPart (Beside P)) : Type 0 where
   pub differ : home ≢ other
@@ -118,8 +129,8 @@ pub record Return {P : Type 0} (home other : ℕ) (t : SeatPart (Beside P)) (s :
 module _ {P : Type 0} where
   -- ---- calls one after another
 
-  pub lists_on : (p q r : SeatPart (Beside P)) → IsLaterInLists p q → IsLaterInLists q r → IsLaterInLists p r
-  lists_on p q r a b = record {
+  pub lists_on : {p q r : SeatPart (Beside P)} → IsLaterInLists p q → IsLaterInLists q r → IsLaterInLists p r
+  lists_on {p} {q} {r} a b = record {
     number = b.number ∙ a.number;
     seats = b.seats ∙ a.seats;
     lists = b.lists ∙ a.lists;
@@ -129,8 +140,8 @@ module _ {P : Type 0} where
   }
 
   -- a turn makes no step
-  pub turn_on : (p t : SeatPart (Beside P)) (at : ℕ) → t ≡ turned p at → IsLaterInLists p t
-  turn_on p t at is = record {
+  pub turn_on : (p : SeatPart (Beside P)) {t : SeatPart (Beside P)} {at : ℕ} → t ≡ turned p at → IsLaterInLists p t
+  turn_on p {t} {at} is = record {
     number = ap (λ (x : SeatPart (Beside P)). x.number) is;
     seats = ap (λ (x : SeatPart (Beside P)). x.seats) is;
     lists = ap (λ (x : SeatPart (Beside P)). x.pass.lists) is;
@@ -140,8 +151,8 @@ module _ {P : Type 0} where
   }
 
   -- a look makes one, and changes the standing alone
-  pub look_on : (p q : SeatPart (Beside P)) (s : Standing) → q ≡ after_look p s → IsLaterInLists p q
-  look_on p q s is = record {
+  pub look_on : (p : SeatPart (Beside P)) {q : SeatPart (Beside P)} {s : Standing} → q ≡ after_look p s → IsLaterInLists p q
+  look_on p {q} {s} is = record {
     number = ap (λ (x : SeatPart (Beside P)). x.number) is;
     seats = ap (λ (x : SeatPart (Beside P)). x.seats) is;
     lists = ap (λ (x : SeatPart (Beside P)). x.pass.lists) is;
@@ -151,24 +162,24 @@ module _ {P : Type 0} where
   }
 
   -- neither asks for a range
-  pub turn_asks : (p t : SeatPart (Beside P)) (at : ℕ) → t ≡ turned p at → t.trace.asked ≡ p.trace.asked
-  turn_asks p t at is = ap (λ (x : SeatPart (Beside P)). x.trace.asked) is
+  pub turn_asks : (p : SeatPart (Beside P)) {t : SeatPart (Beside P)} {at : ℕ} → t ≡ turned p at → t.trace.asked ≡ p.trace.asked
+  turn_asks p {t} {at} is = ap (λ (x : SeatPart (Beside P)). x.trace.asked) is
 
-  pub look_asks : (p q : SeatPart (Beside P)) (s : Standing) → q ≡ after_look p s → q.trace.asked ≡ p.trace.asked
-  look_asks p q s is = ap (λ (x : SeatPart (Beside P)). x.trace.asked) is
+  pub look_asks : (p : SeatPart (Beside P)) {q : SeatPart (Beside P)} {s : Standing} → q ≡ after_look p s → q.trace.asked ≡ p.trace.asked
+  look_asks p {q} {s} is = ap (λ (x : SeatPart (Beside P)). x.trace.asked) is
 
-  pub look_shows : (p q : SeatPart (Beside P)) (s : Standing) → q ≡ after_look p s → (j : ℕ) → shown_core q j ≡ shown_core p j
-  look_shows p q s is j = ap (λ (x : SeatPart (Beside P)). shown_core x j) is
+  pub look_shows : (p : SeatPart (Beside P)) {q : SeatPart (Beside P)} {s : Standing} → q ≡ after_look p s → (j : ℕ) → shown_core q j ≡ shown_core p j
+  look_shows p {q} {s} is j = ap (λ (x : SeatPart (Beside P)). shown_core x j) is
 
   -- what a hand holds in one list alone, it holds there however it is turned
-  pub holds_in : (at : ℕ) (asked : Held) (p : SeatPart (Beside P)) → HoldsAlone at asked p → HoldsIn at asked p
-  holds_in at asked p h =
+  pub holds_in : {at : ℕ} {asked : Held} {p : SeatPart (Beside P)} → HoldsAlone at asked p → HoldsIn at asked p
+  holds_in {at} {asked} {p} h =
       record { rests = h.rests; held = ap (λ (v : View). held_at v.own) (own_at p at h.turned) ∙ h.held; others = h.others }
 
   -- a piece of work in another list, which leaves nothing there, leaves what this list holds
-  pub holds_on : (home other : ℕ) (asked : Held) (p q : SeatPart (Beside P)) → home ≢ other → HoldsIn home asked p → IsPiece other p q
+  pub holds_on : {home other : ℕ} {asked : Held} {p q : SeatPart (Beside P)} → home ≢ other → HoldsIn home asked p → IsPiece other p q
       → q.core.own ≡ Nothing → HoldsIn home asked q
-  holds_on home other asked p q differ h piece free = record {
+  holds_on {home} {other} {asked} {p} {q} differ h piece free = record {
     rests = piece.rests;
     held = ap (λ (v : View). held_at v.own) (piece.only home differ) ∙ h.held;
     others = λ j away. dite (ℕ_discrete j other)
@@ -177,9 +188,9 @@ module _ {P : Type 0} where
   }
 
   -- and turned to that list it holds it there alone
-  pub holds_turned : (home : ℕ) (asked : Held) (p t : SeatPart (Beside P)) → t ≡ turned p home → ((j : ℕ) → shown_core t j ≡ shown_core p j)
+  pub holds_turned : {home : ℕ} {asked : Held} {p t : SeatPart (Beside P)} → t ≡ turned p home → ((j : ℕ) → shown_core t j ≡ shown_core p j)
       → IsResting t.core → HoldsIn home asked p → HoldsAlone home asked t
-  holds_turned home asked p t is stays rests h = record {
+  holds_turned {home} {asked} {p} {t} is stays rests h = record {
     rests = rests;
     turned = ap (λ (x : SeatPart (Beside P)). x.pass.list) is;
     held = ap (λ (x : SeatPart (Beside P)). held_at x.core.own) is ∙ h.held;
@@ -187,13 +198,13 @@ module _ {P : Type 0} where
   }
 
   -- a look leaves what is held
-  pub holds_looked : (home : ℕ) (asked : Held) (t h : SeatPart (Beside P)) (s : Standing) → h ≡ after_look t s → HoldsAlone home asked t
+  pub holds_looked : {home : ℕ} {asked : Held} {t h : SeatPart (Beside P)} {s : Standing} → h ≡ after_look t s → HoldsAlone home asked t
       → HoldsAlone home asked h
-  holds_looked home asked t h s is a = record {
+  holds_looked {home} {asked} {t} {h} {s} is a = record {
     rests = subst IsResting (sym (ap (λ (x : SeatPart (Beside P)). x.core) is)) a.rests;
     turned = ap (λ (x : SeatPart (Beside P)). x.pass.list) is ∙ a.turned;
     held = ap (λ (x : SeatPart (Beside P)). held_at x.core.own) is ∙ a.held;
-    others = λ j away. ap (λ (v : View). v.own) (look_shows t h s is j) ∙ a.others j away;
+    others = λ j away. ap (λ (v : View). v.own) (look_shows t is j) ∙ a.others j away;
   }
 
   -- a narrow range that its list holds may be counted, where nothing counts yet
@@ -208,15 +219,15 @@ module _ {P : Type 0} where
   }
 
   -- a piece of work after which a list holds the range, where the seat held nothing
-  pub piece_alone : (at : ℕ) (asked : Held) (p l : SeatPart (Beside P)) → IsFreeSeat p → IsPiece at p l → held_at l.core.own ≡ Some asked
+  pub piece_alone : {at : ℕ} {asked : Held} {p l : SeatPart (Beside P)} → IsFreeSeat p → IsPiece at p l → held_at l.core.own ≡ Some asked
       → HoldsAlone at asked l
-  piece_alone at asked p l free piece held =
+  piece_alone {at} {asked} {p} {l} free piece held =
       record { rests = piece.rests; turned = piece.turned; held = held; others = λ j away. ap (λ (v : View). v.own) (piece.only j away) ∙ free.free j }
 
   -- one after which that list has no node of the seat, where the others hold nothing
-  pub piece_free : (at : ℕ) (p q : SeatPart (Beside P)) → IsPiece at p q → q.core.own ≡ Nothing → q.pass.standing ≡ Free
+  pub piece_free : {at : ℕ} {p q : SeatPart (Beside P)} → IsPiece at p q → q.core.own ≡ Nothing → q.pass.standing ≡ Free
       → ((j : ℕ) → j ≢ at → (shown_core p j).own ≡ Nothing) → IsFreeSeat q
-  piece_free at p q piece free standing others = record {
+  piece_free {at} {p} {q} piece free standing others = record {
     rests = piece.rests;
     free = λ j. dite (ℕ_discrete j at)
         (λ e. ap (λ (v : View). v.own) (ap (shown_core q) e ∙ own_at q at piece.turned) ∙ free)
@@ -231,14 +242,20 @@ module _ {P : Type 0} where
       (λ e. subst (λ n. IsReadyLeft (shown_core p n).ready (shown_core q n).ready) (sym e) left)
       (λ away. inr (inl (ap (λ (v : View). v.ready) (only j away))))
 
-  -- and where two lists' went on, one after the other
+  -- where one list's went on behind that, which it left so far
+  pub ready_next : (at : ℕ) (p m q : SeatPart (Beside P)) → (shown_core m at).ready ≡ (shown_core p at).ready
+      → IsReadyLeft (shown_core m at).ready (shown_core q at).ready → ((j : ℕ) → j ≢ at → shown_core q j ≡ shown_core m j)
+      → ((j : ℕ) → IsReadyLeft (shown_core p j).ready (shown_core m j).ready) → (j : ℕ) → IsReadyLeft (shown_core p j).ready (shown_core q j).ready
+  ready_next at p m q same left only before j = dite (ℕ_discrete j at)
+      (λ e. subst (λ n. IsReadyLeft (shown_core p n).ready (shown_core q n).ready) (sym e) (ready_from same left))
+      (λ away. subst (λ (v : View). IsReadyLeft (shown_core p j).ready v.ready) (sym (only j away)) (before j))
+
+  -- and so where two lists' went on, one after the other
   pub ready_both : (home other : ℕ) (p l q : SeatPart (Beside P)) → home ≢ other → IsReadyLeft (shown_core p home).ready (shown_core l home).ready
       → ((j : ℕ) → j ≢ home → shown_core l j ≡ shown_core p j) → IsReadyLeft (shown_core l other).ready (shown_core q other).ready
       → ((j : ℕ) → j ≢ other → shown_core q j ≡ shown_core l j) → (j : ℕ) → IsReadyLeft (shown_core p j).ready (shown_core q j).ready
-  ready_both home other p l q differ left only later only_later j = dite (ℕ_discrete j other)
-      (λ e. subst (λ n. IsReadyLeft (shown_core p n).ready (shown_core q n).ready) (sym e)
-      (ready_from (ap (λ (v : View). v.ready) (only other (λ same. differ (sym same)))) later))
-      (λ away. subst (λ (v : View). IsReadyLeft (shown_core p j).ready v.ready) (sym (only_later j away)) (ready_each home p l left only j))
+  ready_both home other p l q differ left only later only_later = ready_next other p l q
+      (ap (λ (v : View). v.ready) (only other (λ same. differ (sym same)))) later only_later (ready_each home p l left only)
 
   -- where list 0 went on first, and then each other list while list 0 stayed
   pub ready_all : (p l q : SeatPart (Beside P)) → IsReadyLeft (shown_core p 0).ready (shown_core l 0).ready
@@ -265,6 +282,39 @@ module _ {P : Type 0} where
     λ l. (look ∙ (long.0 l ∙ ap (λ k. 16 * k + 1) (sym seats)), ap held_at free),
     λ s. long.1 (sym look ∙ (s.0 ∙ ap (λ k. 16 * k + 1) seats)),
   )
+
+  -- ---- a range is linked in one list, and then counted, or given back
+
+  -- the piece of work that links it
+  pub linked_in : {at : ℕ} {asked : Held} {p l : SeatPart (Beside P)} → IsFreeSeat p → IsPiece at p l → held_at l.core.own ≡ Some asked
+      → IsReadyLeft (shown_core p at).ready (shown_core l at).ready → AsksOnly asked p.trace.asked l.trace.asked → Linking at asked p l
+  linked_in {at} {asked} {p} {l} free piece held ready asks =
+      record { later = piece.later; alone = piece_alone free piece held; ready = ready; only = piece.only; asks = asks }
+
+  -- a look behind it
+  pub linked_looked : {at : ℕ} {asked : Held} {p l n : SeatPart (Beside P)} {s : Standing} → Linking at asked p l → n ≡ after_look l s → Linking at asked p n
+  linked_looked {at} {asked} {p} {l} {n} {s} way is = record {
+    later = lists_on way.later (look_on l is);
+    alone = holds_looked is way.alone;
+    ready = subst (λ (v : View). IsReadyLeft (shown_core p at).ready v.ready) (sym (look_shows l is at)) way.ready;
+    only = λ j away. look_shows l is j ∙ way.only j away;
+    asks = asks_kept way.asks (look_asks l is);
+  }
+
+  -- the cause of a refusal by what follows is one of the whole, where the list's ready nodes were left so far
+  pub cause_on : {first next : TableId} (at : ℕ) {p m : SeatPart (Beside P)} (q : SeatPart (Beside P)) → next ≡ first → IsLaterInLists p m
+      → (shown_core m at).ready ≡ (shown_core p at).ready → (asked : Held) (why : NotHeld) → IsCauseAt next at m q asked why → IsCauseAt first at p q asked why
+  cause_on {first} {next} at {p} {m} q same later ready asked why cause = subst (λ (t : TableId). IsCauseAt t at p q asked why) same
+      (cause_before (list_state next p at) (list_state next m at) (list_state next q at) later.taken later.number (λ none. sym ready ∙ none) at asked why cause)
+
+  -- and so it is behind the link of a range in another list, also once that is given back
+  pub linked_cause : {first next last : TableId} {at : ℕ} {asked : Held} {p n : SeatPart (Beside P)} → next ≡ first → last ≡ next → Linking at asked p n
+      → (i : ℕ) → i ≢ at → (s u : SeatPart (Beside P)) → KeepsCauses last at s u → (why : NotHeld) → IsCauseAt next i n s asked why
+      → IsCauseAt first i p u asked why
+  linked_cause {first} {next} {last} {at} {asked} {p} {n} same there way i away s u keeps why cause =
+      subst (λ (t : TableId). IsCauseAt t i p u asked why) (there ∙ same)
+      (keeps p i asked why away (subst (λ (t : TableId). IsCauseAt t i p s asked why) (sym (there ∙ same))
+      (cause_on i s same way.later (ap (λ (v : View). v.ready) (way.only i away)) asked why cause)))
 
   -- where the standing stays, what was passed stays passed
   pub passed_on : (c : Regions) (at : ℕ) (range : Interval) (p q : SeatPart (Beside P)) → q.pass.standing ≡ p.pass.standing
@@ -357,18 +407,17 @@ module _ {P : Type 0} where
     -- and what is so once the look is made and that node is given back
     module _ {s : Standing} {h g u : SeatPart (Beside P)} (after : Return home other t s h g u) where
       pub both_later : IsLaterInLists p u
-      both_later = lists_on p g u
-          (lists_on p h g (lists_on p t h (lists_on p l t over.link.later (turn_on l t home over.turn)) (look_on t h s after.look)) after.give.later)
-          (turn_on g u home after.turn)
+      both_later = lists_on (lists_on (lists_on (lists_on over.link.later (turn_on l over.turn)) (look_on t after.look)) after.give.later)
+          (turn_on g after.turn)
 
       -- that the link in the other list asked for this range is all
       pub both_asks : AsksOnly asked p.trace.asked l.trace.asked → g.trace.asked ≡ h.trace.asked → AsksOnly asked p.trace.asked u.trace.asked
       both_asks asks give = asks_kept asks
-          (turn_asks g u home after.turn ∙ (give ∙ (look_asks t h s after.look ∙ turn_asks l t home over.turn)))
+          (turn_asks g after.turn ∙ (give ∙ (look_asks t after.look ∙ turn_asks l over.turn)))
 
       -- each list but the other one is as it was
       pub both_only : (j : ℕ) → j ≢ other → shown_core u j ≡ shown_core p j
-      both_only j away = after.stays j ∙ (after.give.only j away ∙ (look_shows t h s after.look j ∙ (over.stays j ∙ over.link.only j away)))
+      both_only j away = after.stays j ∙ (after.give.only j away ∙ (look_shows t after.look j ∙ (over.stays j ∙ over.link.only j away)))
 
       both_free : (shown_core u other).own ≡ Nothing
       both_free = ap (λ (v : View). v.own) (after.stays other ∙ own_at g other after.give.turned) ∙ after.free
@@ -394,4 +443,4 @@ module _ {P : Type 0} where
           → IsReadyLeft (shown_core p other).ready (shown_core u other).ready
       both_ready given left = subst (IsReadyLeft (shown_core p other).ready)
           (sym (ap (λ (v : View). v.ready) (after.stays other)
-          ∙ (given ∙ ap (λ (v : View). v.ready) (look_shows t h s after.look other ∙ over.stays other)))) left
+          ∙ (given ∙ ap (λ (v : View). v.ready) (look_shows t after.look other ∙ over.stays other)))) left

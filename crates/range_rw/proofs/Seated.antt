@@ -166,6 +166,14 @@ module _ {P : Type 0} where
         one = one;
       }
 
+  -- what such a seat holds is that range, and what one holds that has none in any list is nothing
+  pub alone_grant : {at : ℕ} {range : Held} {p : SeatPart (Beside P)} → p.pass.list < p.pass.lists → HoldsAlone at range p
+      → is_counted p.pass.lists p.pass.standing p.pass.list ≡ true → (p.pass.lists ≡ 1 → p.pass.standing ≡ Free) → shown_grant p ≡ Some range
+  alone_grant {at} {range} {p} there a counts one = seated_grant p (alone_seated at range p there a counts one) ∙ a.held
+
+  pub free_grant : {p : SeatPart (Beside P)} → p.pass.list < p.pass.lists → IsFreeSeat p → shown_grant p ≡ None
+  free_grant {p} there f = seated_grant p (free_seated p there f) ∙ none_here p f
+
   -- a seat that holds nothing, outside its epoch, holds nothing in any list
   pub seated_free : (p q : SeatPart (Beside P)) → IsSeated p → held_at p.core.own ≡ None → q.pass ≡ p.pass → q.core.own ≡ Nothing → IsResting q.core
       → IsFreeSeat q

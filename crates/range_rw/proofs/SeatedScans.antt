@@ -95,7 +95,7 @@ module _ {P : Type 0} where
 
   pub scan_on : (p q r : SeatPart (Beside P)) → IsScanLater p q → IsScanLater q r → IsScanLater p r
   scan_on p q r a b = record {
-    later = lists_on p q r a.later b.later;
+    later = lists_on a.later b.later;
     asked = b.asked ∙ a.asked;
     seat = b.seat;
     ready = λ j. b.ready j ∙ a.ready j;
@@ -135,8 +135,8 @@ module _ {P : Type 0} where
       let lists : t.pass.lists ≡ p.pass.lists = ap (λ (x : SeatPart (Beside P)). x.pass.lists) is in
       let free : (j : ℕ) → (shown_core t j).own ≡ Nothing = λ j. ap (λ (v : View). v.own) (stays j) ∙ s.free j in
       record {
-        later = turn_on p t at is;
-        asked = turn_asks p t at is;
+        later = turn_on p is;
+        asked = turn_asks p is;
         seat = record {
           within = omega arith;
           between = bare_between t.core (ap (λ (v : View). v.own) (sym (own_at t t.pass.list refl)) ∙ free t.pass.list) rests.hand (inl rests.cursor);

@@ -14,12 +14,11 @@ count_narrow-requires-clause-may g c = may_count c.args.list.now.cut c.args.at (
 
 -- the look leaves the seat the same
 pub returns-then-count_narrow-clause-later : goal.returns-then-count_narrow-clause-later
-returns-then-count_narrow-clause-later g c = look_on c.args.hand.now.part c.count_narrow.new.hand.part _ c.count_narrow.ensures.part
+returns-then-count_narrow-clause-later g c = look_on c.args.hand.now.part c.count_narrow.ensures.part
 
 -- and what it holds
 pub returns-then-count_narrow-clause-held : goal.returns-then-count_narrow-clause-held
-returns-then-count_narrow-clause-held g c = holds_looked c.args.at (record { range = c.args.range; mode = c.args.mode }) c.args.hand.now.part
-    c.count_narrow.new.hand.part _ c.count_narrow.ensures.part c.requires.holds
+returns-then-count_narrow-clause-held g c = holds_looked c.count_narrow.ensures.part c.requires.holds
 
 -- which counts, since it found list 0 empty
 pub returns-then-count_narrow-clause-counts : goal.returns-then-count_narrow-clause-counts
@@ -29,7 +28,7 @@ returns-then-count_narrow-clause-counts g c = ap (λ (x : SeatPart _). x.pass.st
 
 -- no list has changed
 pub returns-then-count_narrow-clause-only : goal.returns-then-count_narrow-clause-only
-returns-then-count_narrow-clause-only g c = λ j _ _. look_shows c.args.hand.now.part c.count_narrow.new.hand.part _ c.count_narrow.ensures.part j
+returns-then-count_narrow-clause-only g c = λ j _ _. look_shows c.args.hand.now.part c.count_narrow.ensures.part j
 
 -- the look is one step
 pub returns-then-count_narrow-clause-bound : goal.returns-then-count_narrow-clause-bound
@@ -40,14 +39,12 @@ pub count_swept-requires-clause-several : goal.count_swept-requires-clause-sever
 count_swept-requires-clause-several g c = (
   c.requires.several.0,
   (let a = c.requires.several.1 in
-      let e = (look_on c.args.hand.now.part c.count_narrow.new.hand.part _ c.count_narrow.ensures.part).lists in omega arith),
+      let e = (look_on c.args.hand.now.part c.count_narrow.ensures.part).lists in omega arith),
 )
 
 -- the range is held
 pub count_swept-requires-clause-holds : goal.count_swept-requires-clause-holds
-count_swept-requires-clause-holds g c = holds_in c.args.at (record { range = c.args.range; mode = c.args.mode }) c.count_narrow.new.hand.part
-    (holds_looked c.args.at (record { range = c.args.range; mode = c.args.mode }) c.args.hand.now.part c.count_narrow.new.hand.part _
-    c.count_narrow.ensures.part c.requires.holds)
+count_swept-requires-clause-holds g c = holds_in (holds_looked c.count_narrow.ensures.part c.requires.holds)
 
 -- and nothing counts
 pub count_swept-requires-clause-free : goal.count_swept-requires-clause-free
@@ -56,13 +53,12 @@ count_swept-requires-clause-free g c = ap (λ (x : SeatPart _). x.pass.standing)
 
 -- the seat is the same
 pub returns-in-Ok-clause-later : goal.returns-in-Ok-clause-later
-returns-in-Ok-clause-later g c = lists_on c.args.hand.now.part c.count_narrow.new.hand.part c.count_swept.new.hand.part
-    (look_on c.args.hand.now.part c.count_narrow.new.hand.part _ c.count_narrow.ensures.part) c.count_swept.ensures.later
+returns-in-Ok-clause-later g c = lists_on (look_on c.args.hand.now.part c.count_narrow.ensures.part) c.count_swept.ensures.later
 
 -- no list but list 0 has changed
 pub returns-in-Ok-clause-only : goal.returns-in-Ok-clause-only
 returns-in-Ok-clause-only g c = λ j _ none. c.count_swept.ensures.only j none
-    ∙ look_shows c.args.hand.now.part c.count_narrow.new.hand.part _ c.count_narrow.ensures.part j
+    ∙ look_shows c.args.hand.now.part c.count_narrow.ensures.part j
 
 -- the steps of the looks
 pub returns-in-Ok-clause-bound : goal.returns-in-Ok-clause-bound
@@ -74,7 +70,7 @@ returns-in-Ok-clause-bound g c =
 -- there is the list that holds the range
 pub give_piece-requires-clause-there : goal.give_piece-requires-clause-there
 give_piece-requires-clause-there g c =
-    let l = (look_on c.args.hand.now.part c.count_narrow.new.hand.part _ c.count_narrow.ensures.part).lists in
+    let l = (look_on c.args.hand.now.part c.count_narrow.ensures.part).lists in
     let e = c.count_swept.ensures.later.lists in let a = c.requires.several.1 in omega arith
 
 -- the hand rests
@@ -90,26 +86,25 @@ pub give_piece-requires-clause-beside : goal.give_piece-requires-clause-beside
 give_piece-requires-clause-beside g c =
     ap (λ s. is_counted c.count_swept.new.hand.part.pass.lists s c.args.at) c.in-Err.ensures.holds.1
     ∙ free_beside c.count_swept.new.hand.part.pass.lists c.args.at
-    (λ one. let l = (look_on c.args.hand.now.part c.count_narrow.new.hand.part _ c.count_narrow.ensures.part).lists in
+    (λ one. let l = (look_on c.args.hand.now.part c.count_narrow.ensures.part).lists in
     let e = c.count_swept.ensures.later.lists in let a = c.requires.several.0 in let b = c.requires.several.1 in omega arith)
 
 -- the seat is the same after it has given its node back
 pub returns-in-Err-clause-later : goal.returns-in-Err-clause-later
-returns-in-Err-clause-later g c = lists_on c.args.hand.now.part c.count_swept.new.hand.part c.give_piece.new.hand.part
-    (lists_on c.args.hand.now.part c.count_narrow.new.hand.part c.count_swept.new.hand.part
-    (look_on c.args.hand.now.part c.count_narrow.new.hand.part _ c.count_narrow.ensures.part) c.count_swept.ensures.later)
+returns-in-Err-clause-later g c = lists_on (lists_on
+    (look_on c.args.hand.now.part c.count_narrow.ensures.part) c.count_swept.ensures.later)
     c.give_piece.ensures.piece.later
 
 -- and holds nothing
 pub returns-in-Err-clause-free : goal.returns-in-Err-clause-free
-returns-in-Err-clause-free g c = piece_free c.args.at c.count_swept.new.hand.part c.give_piece.new.hand.part c.give_piece.ensures.piece
+returns-in-Err-clause-free g c = piece_free c.give_piece.ensures.piece
     c.give_piece.ensures.free (c.give_piece.ensures.standing ∙ ap (λ s. standing_back s c.args.at) c.in-Err.ensures.holds.1)
     c.in-Err.ensures.holds.0.others
 
 -- no list but this one and list 0 has changed
 pub returns-in-Err-clause-only : goal.returns-in-Err-clause-only
 returns-in-Err-clause-only g c = λ j away none. c.give_piece.ensures.piece.only j away ∙ (c.count_swept.ensures.only j none
-    ∙ look_shows c.args.hand.now.part c.count_narrow.new.hand.part _ c.count_narrow.ensures.part j)
+    ∙ look_shows c.args.hand.now.part c.count_narrow.ensures.part j)
 
 -- the steps of the looks and of giving back
 pub returns-in-Err-clause-bound : goal.returns-in-Err-clause-bound

@@ -14,7 +14,7 @@ link_patiently-requires-clause-free g c = c.requires.free.free c.args.at
 
 -- a refused link leaves nothing held
 pub returns-in-Err-clause-free : goal.returns-in-Err-clause-free
-returns-in-Err-clause-free g c = piece_free c.args.at c.args.hand.now.part c.link_patiently.new.hand.part c.link_patiently.ensures.piece
+returns-in-Err-clause-free g c = piece_free c.link_patiently.ensures.piece
     c.in-Err.ensures.free (c.link_patiently.ensures.standing ∙ c.requires.free.standing) (λ j away. c.requires.free.free j)
 
 -- the seat is the same
@@ -33,8 +33,7 @@ count_or_give-requires-clause-several g c =
 
 -- the range is held
 pub count_or_give-requires-clause-holds : goal.count_or_give-requires-clause-holds
-count_or_give-requires-clause-holds g c = piece_alone c.args.at (record { range = c.args.range; mode = c.args.mode }) c.args.hand.now.part
-    c.link_patiently.new.hand.part c.requires.free c.link_patiently.ensures.piece c.in-Ok.ensures.held
+count_or_give-requires-clause-holds g c = piece_alone c.requires.free c.link_patiently.ensures.piece c.in-Ok.ensures.held
 
 -- and nothing counts
 pub count_or_give-requires-clause-free : goal.count_or_give-requires-clause-free
@@ -42,12 +41,10 @@ count_or_give-requires-clause-free g c = c.link_patiently.ensures.standing ∙ c
 
 -- the seat is the same
 pub returns-in-Ok-count_or_give-clause-later : goal.returns-in-Ok-count_or_give-clause-later
-returns-in-Ok-count_or_give-clause-later g c = lists_on c.args.hand.now.part c.link_patiently.new.hand.part c.count_or_give.new.hand.part
-    c.link_patiently.ensures.piece.later c.count_or_give.ensures.later
+returns-in-Ok-count_or_give-clause-later g c = lists_on c.link_patiently.ensures.piece.later c.count_or_give.ensures.later
 
 pub returns-in-Err-count_or_give-clause-later : goal.returns-in-Err-count_or_give-clause-later
-returns-in-Err-count_or_give-clause-later g c = lists_on c.args.hand.now.part c.link_patiently.new.hand.part c.count_or_give.new.hand.part
-    c.link_patiently.ensures.piece.later c.count_or_give.ensures.later
+returns-in-Err-count_or_give-clause-later g c = lists_on c.link_patiently.ensures.piece.later c.count_or_give.ensures.later
 
 -- no list but this one and list 0 has changed
 pub returns-in-Ok-count_or_give-clause-only : goal.returns-in-Ok-count_or_give-clause-only

@@ -17,7 +17,7 @@ link_patiently-requires-clause-free g c = c.requires.free.free 0
 
 -- a refused link leaves nothing held
 pub returns-in-Err-clause-free : goal.returns-in-Err-clause-free
-returns-in-Err-clause-free g c = piece_free 0 c.args.hand.now.part c.link_patiently.new.hand.part c.link_patiently.ensures.piece c.in-Err.ensures.free
+returns-in-Err-clause-free g c = piece_free c.link_patiently.ensures.piece c.in-Err.ensures.free
     (c.link_patiently.ensures.standing ∙ c.requires.free.standing) (λ j away. c.requires.free.free j)
 
 -- the seat is the same
@@ -38,8 +38,7 @@ returns-in-Err-pass_patiently-clause-only g c = λ j none. c.give_piece.ensures.
 
 -- the range is held in list 0
 pub pass_patiently-requires-clause-holds : goal.pass_patiently-requires-clause-holds
-pass_patiently-requires-clause-holds g c = piece_alone 0 (record { range = c.args.range; mode = c.args.mode }) c.args.hand.now.part
-    c.link_patiently.new.hand.part c.requires.free c.link_patiently.ensures.piece c.in-Ok.ensures.held
+pass_patiently-requires-clause-holds g c = piece_alone c.requires.free c.link_patiently.ensures.piece c.in-Ok.ensures.held
 
 -- there are that many lists still
 pub pass_patiently-requires-clause-lists : goal.pass_patiently-requires-clause-lists
@@ -51,8 +50,7 @@ pass_patiently-requires-clause-free g c = c.link_patiently.ensures.standing ∙ 
 
 -- the seat is the same
 pub returns-in-Ok-pass_patiently-clause-later : goal.returns-in-Ok-pass_patiently-clause-later
-returns-in-Ok-pass_patiently-clause-later g c = lists_on c.args.hand.now.part c.link_patiently.new.hand.part c.pass_patiently.new.hand.part
-    c.link_patiently.ensures.piece.later c.pass_patiently.ensures.later
+returns-in-Ok-pass_patiently-clause-later g c = lists_on c.link_patiently.ensures.piece.later c.pass_patiently.ensures.later
 
 -- there is the list that holds the range
 pub give_piece-requires-clause-there : goal.give_piece-requires-clause-there
@@ -74,13 +72,12 @@ give_piece-requires-clause-beside g c = c.in-Err-pass_patiently.ensures.holds.1
 
 -- the seat is the same after it has given its node back
 pub returns-in-Err-pass_patiently-clause-later : goal.returns-in-Err-pass_patiently-clause-later
-returns-in-Err-pass_patiently-clause-later g c = lists_on c.args.hand.now.part c.pass_patiently.new.hand.part c.give_piece.new.hand.part
-    (lists_on c.args.hand.now.part c.link_patiently.new.hand.part c.pass_patiently.new.hand.part c.link_patiently.ensures.piece.later
+returns-in-Err-pass_patiently-clause-later g c = lists_on (lists_on c.link_patiently.ensures.piece.later
     c.pass_patiently.ensures.later) c.give_piece.ensures.piece.later
 
 -- and holds nothing
 pub returns-in-Err-pass_patiently-clause-free : goal.returns-in-Err-pass_patiently-clause-free
-returns-in-Err-pass_patiently-clause-free g c = piece_free 0 c.pass_patiently.new.hand.part c.give_piece.new.hand.part c.give_piece.ensures.piece
+returns-in-Err-pass_patiently-clause-free g c = piece_free c.give_piece.ensures.piece
     c.give_piece.ensures.free (c.give_piece.ensures.standing ∙ c.in-Err-pass_patiently.ensures.back) c.in-Err-pass_patiently.ensures.holds.0.others
 
 -- both parts ask for the range alone

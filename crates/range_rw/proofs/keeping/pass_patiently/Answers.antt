@@ -67,7 +67,7 @@ all-preserved-in-Ok g c =
       lists = (i.lists.0 ∙ sym c.pass_one.ensures.later.lists, i.lists.1);
       low = let a = i.low in let b = c.next_taken-up.ensures.from in omega arith;
       most = let f = i.lists.1 in let m = ap list_count i.cut in let n = c.next_taken-up.ensures.most in omega arith;
-      later = lists_on c.args.hand.now.part c.all.hand.part c.pass_one.new.hand.part i.later c.pass_one.ensures.later;
+      later = lists_on i.later c.pass_one.ensures.later;
       asks = asks_on i.asks c.pass_one.ensures.asks;
       alone = c.in-Ok.ensures.held;
       passed = inr c.in-Ok.ensures.passed;
@@ -98,9 +98,9 @@ all-preserved g c =
       lists = (i.lists.0 ∙ (sym c.pass_one.ensures.later.lists ∙ sym (ap (λ (x : SeatPart _). x.pass.lists) c.turn.ensures.part)), i.lists.1);
       low = i.low;
       most = i.most;
-      later = lists_on c.args.hand.now.part p t i.later (lists_on p q t c.pass_one.ensures.later (turn_on q t 0 c.turn.ensures.part));
+      later = lists_on i.later (lists_on c.pass_one.ensures.later (turn_on q c.turn.ensures.part));
       asks = asks_kept (asks_on i.asks c.pass_one.ensures.asks) (ap (λ (x : SeatPart _). x.trace.asked) c.turn.ensures.part);
-      alone = holds_turned 0 (record { range = c.args.range; mode = c.args.mode }) q t c.turn.ensures.part c.turn.ensures.stays c.turn.ensures.rests
+      alone = holds_turned c.turn.ensures.part c.turn.ensures.stays c.turn.ensures.rests
           c.in-Err.ensures.holds.0;
       passed = passed_on c.args.list.now.cut c.all.at c.args.range p t
           (ap (λ (x : SeatPart _). x.pass.standing) c.turn.ensures.part ∙ c.in-Err.ensures.holds.1) i.passed;

@@ -1,12 +1,25 @@
-use Rattle.std.proofs.Common.{◌≡◌, ◌≢◌, ◌+◌, ◌*◌, inl, inr, refl, sym, ap, ◌∙◌, subst, arith}
-use Rattle.lock_core.specs.declared.views.View.{View}
-use Rattle.range_rw.specs.Contract.{IsListCause}
-use Rattle.range_rw.specs.Several.{list_state}
+use Rattle.std.proofs.Common.{◌+◌, ◌*◌, ℕ, inl, inr, refl, sym, ap, ◌∙◌, arith}
+use Rattle.epoch_pools.specs.Beside.{shown_core}
+use Rattle.range_rw.specs.Contract.{IsReadyLeft}
+use Rattle.range_rw.specs.Several.{IsLaterInLists}
 use Rattle.range_rw.proofs.Asking.{asks_on, asks_kept}
-use Rattle.range_rw.proofs.Pieces.{cause_before}
-use Rattle.range_rw.proofs.Moves.{lists_on, some_held}
-use Rattle.range_rw.proofs.Moves.{piece_alone, piece_free, ready_each, ready_all, ready_kept, spent_kept}
+use Rattle.range_rw.proofs.Moves.{Linking, linked_in, linked_cause, lists_on, some_held, piece_alone, piece_free, ready_each, ready_all, ready_kept, spent_kept}
+use Rattle.range_rw.proofs.several.hold_wide.Given.{Over}
+use Rattle.range_rw.proofs.several.hold_wide.Goals.{After-pass_all}
 use Rattle.range_rw.proofs.several.hold_wide.Goals as goal
+
+-- list 0 holds the range
+way : (g : Over) (c : After-pass_all g) → Linking 0 (record { range = c.args.range; mode = c.args.mode }) c.args.hand.now.part c.link_piece.new.hand.part
+way g c = linked_in c.requires.free c.link_piece.ensures.piece c.in-Ok.ensures.held c.link_piece.ensures.ready c.link_piece.ensures.asks
+
+-- what follows goes on in the others
+on : (g : Over) (c : After-pass_all g) → IsLaterInLists c.args.hand.now.part c.pass_all.new.hand.part
+on g c = lists_on c.link_piece.ensures.piece.later c.pass_all.ensures.later
+
+-- each list's ready nodes are as before or without the first
+ready : (g : Over) (c : After-pass_all g) (j : ℕ) → IsReadyLeft (shown_core c.args.hand.now.part j).ready (shown_core c.pass_all.new.hand.part j).ready
+ready g c = ready_all c.args.hand.now.part c.link_piece.new.hand.part c.pass_all.new.hand.part c.link_piece.ensures.ready
+    c.link_piece.ensures.piece.only c.pass_all.ensures.ready c.pass_all.ensures.first
 
 -- the hand rests
 pub link_piece-requires-clause-resting : goal.link_piece-requires-clause-resting
@@ -22,7 +35,7 @@ link_piece-requires-clause-free g c = c.requires.free.free 0
 
 -- a refused link leaves nothing held
 pub returns-in-Err-clause-free : goal.returns-in-Err-clause-free
-returns-in-Err-clause-free g c = piece_free 0 c.args.hand.now.part c.link_piece.new.hand.part c.link_piece.ensures.piece c.in-Err.ensures.free
+returns-in-Err-clause-free g c = piece_free c.link_piece.ensures.piece c.in-Err.ensures.free
     (c.link_piece.ensures.standing ∙ c.requires.free.standing) (λ j away. c.requires.free.free j)
 
 -- the seat is the same
@@ -59,8 +72,7 @@ returns-in-Err-clause-each g c = λ k _. let a = c.link_piece.ensures.bound in o
 
 -- the range is held in list 0
 pub pass_all-requires-clause-holds : goal.pass_all-requires-clause-holds
-pass_all-requires-clause-holds g c = (piece_alone 0 (record { range = c.args.range; mode = c.args.mode }) c.args.hand.now.part c.link_piece.new.hand.part
-    c.requires.free c.link_piece.ensures.piece c.in-Ok.ensures.held)
+pass_all-requires-clause-holds g c = piece_alone c.requires.free c.link_piece.ensures.piece c.in-Ok.ensures.held
 
 -- there are that many lists still
 pub pass_all-requires-clause-lists : goal.pass_all-requires-clause-lists
@@ -72,13 +84,11 @@ pass_all-requires-clause-free g c = (c.link_piece.ensures.standing ∙ c.require
 
 -- the seat is the same
 pub returns-in-Ok-pass_all-clause-later : goal.returns-in-Ok-pass_all-clause-later
-returns-in-Ok-pass_all-clause-later g c = lists_on c.args.hand.now.part c.link_piece.new.hand.part c.pass_all.new.hand.part
-    (c.link_piece.ensures.piece.later) c.pass_all.ensures.later
+returns-in-Ok-pass_all-clause-later g c = on g (goal.at.returns-in-Ok-pass_all-clause-later g c).After-pass_all
 
 -- each list's ready nodes are as before or without the first
 pub returns-in-Ok-pass_all-clause-ready : goal.returns-in-Ok-pass_all-clause-ready
-returns-in-Ok-pass_all-clause-ready g c = ready_all c.args.hand.now.part c.link_piece.new.hand.part c.pass_all.new.hand.part c.link_piece.ensures.ready
-    c.link_piece.ensures.piece.only c.pass_all.ensures.ready c.pass_all.ensures.first
+returns-in-Ok-pass_all-clause-ready g c = ready g (goal.at.returns-in-Ok-pass_all-clause-ready g c).After-pass_all
 
 -- the steps of the link and the looks
 pub returns-in-Ok-pass_all-clause-each : goal.returns-in-Ok-pass_all-clause-each
@@ -93,8 +103,8 @@ returns-in-Ok-pass_all-clause-counted g c =
 
 -- there is the list that holds the range
 pub give_up-requires-clause-there : goal.give_up-requires-clause-there
-give_up-requires-clause-there g c = let e = (lists_on c.args.hand.now.part c.link_piece.new.hand.part c.pass_all.new.hand.part
-    (c.link_piece.ensures.piece.later) c.pass_all.ensures.later).lists in
+give_up-requires-clause-there g c =
+    let e = (on g (goal.at.give_up-requires-clause-there g c).After-pass_all).lists in
     let r = c.requires.regions in let x = c.requires.lists.0 in let y = c.requires.lists.1 in omega arith
 
 -- the hand rests
@@ -111,20 +121,17 @@ give_up-requires-clause-beside g c = c.in-Err-pass_all.ensures.holds.1
 
 -- the seat is the same after it has given up
 pub returns-in-Err-pass_all-clause-later : goal.returns-in-Err-pass_all-clause-later
-returns-in-Err-pass_all-clause-later g c = lists_on c.args.hand.now.part c.pass_all.new.hand.part c.give_up.new.hand.part (lists_on c.args.hand.now.part
-    c.link_piece.new.hand.part c.pass_all.new.hand.part (c.link_piece.ensures.piece.later) c.pass_all.ensures.later) c.give_up.ensures.piece.later
+returns-in-Err-pass_all-clause-later g c = lists_on (on g (goal.at.returns-in-Err-pass_all-clause-later g c).After-pass_all) c.give_up.ensures.piece.later
 
 -- and holds nothing
 pub returns-in-Err-pass_all-clause-free : goal.returns-in-Err-pass_all-clause-free
-returns-in-Err-pass_all-clause-free g c = piece_free 0 c.pass_all.new.hand.part c.give_up.new.hand.part c.give_up.ensures.piece c.give_up.ensures.free
+returns-in-Err-pass_all-clause-free g c = piece_free c.give_up.ensures.piece c.give_up.ensures.free
     (c.give_up.ensures.standing ∙ c.in-Err-pass_all.ensures.back) c.in-Err-pass_all.ensures.holds.0.others
 
 -- each list's ready nodes are as before or without the first
 pub returns-in-Err-pass_all-clause-ready : goal.returns-in-Err-pass_all-clause-ready
-returns-in-Err-pass_all-clause-ready g c = ready_kept 0 c.args.hand.now.part c.pass_all.new.hand.part c.give_up.new.hand.part (ready_all
-    c.args.hand.now.part c.link_piece.new.hand.part c.pass_all.new.hand.part c.link_piece.ensures.ready c.link_piece.ensures.piece.only
-    c.pass_all.ensures.ready c.pass_all.ensures.first)
-    c.give_up.ensures.ready c.give_up.ensures.piece.only
+returns-in-Err-pass_all-clause-ready g c = ready_kept 0 c.args.hand.now.part c.pass_all.new.hand.part c.give_up.new.hand.part
+    (ready g (goal.at.returns-in-Err-pass_all-clause-ready g c).After-pass_all) c.give_up.ensures.ready c.give_up.ensures.piece.only
 
 -- Long comes exactly where the last walk is spent
 pub returns-in-Err-pass_all-clause-long : goal.returns-in-Err-pass_all-clause-long
@@ -147,38 +154,12 @@ returns-in-Err-pass_all-clause-counted g c =
 -- what refused it in a list refuses the call, and is still in the record
 pub returns-in-Err-pass_all-clause-cause : goal.returns-in-Err-pass_all-clause-cause
 returns-in-Err-pass_all-clause-cause g c =
-    let x = c.in-Err-pass_all.ensures.cause in
-    let later = c.link_piece.ensures.piece.later in
-    let there : c.pass_all.new.hand.table ≡ c.args.hand.now.table = c.pass_all.ensures.table ∙ c.link_piece.ensures.table in
-    let none : x.0 ≢ 0 = λ e. let a = x.1 in omega arith in
-    let ready = ap (λ (v : View). v.ready) (c.link_piece.ensures.piece.only x.0 none) in
-    let first : IsListCause x.0 (list_state c.args.hand.now.table c.args.hand.now.part x.0)
-    (list_state c.args.hand.now.table c.pass_all.new.hand.part x.0) (record
-    { range = c.args.range; mode = c.args.mode }) c.in-Err-pass_all.why =
-    subst (λ t. IsListCause x.0 (list_state t c.args.hand.now.part x.0) (list_state t c.pass_all.new.hand.part x.0) (record {
-      range = c.args.range;
-      mode =
-          c.args.mode;
-    }) c.in-Err-pass_all.why) c.link_piece.ensures.table
-    (cause_before (list_state c.link_piece.new.hand.table c.args.hand.now.part x.0) (list_state c.link_piece.new.hand.table c.link_piece.new.hand.part x.0)
-    (list_state c.link_piece.new.hand.table c.pass_all.new.hand.part x.0) later.taken later.number (λ e. sym ready ∙ e) x.0 (record {
-      range = c.args.range;
-      mode = c.args.mode;
-    }) c.in-Err-pass_all.why x.4) in (
+    let x = c.in-Err-pass_all.ensures.cause in (
       x.0,
-      (let a = x.2 in let e = later.lists in omega arith),
+      (let a = x.2 in let e = c.link_piece.ensures.piece.later.lists in omega arith),
       inr x.3,
-      subst (λ t. IsListCause x.0 (list_state t c.args.hand.now.part x.0) (list_state t c.give_up.new.hand.part x.0) (record {
-        range = c.args.range;
-        mode =
-            c.args.mode;
-      }) c.in-Err-pass_all.why) there
-          (c.give_up.ensures.causes c.args.hand.now.part x.0 (record { range = c.args.range; mode = c.args.mode }) c.in-Err-pass_all.why none
-          (subst (λ t. IsListCause x.0 (list_state t c.args.hand.now.part x.0) (list_state t c.pass_all.new.hand.part x.0) (record {
-            range = c.args.range;
-            mode =
-                c.args.mode;
-          }) c.in-Err-pass_all.why) (sym there) first)),
+      linked_cause c.link_piece.ensures.table c.pass_all.ensures.table (way g (goal.at.returns-in-Err-pass_all-clause-cause g c).After-pass_all) x.0
+          (λ e. let a = x.1 in omega arith) c.pass_all.new.hand.part c.give_up.new.hand.part c.give_up.ensures.causes c.in-Err-pass_all.why x.4,
     )
 
 -- link and looks ask for the range alone

@@ -84,7 +84,7 @@ give_piece-requires-clause-resting g c = subst (λ (x : SeatPart _). IsResting x
 -- the other list holds the range
 pub give_piece-requires-clause-holds : goal.give_piece-requires-clause-holds
 give_piece-requires-clause-holds g c = some_held
-    (ap (λ (v : View). held_at v.own) (look_shows c.turn.new.self.part c.look_held.new.hand.part _ c.look_held.ensures.part c.args.at)
+    (ap (λ (v : View). held_at v.own) (look_shows c.turn.new.self.part c.look_held.ensures.part c.args.at)
     ∙ both_other (over g (goal.at.give_piece-requires-clause-holds g c).After-turn))
 
 -- and it doesn't count through that list
@@ -148,8 +148,7 @@ returns-in-Ok-clause-counted g c =
 -- after a refusal the range is still held, and nothing more stands for it
 pub returns-in-Err-clause-holds : goal.returns-in-Err-clause-holds
 returns-in-Err-clause-holds g c = (
-  holds_on c.args.own c.args.at (record { range = c.args.range; mode = c.args.mode }) c.args.hand.now.part c.link_piece.new.hand.part
-      (λ e. due_differ c.requires.due (sym e)) c.requires.holds c.link_piece.ensures.piece c.in-Err.ensures.free,
+  holds_on (λ e. due_differ c.requires.due (sym e)) c.requires.holds c.link_piece.ensures.piece c.in-Err.ensures.free,
   c.link_piece.ensures.standing,
 )
 

@@ -1,13 +1,11 @@
-use Rattle.std.proofs.Common.{◌≡◌, Bool, inl, inr, sym, ap, ◌∙◌, subst, arith}
+use Rattle.std.proofs.Common.{Bool, inl, inr, sym, ap, ◌∙◌, arith}
 use Rattle.lock_core.specs.Machine.{held_at}
 use Rattle.epoch_pools.specs.declared.views.SeatPart.{SeatPart}
 use Rattle.epoch_pools.specs.Passing.{standing_by}
-use Rattle.range_rw.specs.Contract.{IsListCause}
-use Rattle.range_rw.specs.Several.{list_state}
 use Rattle.range_rw.specs.Looks.{standing_for}
 use Rattle.range_rw.proofs.Asking.{asks_stay, asks_from}
-use Rattle.range_rw.proofs.Pieces.{err_on, cause_before}
-use Rattle.range_rw.proofs.Moves.{lists_on, holds_in, holds_on, ready_from}
+use Rattle.range_rw.proofs.Pieces.{err_on}
+use Rattle.range_rw.proofs.Moves.{cause_on, lists_on, holds_in, holds_on, ready_from}
 use Rattle.range_rw.proofs.Dues.{due_differ, due_there, due_own, due_on, may_look, Swept, swept_alone, swept_lists, swept_standing}
 use Rattle.range_rw.proofs.Dues.{looked_later, looked_alone, looked_only, looked_ready, looked_asks}
 use Rattle.range_rw.proofs.several.look_swept.Given.{Over}
@@ -105,13 +103,11 @@ link_in_both-requires-clause-due g c =
 
 -- and the range is held
 pub link_in_both-requires-clause-holds : goal.link_in_both-requires-clause-holds
-link_in_both-requires-clause-holds g c = holds_in c.args.own (record { range = c.args.range; mode = c.args.mode }) c.look.new.hand.part
-    (looked_alone (swept g (goal.at.link_in_both-requires-clause-holds g c).After-turn) c.look.ensures.part)
+link_in_both-requires-clause-holds g c = holds_in (looked_alone (swept g (goal.at.link_in_both-requires-clause-holds g c).After-turn) c.look.ensures.part)
 
 -- the seat is the same after the link in the other list
 pub returns-clause-later : goal.returns-clause-later
-returns-clause-later g c = lists_on c.args.hand.now.part c.look.new.hand.part c.link_in_both.new.hand.part
-    (looked_later (swept g (goal.at.returns-clause-later g c).After-turn) c.look.ensures.part) c.link_in_both.ensures.later
+returns-clause-later g c = lists_on (looked_later (swept g (goal.at.returns-clause-later g c).After-turn) c.look.ensures.part) c.link_in_both.ensures.later
 
 -- after a refusal there too it stands as it stood
 pub returns-clause-holds : goal.returns-clause-holds
@@ -138,16 +134,9 @@ returns-clause-only g c = λ j away. c.link_in_both.ensures.only j away
 pub returns-clause-cause : goal.returns-clause-cause
 returns-clause-cause g c =
     let way = swept g (goal.at.returns-clause-cause g c).After-turn in
-    let later = looked_later way c.look.ensures.part in
-    let same : c.look.new.hand.table ≡ c.args.hand.now.table = c.look.ensures.table ∙ (c.turn.ensures.table ∙ c.sweep_piece.ensures.table) in
-    err_on _ _ c.link_in_both.result
-    (λ why cause. subst (λ n. IsListCause c.args.at (list_state n c.args.hand.now.part c.args.at) (list_state n c.link_in_both.new.hand.part c.args.at)
-    (record { range = c.args.range; mode = c.args.mode }) why) same
-    (cause_before (list_state c.look.new.hand.table c.args.hand.now.part c.args.at) (list_state c.look.new.hand.table c.look.new.hand.part c.args.at)
-    (list_state c.look.new.hand.table c.link_in_both.new.hand.part c.args.at)
-    later.taken later.number (λ none. sym (looked_ready way c.look.ensures.part c.sweep_piece.ensures.ready) ∙ none) c.args.at
-    (record { range = c.args.range; mode = c.args.mode }) why cause))
-    c.link_in_both.ensures.cause
+    err_on _ _ c.link_in_both.result (cause_on c.args.at c.link_in_both.new.hand.part
+    (c.look.ensures.table ∙ (c.turn.ensures.table ∙ c.sweep_piece.ensures.table)) (looked_later way c.look.ensures.part)
+    (looked_ready way c.look.ensures.part c.sweep_piece.ensures.ready) (record { range = c.args.range; mode = c.args.mode })) c.link_in_both.ensures.cause
 
 -- the steps of all of these
 pub returns-clause-bound : goal.returns-clause-bound
@@ -174,8 +163,7 @@ returns-clause-asks g c = asks_from (looked_asks (swept g (goal.at.returns-claus
 -- after a refused sweep the range is still held, and stands as it stood
 pub returns-in-Err-clause-holds : goal.returns-in-Err-clause-holds
 returns-in-Err-clause-holds g c = (
-  holds_on c.args.own c.args.at (record { range = c.args.range; mode = c.args.mode }) c.args.hand.now.part c.sweep_piece.new.hand.part
-      (λ e. due_differ c.requires.due (sym e)) c.requires.holds c.sweep_piece.ensures.piece c.sweep_piece.ensures.free,
+  holds_on (λ e. due_differ c.requires.due (sym e)) c.requires.holds c.sweep_piece.ensures.piece c.sweep_piece.ensures.free,
   c.sweep_piece.ensures.standing,
 )
 

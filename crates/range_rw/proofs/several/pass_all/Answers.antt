@@ -4,15 +4,12 @@ use Rattle.std.proofs.Math.Nat.{mul-suc}
 use mathlib.Core.Logic.{dite}
 use native.Mathlib.Decide.{ℕ_discrete}
 use Rattle.lock_core.specs.declared.views.View.{View}
-use Rattle.epoch_pools.specs.Beside.{shown_core}
-use Rattle.range_rw.specs.Contract.{IsReadyLeft, IsListCause}
 use Rattle.list_cuts.specs.Cut.{list_count, Takes}
 use Rattle.epoch_pools.specs.declared.views.Standing.TheVariants.{Wide}
 use Rattle.epoch_pools.specs.Standings.{is_counted, standing_back}
-use Rattle.range_rw.specs.Several.{list_state, TakesNone}
+use Rattle.range_rw.specs.Several.{TakesNone}
 use Rattle.range_rw.proofs.Asking.{asks_stay, asks_on}
-use Rattle.range_rw.proofs.Pieces.{cause_before}
-use Rattle.range_rw.proofs.Moves.{lists_on, ready_from, none_first, pass_next, all_passed, passed_beside, passed_back}
+use Rattle.range_rw.proofs.Moves.{cause_on, lists_on, ready_next, none_first, pass_next, all_passed, passed_beside, passed_back}
 use Rattle.range_rw.proofs.TakenLists.{below_none, below_one, fewer_below}
 use Rattle.range_rw.proofs.several.pass_all.Goals as goal
 
@@ -80,17 +77,15 @@ all-preserved g c =
       lists = (i.lists.0 ∙ sym c.pass_one.ensures.later.lists, i.lists.1);
       low = let a = i.low in let b = c.next_taken-up.ensures.from in omega arith;
       most = let f = i.lists.1 in let m = ap list_count i.cut in let n = c.next_taken-up.ensures.most in omega arith;
-      later = lists_on c.args.hand.now.part c.all.hand.part c.pass_one.new.hand.part i.later c.pass_one.ensures.later;
+      later = lists_on i.later c.pass_one.ensures.later;
       asks = asks_on i.asks c.pass_one.ensures.asks;
       alone = ok.held;
       passed = inr ok.passed;
       first = c.pass_one.ensures.only 0 differ ∙ i.first;
       ahead = λ j le. c.pass_one.ensures.only j (λ e. let b = c.next_taken-up.ensures.from in omega arith)
           ∙ i.ahead j (let b = c.next_taken-up.ensures.from in omega arith);
-      ready = λ j. dite (ℕ_discrete j c.all.at)
-          (λ e. subst (λ n. IsReadyLeft (shown_core c.args.hand.now.part n).ready (shown_core c.pass_one.new.hand.part n).ready) (sym e)
-          (ready_from (ap (λ (v : View). v.ready) (i.ahead c.all.at (omega arith))) c.pass_one.ensures.ready))
-          (λ away. subst (λ (v : View). IsReadyLeft (shown_core c.args.hand.now.part j).ready v.ready) (sym (c.pass_one.ensures.only j away)) (i.ready j));
+      ready = ready_next c.all.at c.args.hand.now.part c.all.hand.part c.pass_one.new.hand.part
+          (ap (λ (v : View). v.ready) (i.ahead c.all.at (omega arith))) c.pass_one.ensures.ready c.pass_one.ensures.only i.ready;
       only = λ j none. c.pass_one.ensures.only j (λ e. none (inr (subst (Takes c.args.list.now.cut c.args.range) (sym e) here))) ∙ i.only j none;
       takes = λ less. subst (λ x. Takes x c.args.range up) i.cut
           (c.next_taken-up.ensures.taken (let e = ap list_count i.cut in let l = i.lists.1 in omega arith));
@@ -133,7 +128,7 @@ returns-in-Err-clause-back g c = ap (λ s. standing_back s 0) c.in-Err.ensures.h
 
 -- the seat is the same
 pub returns-in-Err-clause-later : goal.returns-in-Err-clause-later
-returns-in-Err-clause-later g c = lists_on c.args.hand.now.part c.all.hand.part c.pass_one.new.hand.part c.all.invariant.later c.pass_one.ensures.later
+returns-in-Err-clause-later g c = lists_on c.all.invariant.later c.pass_one.ensures.later
 
 -- list 0 is as it was
 pub returns-in-Err-clause-first : goal.returns-in-Err-clause-first
@@ -141,12 +136,10 @@ returns-in-Err-clause-first g c = c.pass_one.ensures.only 0 (λ e. let l = c.all
 
 -- each list's ready nodes are as before or without the first
 pub returns-in-Err-clause-ready : goal.returns-in-Err-clause-ready
-returns-in-Err-clause-ready g c = λ j.
+returns-in-Err-clause-ready g c =
     let i = c.all.invariant in
-    dite (ℕ_discrete j c.all.at)
-    (λ e. subst (λ n. IsReadyLeft (shown_core c.args.hand.now.part n).ready (shown_core c.pass_one.new.hand.part n).ready) (sym e)
-    (ready_from (ap (λ (v : View). v.ready) (i.ahead c.all.at (omega arith))) c.pass_one.ensures.ready))
-    (λ away. subst (λ (v : View). IsReadyLeft (shown_core c.args.hand.now.part j).ready v.ready) (sym (c.pass_one.ensures.only j away)) (i.ready j))
+    ready_next c.all.at c.args.hand.now.part c.all.hand.part c.pass_one.new.hand.part (ap (λ (v : View). v.ready) (i.ahead c.all.at (omega arith)))
+    c.pass_one.ensures.ready c.pass_one.ensures.only i.ready
 
 -- what refused it in that list refuses the call
 pub returns-in-Err-clause-cause : goal.returns-in-Err-clause-cause
@@ -156,18 +149,8 @@ returns-in-Err-clause-cause g c =
       i.low,
       (let e = i.lists.0 in let f = i.later.lists in omega arith),
       i.takes (omega arith),
-      subst (λ t. IsListCause c.all.at (list_state t c.args.hand.now.part c.all.at) (list_state t c.pass_one.new.hand.part c.all.at) (record {
-        range = c.args.range;
-        mode = c.args.mode;
-      }) c.in-Err.why) i.table
-          (cause_before (list_state c.all.hand.table c.args.hand.now.part c.all.at) (list_state c.all.hand.table c.all.hand.part c.all.at) (list_state
-          c.all.hand.table c.pass_one.new.hand.part c.all.at)
-          i.later.taken i.later.number (λ e. sym (ap (λ (v : View). v.ready) (i.ahead c.all.at (omega arith))) ∙ e) c.all.at (record {
-            range = c.args.range;
-            mode =
-                c.args.mode;
-          }) c.in-Err.why
-          c.in-Err.ensures.cause),
+      cause_on c.all.at c.pass_one.new.hand.part i.table i.later (ap (λ (v : View). v.ready) (i.ahead c.all.at (omega arith)))
+          (record { range = c.args.range; mode = c.args.mode }) c.in-Err.why c.in-Err.ensures.cause,
     )
 
 -- each list that the range doesn't take is as it was

@@ -1,24 +1,21 @@
-use Rattle.std.proofs.Common.{Bool, inl, inr, refl, sym, ap, ◌∙◌, subst, arith}
+use Rattle.std.proofs.Common.{Bool, inl, inr, refl, ap, ◌∙◌, arith}
 use Rattle.lock_core.specs.declared.views.View.{View}
 use Rattle.epoch_pools.specs.declared.views.SeatPart.{SeatPart}
 use Rattle.epoch_pools.specs.declared.views.Standing.TheVariants.{Wide}
 use Rattle.epoch_pools.specs.Passing.{standing_by}
-use Rattle.range_rw.specs.Contract.{IsListCause}
-use Rattle.range_rw.specs.Several.{list_state}
 use Rattle.range_rw.proofs.Asking.{asks_stay, asks_from}
-use Rattle.range_rw.proofs.Pieces.{err_on, err_free, ok_on, cause_before}
-use Rattle.range_rw.proofs.Moves.{lists_on, look_on, look_shows, holds_in, holds_looked, ready_from}
+use Rattle.range_rw.proofs.Pieces.{err_on, err_free, ok_on}
+use Rattle.range_rw.proofs.Moves.{cause_on, lists_on, look_on, look_shows, holds_in, holds_looked, ready_from}
 use Rattle.range_rw.proofs.Dues.{due_on, due_wide, standing_wide}
 use Rattle.range_rw.proofs.several.pass_one.Goals as goal
 
 -- a look that found the list empty has passed it
 pub returns-then-pass_list-clause-later : goal.returns-then-pass_list-clause-later
-returns-then-pass_list-clause-later g c = look_on c.args.hand.now.part c.pass_list.new.hand.part _ c.pass_list.ensures.part
+returns-then-pass_list-clause-later g c = look_on c.args.hand.now.part c.pass_list.ensures.part
 
 -- the range is held as it was
 pub returns-then-pass_list-clause-held : goal.returns-then-pass_list-clause-held
-returns-then-pass_list-clause-held g c = holds_looked 0 (record { range = c.args.range; mode = c.args.mode }) c.args.hand.now.part
-    c.pass_list.new.hand.part _ c.pass_list.ensures.part c.requires.holds
+returns-then-pass_list-clause-held g c = holds_looked c.pass_list.ensures.part c.requires.holds
 
 -- and has passed that list
 pub returns-then-pass_list-clause-passed : goal.returns-then-pass_list-clause-passed
@@ -27,12 +24,12 @@ returns-then-pass_list-clause-passed g c = ap (λ (x : SeatPart _). x.pass.stand
 
 -- no ready node went
 pub returns-then-pass_list-clause-ready : goal.returns-then-pass_list-clause-ready
-returns-then-pass_list-clause-ready g c = inr (inl (ap (λ (v : View). v.ready) (look_shows c.args.hand.now.part c.pass_list.new.hand.part _
+returns-then-pass_list-clause-ready g c = inr (inl (ap (λ (v : View). v.ready) (look_shows c.args.hand.now.part
     c.pass_list.ensures.part c.args.at)))
 
 -- each list is as it was
 pub returns-then-pass_list-clause-only : goal.returns-then-pass_list-clause-only
-returns-then-pass_list-clause-only g c = λ j away. look_shows c.args.hand.now.part c.pass_list.new.hand.part _ c.pass_list.ensures.part j
+returns-then-pass_list-clause-only g c = λ j away. look_shows c.args.hand.now.part c.pass_list.ensures.part j
 
 -- one step
 pub returns-then-pass_list-clause-bound : goal.returns-then-pass_list-clause-bound
@@ -56,14 +53,11 @@ look_swept-requires-clause-due g c = due_on (due_wide (record { range = c.args.r
 
 -- and the range is held as it was
 pub look_swept-requires-clause-holds : goal.look_swept-requires-clause-holds
-look_swept-requires-clause-holds g c = holds_in 0 (record { range = c.args.range; mode = c.args.mode }) c.pass_list.new.hand.part
-    (holds_looked 0 (record { range = c.args.range; mode = c.args.mode }) c.args.hand.now.part c.pass_list.new.hand.part _
-    c.pass_list.ensures.part c.requires.holds)
+look_swept-requires-clause-holds g c = holds_in (holds_looked c.pass_list.ensures.part c.requires.holds)
 
 -- the seat is the same after the sweep and what follows
 pub returns-clause-later : goal.returns-clause-later
-returns-clause-later g c = lists_on c.args.hand.now.part c.pass_list.new.hand.part c.look_swept.new.hand.part
-    (look_on c.args.hand.now.part c.pass_list.new.hand.part _ c.pass_list.ensures.part) c.look_swept.ensures.later
+returns-clause-later g c = lists_on (look_on c.args.hand.now.part c.pass_list.ensures.part) c.look_swept.ensures.later
 
 -- after a refusal it stands as it stood
 pub returns-clause-holds : goal.returns-clause-holds
@@ -77,26 +71,19 @@ returns-clause-holds g c = err_free c.look_swept.result (λ h. (
 -- its ready nodes in that list are those that the rest left
 pub returns-clause-ready : goal.returns-clause-ready
 returns-clause-ready g c = ready_from (ap (λ (v : View). v.ready)
-    (look_shows c.args.hand.now.part c.pass_list.new.hand.part _ c.pass_list.ensures.part c.args.at))
+    (look_shows c.args.hand.now.part c.pass_list.ensures.part c.args.at))
     c.look_swept.ensures.ready
 
 -- each other list is as it was
 pub returns-clause-only : goal.returns-clause-only
-returns-clause-only g c = λ j away. c.look_swept.ensures.only j away ∙ look_shows c.args.hand.now.part c.pass_list.new.hand.part _ c.pass_list.ensures.part j
+returns-clause-only g c = λ j away. c.look_swept.ensures.only j away ∙ look_shows c.args.hand.now.part c.pass_list.ensures.part j
 
 -- the cause of its refusal is one of the call
 pub returns-clause-cause : goal.returns-clause-cause
-returns-clause-cause g c =
-    let later = look_on c.args.hand.now.part c.pass_list.new.hand.part _ c.pass_list.ensures.part in
-    err_on _ _ c.look_swept.result
-    (λ why cause. subst (λ n. IsListCause c.args.at (list_state n c.args.hand.now.part c.args.at) (list_state n c.look_swept.new.hand.part c.args.at)
-    (record { range = c.args.range; mode = c.args.mode }) why) c.pass_list.ensures.table
-    (cause_before (list_state c.pass_list.new.hand.table c.args.hand.now.part c.args.at)
-    (list_state c.pass_list.new.hand.table c.pass_list.new.hand.part c.args.at)
-    (list_state c.pass_list.new.hand.table c.look_swept.new.hand.part c.args.at) later.taken later.number
-    (λ none. sym (ap (λ (v : View). v.ready) (look_shows c.args.hand.now.part c.pass_list.new.hand.part _ c.pass_list.ensures.part c.args.at)) ∙ none) c.args.at
-    (record { range = c.args.range; mode = c.args.mode }) why cause))
-    c.look_swept.ensures.cause
+returns-clause-cause g c = err_on _ _ c.look_swept.result (cause_on c.args.at c.look_swept.new.hand.part c.pass_list.ensures.table
+    (look_on c.args.hand.now.part c.pass_list.ensures.part)
+    (ap (λ (v : View). v.ready) (look_shows c.args.hand.now.part c.pass_list.ensures.part c.args.at))
+    (record { range = c.args.range; mode = c.args.mode })) c.look_swept.ensures.cause
 
 -- the steps of the look and of the rest
 pub returns-clause-bound : goal.returns-clause-bound

@@ -1,17 +1,31 @@
-use Rattle.std.proofs.Common.{◌≡◌, suc, ◌+◌, ◌-◌, ◌*◌, ◌≤◌, inl, inr, refl, sym, ap, ◌∙◌, subst, arith}
-use Rattle.list_cuts.proofs.Cutting.{takes_there, takes_behind}
+use Rattle.std.proofs.Common.{◌≡◌, suc, ◌+◌, ◌-◌, ◌*◌, ◌≤◌, inl, sym, ap, ◌∙◌, subst, arith}
+use Rattle.list_cuts.proofs.Cutting.{takes_there}
 use Rattle.list_cuts.specs.Cut.{Regions, list_count, TakesOne, TakesTwo}
 use Rattle.std.proofs.Math.Nat.{mul-suc}
-use Rattle.epoch_pools.specs.declared.views.Beside.{Beside}
-use Rattle.epoch_pools.specs.Standings.{is_counted}
-use Rattle.range_rw.specs.Contract.{StandsIn}
-use Rattle.range_rw.specs.Seats.{counted_in}
-use Rattle.range_rw.specs.Several.{HoldsAlone}
-use Rattle.range_rw.proofs.Moves.{narrow_counts, wide_counts}
 use Rattle.range_rw.proofs.Pieces.{is_there, err_on, ok_on, ok_both, err_free}
-use Rattle.range_rw.proofs.Choosing.{free_sweeps, one_counts, here_later, here_ready, here_cause, here_others, here_alone, here_free}
+use Rattle.range_rw.proofs.Choosing.{Here, free_sweeps, one_counts, here_later, here_standing, here_ready, here_cause, here_others, here_alone, here_free}
+use Rattle.range_rw.proofs.Choosing.{alone_there, alone_narrow, alone_wide, stands_first, stands_narrow, stands_wide, narrow_list}
 use Rattle.range_rw.proofs.TakenLists.{some_below, takes_first}
+use Rattle.range_rw.proofs.several.try_hold.Given.{Over}
+use Rattle.range_rw.proofs.several.try_hold.Goals.{After-try_range, In-Some, In-None}
 use Rattle.range_rw.proofs.several.try_hold.Goals as goal
+
+-- with one list the call tries in that
+here : (g : Over) (c : After-try_range g) → Here c.args.hand.now.part c.try_range.new.hand.part
+here g c = record {
+  free = c.requires.free;
+  later = c.try_range.ensures.later;
+  outside = c.try_range.ensures.outside;
+  cursor = c.try_range.ensures.cursor;
+}
+
+-- with several lists a narrow range takes one alone
+one : (g : Over) (c : In-Some g) → TakesOne c.args.list.now.cut c.args.range c.in-Some.at
+one g c = subst (λ (x : Regions). TakesOne x c.args.range c.in-Some.at) c.cut.ensures c.in-Some.ensures.narrow
+
+-- and a wide one takes two
+two : (g : Over) (c : In-None g) → TakesTwo c.args.list.now.cut c.args.range
+two g c = subst (λ (x : Regions). TakesTwo x c.args.range) c.cut.ensures (c.only.ensures.wide c.in-None.is)
 
 -- the hand may try in its list
 pub try_range-requires-clause-free : goal.try_range-requires-clause-free
@@ -19,49 +33,46 @@ try_range-requires-clause-free g c = free_sweeps c.args.hand.now.part c.requires
 
 -- with one list the try is the list's
 pub returns-then-lists-eq1-clause-later : goal.returns-then-lists-eq1-clause-later
-returns-then-lists-eq1-clause-later g c = here_later c.args.hand.now.part c.try_range.new.hand.part c.requires.free c.try_range.ensures.later
-    c.try_range.ensures.outside
+returns-then-lists-eq1-clause-later g c = here_later (here g c)
 
 -- what it holds it holds alone
 pub returns-then-lists-eq1-clause-held : goal.returns-then-lists-eq1-clause-held
-returns-then-lists-eq1-clause-held g c = ok_on c.try_range.result (here_alone c.args.hand.now.part c.try_range.new.hand.part c.requires.free
-    c.try_range.ensures.later c.try_range.ensures.outside
-    (record { outside = c.try_range.ensures.outside.even; cursor = c.try_range.ensures.cursor; hand = c.try_range.ensures.outside.hand }) (record {
-      range =
-          c.args.range;
-      mode = c.args.mode;
-    })) c.try_range.ensures.held
+returns-then-lists-eq1-clause-held g c = ok_on c.try_range.result (here_alone (here g c)) c.try_range.ensures.held
 
 -- and that counts
 pub returns-then-lists-eq1-clause-counts : goal.returns-then-lists-eq1-clause-counts
-returns-then-lists-eq1-clause-counts g c = ok_on c.try_range.result
-    (λ _. one_counts c.try_range.new.hand.part.pass (ap (λ (b : Beside _). b.lists) c.try_range.ensures.later.pass ∙ (sym c.requires.lists.0 ∙
-    c.if-lists-eq1.true))) c.try_range.ensures.held
+returns-then-lists-eq1-clause-counts g c = ok_on c.try_range.result (λ _. one_counts c.try_range.new.hand.part.pass
+    (let a = (here_later (here g c)).lists in let b = c.requires.lists.0 in let e = c.if-lists-eq1.true in omega arith)) c.try_range.ensures.held
 
 -- by itself
 pub returns-then-lists-eq1-clause-one : goal.returns-then-lists-eq1-clause-one
-returns-then-lists-eq1-clause-one g c = ok_on c.try_range.result
-    (λ _ _. ap (λ (b : Beside _). b.standing) c.try_range.ensures.later.pass ∙ c.requires.free.standing) c.try_range.ensures.held
+returns-then-lists-eq1-clause-one g c = ok_on c.try_range.result (λ _ _. here_standing (here g c)) c.try_range.ensures.held
+
+-- it is held in that list, which each range takes alone
+pub returns-then-lists-eq1-clause-stands : goal.returns-then-lists-eq1-clause-stands
+returns-then-lists-eq1-clause-stands g c = ok_on c.try_range.result
+    (λ _. stands_first (takes_first c.args.list.now.cut c.args.range c.requires.regions
+    (let b = c.requires.lists.1 in let e = c.if-lists-eq1.true in omega arith) c.lo.ensures.bounds.0) (here_standing (here g c))) c.try_range.ensures.held
 
 -- a refusal leaves nothing held
 pub returns-then-lists-eq1-clause-free : goal.returns-then-lists-eq1-clause-free
-returns-then-lists-eq1-clause-free g c = err_free c.try_range.result (here_free c.args.hand.now.part c.try_range.new.hand.part c.requires.free
-    c.try_range.ensures.later c.try_range.ensures.outside
-    (record { outside = c.try_range.ensures.outside.even; cursor = c.try_range.ensures.cursor; hand = c.try_range.ensures.outside.hand }))
-    c.try_range.ensures.free
+returns-then-lists-eq1-clause-free g c = err_free c.try_range.result (here_free (here g c)) c.try_range.ensures.free
 
 -- each list's ready nodes are as before or without the first
 pub returns-then-lists-eq1-clause-ready : goal.returns-then-lists-eq1-clause-ready
-returns-then-lists-eq1-clause-ready g c = here_ready c.args.hand.now.part c.try_range.new.hand.part c.requires.free c.try_range.ensures.later
-    c.try_range.ensures.outside c.try_range.ensures.ready
+returns-then-lists-eq1-clause-ready g c = here_ready (here g c) c.try_range.ensures.ready
 
--- and its cause is that of the try
+-- there is no other list
+pub returns-then-lists-eq1-clause-only : goal.returns-then-lists-eq1-clause-only
+returns-then-lists-eq1-clause-only g c = here_others (here g c) c.args.list.now.cut c.args.range
+    (let a = c.list.ensures.list in let b = c.list.ensures.there in let l = c.requires.lists.0 in let e = c.if-lists-eq1.true in omega arith)
+
+-- the cause of a refusal is that of the try
 pub returns-then-lists-eq1-clause-cause : goal.returns-then-lists-eq1-clause-cause
 returns-then-lists-eq1-clause-cause g c = err_on _ _ c.try_range.result
-    (here_cause c.args.hand.now.part c.try_range.new.hand.part c.requires.free c.try_range.ensures.later c.try_range.ensures.outside c.args.hand.now.table
-    c.args.hand.now.table c.args.list.now.cut (λ i. c.args.hand.now.table) (is_there c.list.ensures.list c.list.ensures.there)
-    (record { range = c.args.range; mode = c.args.mode })
-    (inl (let a = c.list.ensures.list in let b = c.list.ensures.there in let e = c.requires.lists.0 in let o = c.if-lists-eq1.true in omega arith)))
+    (here_cause (here g c) c.args.hand.now.table c.args.hand.now.table c.args.list.now.cut (λ i. c.args.hand.now.table)
+    (is_there c.list.ensures.list c.list.ensures.there) (record { range = c.args.range; mode = c.args.mode })
+    (inl (let a = c.list.ensures.list in let b = c.list.ensures.there in let l = c.requires.lists.0 in let e = c.if-lists-eq1.true in omega arith)))
     c.try_range.ensures.cause
 
 -- its steps are few
@@ -72,50 +83,32 @@ returns-then-lists-eq1-clause-narrow g c = λ _. let b = c.try_range.ensures.bou
 pub returns-then-lists-eq1-clause-each : goal.returns-then-lists-eq1-clause-each
 returns-then-lists-eq1-clause-each g c = λ k _. let b = c.try_range.ensures.bound in omega arith
 
--- it is held in that list, which each range takes alone
-pub returns-then-lists-eq1-clause-stands : goal.returns-then-lists-eq1-clause-stands
-returns-then-lists-eq1-clause-stands g c = ok_on c.try_range.result
-    (λ _. subst (λ s. StandsIn c.args.list.now.cut c.args.range (counted_in s))
-    (sym (ap (λ (b : Beside _). b.standing) c.try_range.ensures.later.pass ∙ c.requires.free.standing))
-    (inl (takes_first c.args.list.now.cut c.args.range c.requires.regions (sym c.requires.lists.1 ∙ c.if-lists-eq1.true) c.lo.ensures.bounds.0)))
-    c.try_range.ensures.held
-
--- and there is no other
-pub returns-then-lists-eq1-clause-only : goal.returns-then-lists-eq1-clause-only
-returns-then-lists-eq1-clause-only g c = here_others c.args.hand.now.part c.try_range.new.hand.part c.requires.free c.try_range.ensures.later
-    c.try_range.ensures.outside c.args.list.now.cut c.args.range
-    (let a = c.list.ensures.list in let b = c.list.ensures.there in let e = c.requires.lists.0 in let o = c.if-lists-eq1.true in omega arith)
-
 -- the list that a narrow range takes is one behind list 0, and there
 pub hold_narrow-requires-clause-several : goal.hold_narrow-requires-clause-several
-hold_narrow-requires-clause-several g c =
-    let one = subst (λ (x : Regions). TakesOne x c.args.range c.in-Some.at) c.cut.ensures c.in-Some.ensures.narrow in (
-      takes_behind c.args.list.now.cut c.args.range c.in-Some.at c.requires.regions (λ e. c.if-lists-eq1.false (c.requires.lists.1 ∙ e)) one.takes,
-      (let less = takes_there c.args.list.now.cut c.args.range c.in-Some.at c.requires.regions one.takes in
-          let a = c.requires.lists.0 in let b = c.requires.lists.1 in omega arith),
-    )
+hold_narrow-requires-clause-several g c = narrow_list c.args.hand.now.part.pass.lists c.requires.regions (sym c.requires.lists.0 ∙ c.requires.lists.1)
+    (λ e. let f = c.if-lists-eq1.false in let l = c.requires.lists.1 in omega arith) (one g (goal.at.hold_narrow-requires-clause-several g c).In-Some)
 
 -- it takes that one alone
 pub hold_narrow-requires-clause-takes : goal.hold_narrow-requires-clause-takes
-hold_narrow-requires-clause-takes g c = subst (λ (x : Regions). TakesOne x c.args.range c.in-Some.at) c.cut.ensures c.in-Some.ensures.narrow
+hold_narrow-requires-clause-takes g c = one g (goal.at.hold_narrow-requires-clause-takes g c).In-Some
 
 -- what a narrow try holds it holds alone
 pub returns-in-Some-clause-held : goal.returns-in-Some-clause-held
-returns-in-Some-clause-held g c = ok_on c.hold_narrow.result
-    (λ h. subst (λ n. HoldsAlone n (record { range = c.args.range; mode = c.args.mode }) c.hold_narrow.new.hand.part) (sym h.turned) h)
-    c.hold_narrow.ensures.held
+returns-in-Some-clause-held g c = ok_on c.hold_narrow.result alone_there c.hold_narrow.ensures.held
 
 -- and that counts
 pub returns-in-Some-clause-counts : goal.returns-in-Some-clause-counts
-returns-in-Some-clause-counts g c =
-    let q = c.hold_narrow.new.hand.part in
-    ok_both c.hold_narrow.result (λ h s. ap (λ t. is_counted q.pass.lists t q.pass.list) s ∙ narrow_counts q.pass.lists c.in-Some.at q.pass.list h.turned)
-    c.hold_narrow.ensures.held c.hold_narrow.ensures.counts
+returns-in-Some-clause-counts g c = ok_both c.hold_narrow.result alone_narrow c.hold_narrow.ensures.held c.hold_narrow.ensures.counts
 
 -- there are several lists
 pub returns-in-Some-clause-one : goal.returns-in-Some-clause-one
-returns-in-Some-clause-one g c = ok_on c.hold_narrow.result
-    (λ h one. absurd (c.if-lists-eq1.false (c.requires.lists.0 ∙ (sym c.hold_narrow.ensures.later.lists ∙ one)))) c.hold_narrow.ensures.held
+returns-in-Some-clause-one g c = ok_on c.hold_narrow.result (λ h only. let f = c.if-lists-eq1.false in let l = c.requires.lists.0 in
+    let e = c.hold_narrow.ensures.later.lists in absurd (omega arith)) c.hold_narrow.ensures.held
+
+-- it is held in the list that it takes alone
+pub returns-in-Some-clause-stands : goal.returns-in-Some-clause-stands
+returns-in-Some-clause-stands g c =
+    ok_on c.hold_narrow.result (stands_narrow (one g (goal.at.returns-in-Some-clause-stands g c).In-Some)) c.hold_narrow.ensures.counts
 
 -- the steps of a narrow try
 pub returns-in-Some-clause-narrow : goal.returns-in-Some-clause-narrow
@@ -127,53 +120,41 @@ pub returns-in-Some-clause-each : goal.returns-in-Some-clause-each
 returns-in-Some-clause-each g c = λ k _.
     let b = c.hold_narrow.ensures.bound in let s = c.seats.ensures.some in let e = c.seats.ensures.seats in omega arith
 
--- it is held in the list that it takes alone
-pub returns-in-Some-clause-stands : goal.returns-in-Some-clause-stands
-returns-in-Some-clause-stands g c =
-    let one = subst (λ (x : Regions). TakesOne x c.args.range c.in-Some.at) c.cut.ensures c.in-Some.ensures.narrow in
-    ok_on c.hold_narrow.result (λ s. subst (λ t. StandsIn c.args.list.now.cut c.args.range (counted_in t)) (sym s) (inl one)) c.hold_narrow.ensures.counts
-
 -- a wide range takes two
 pub hold_wide-requires-clause-takes : goal.hold_wide-requires-clause-takes
-hold_wide-requires-clause-takes g c = subst (λ (x : Regions). TakesTwo x c.args.range) c.cut.ensures (c.only.ensures.wide c.in-None.is)
+hold_wide-requires-clause-takes g c = two g (goal.at.hold_wide-requires-clause-takes g c).In-None
 
 -- what a wide try holds it holds alone
 pub returns-in-None-clause-held : goal.returns-in-None-clause-held
-returns-in-None-clause-held g c = ok_on c.hold_wide.result
-    (λ h. subst (λ n. HoldsAlone n (record { range = c.args.range; mode = c.args.mode }) c.hold_wide.new.hand.part) (sym h.turned) h)
-    c.hold_wide.ensures.held
+returns-in-None-clause-held g c = ok_on c.hold_wide.result alone_there c.hold_wide.ensures.held
 
 -- and that counts
 pub returns-in-None-clause-counts : goal.returns-in-None-clause-counts
-returns-in-None-clause-counts g c =
-    let q = c.hold_wide.new.hand.part in
-    ok_both c.hold_wide.result (λ h s. ap (λ t. is_counted q.pass.lists t q.pass.list) s ∙ wide_counts q.pass.lists q.pass.list h.turned)
-    c.hold_wide.ensures.held c.hold_wide.ensures.counts
+returns-in-None-clause-counts g c = ok_both c.hold_wide.result alone_wide c.hold_wide.ensures.held c.hold_wide.ensures.counts
 
 -- there are several lists
 pub returns-in-None-clause-one : goal.returns-in-None-clause-one
-returns-in-None-clause-one g c = ok_on c.hold_wide.result
-    (λ h one. absurd (c.if-lists-eq1.false (c.requires.lists.0 ∙ (sym c.hold_wide.ensures.later.lists ∙ one)))) c.hold_wide.ensures.held
+returns-in-None-clause-one g c = ok_on c.hold_wide.result (λ h only. let f = c.if-lists-eq1.false in let l = c.requires.lists.0 in
+    let e = c.hold_wide.ensures.later.lists in absurd (omega arith)) c.hold_wide.ensures.held
 
 -- a wide range doesn't take one list alone
 pub returns-in-None-clause-narrow : goal.returns-in-None-clause-narrow
 returns-in-None-clause-narrow g c = λ t.
-    let two = subst (λ (x : Regions). TakesTwo x c.args.range) c.cut.ensures (c.only.ensures.wide c.in-None.is) in
-    absurd (two.differ (t.1.alone two.one two.takes_one ∙ sym (t.1.alone two.two two.takes_two)))
+    let both = two g (goal.at.returns-in-None-clause-narrow g c).In-None in
+    absurd (both.differ (t.1.alone both.one both.takes_one ∙ sym (t.1.alone both.two both.takes_two)))
 
 -- it is held in list 0
 pub returns-in-None-clause-stands : goal.returns-in-None-clause-stands
 returns-in-None-clause-stands g c =
-    let two = subst (λ (x : Regions). TakesTwo x c.args.range) c.cut.ensures (c.only.ensures.wide c.in-None.is) in
-    ok_on c.hold_wide.result (λ s. subst (λ t. StandsIn c.args.list.now.cut c.args.range (counted_in t)) (sym s) (inr (two, refl))) c.hold_wide.ensures.counts
+    ok_on c.hold_wide.result (stands_wide (two g (goal.at.returns-in-None-clause-stands g c).In-None)) c.hold_wide.ensures.counts
 
 -- the steps of a wide try
 pub returns-in-None-clause-each : goal.returns-in-None-clause-each
 returns-in-None-clause-each g c = λ k many.
     let n = c.args.hand.now.part.seats in
-    let two = subst (λ (x : Regions). TakesTwo x c.args.range) c.cut.ensures (c.only.ensures.wide c.in-None.is) in
-    let more : 1 ≤ k = some_below c.args.list.now.cut c.args.range (list_count c.args.list.now.cut) k two.one
-    (takes_there c.args.list.now.cut c.args.range two.one c.requires.regions two.takes_one) two.takes_one many in
+    let both = two g (goal.at.returns-in-None-clause-each g c).In-None in
+    let more : 1 ≤ k = some_below c.args.list.now.cut c.args.range (list_count c.args.list.now.cut) k both.one
+    (takes_there c.args.list.now.cut c.args.range both.one c.requires.regions both.takes_one) both.takes_one many in
     let whole : k ≡ suc (k - 1) = omega arith in
     let e : (55 + 193 * n) * k ≡ (55 + 193 * n) * (k - 1) + (55 + 193 * n) = ap (λ m. (55 + 193 * n) * m) whole ∙ mul-suc (55 + 193 * n) (k - 1) in
     let s = c.seats.ensures.some in let y = c.seats.ensures.seats in

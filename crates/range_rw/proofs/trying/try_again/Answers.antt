@@ -1,34 +1,22 @@
 use Rattle.std.proofs.Common.{sym, ◌∙◌}
-use Rattle.std.specs.Prelude.{Some}
 use Rattle.range_rw.proofs.Asking.{asks_kept, for_only}
-use Rattle.range_rw.proofs.Taking.{has_ends, tried_own, back_ready, insert_ready, insert_cause}
+use Rattle.range_rw.proofs.Taking.{tried_ends, insert_ready, insert_cause}
 use Rattle.range_rw.proofs.trying.try_again.Goals as goal
 
 -- the node that the fast path didn't link is filled
 pub insert_in_epoch-requires-clause-own : goal.insert_in_epoch-requires-clause-own
-insert_in_epoch-requires-clause-own g c =
-    let p = c.args.hand.now.part in let f = c.link_ready_node-held.new.hand.part in let t = c.link_ready_node-held.ensures.tried in
-    has_ends f.core.own t.node c.args.range.lo c.args.range.hi c.args.mode (Some 0)
-    (tried_own p f c.args.range c.args.mode c.link_ready_node-held.result t c.if-held.false)
+insert_in_epoch-requires-clause-own g c = tried_ends c.link_ready_node-held.ensures.tried c.if-held.false
 
 -- the refused node is ready again, or was marked
 pub returns-in-Some-refusal_of-clause-ready : goal.returns-in-Some-refusal_of-clause-ready
 returns-in-Some-refusal_of-clause-ready g c =
-    let p = c.args.hand.now.part in let f = c.link_ready_node-held.new.hand.part in let r = c.insert_in_epoch.new.hand.part in
-    let t = c.link_ready_node-held.ensures.tried in let held = c.link_ready_node-held.result in
-    back_ready p f c.args.range c.args.mode held t r
-    (insert_ready f r t.node c.args.range c.args.mode (tried_own p f c.args.range c.args.mode held t c.if-held.false)
-    c.in-Some.walked c.in-Some.ensures.ends)
+    insert_ready c.link_ready_node-held.ensures.tried c.if-held.false c.insert_in_epoch.new.hand.part c.in-Some.walked c.in-Some.ensures.ends
 
 -- the list's answer is the cause
 pub returns-in-Some-refusal_of-clause-cause : goal.returns-in-Some-refusal_of-clause-cause
-returns-in-Some-refusal_of-clause-cause g c =
-    let p = c.args.hand.now.part in let f = c.link_ready_node-held.new.hand.part in
-    let t = c.link_ready_node-held.ensures.tried in
-    (insert_cause f c.insert_in_epoch.new.hand.part t.node c.args.range c.args.mode
-    (tried_own p f c.args.range c.args.mode c.link_ready_node-held.result t c.if-held.false) c.list.result c.args.hand.now.table p
-    c.list.ensures.noted c.list.ensures.list c.link_ready_node-held.ensures.later c.insert_in_epoch.ensures.later c.in-Some.walked c.in-Some-refusal_of.refusal
-    (sym c.refusal_of.ensures ∙ c.in-Some-refusal_of.is) c.in-Some.ensures.ends c.in-Some.ensures.long).0
+returns-in-Some-refusal_of-clause-cause g c = insert_cause c.link_ready_node-held.ensures.tried c.if-held.false c.insert_in_epoch.new.hand.part
+    c.list.result c.args.hand.now.table c.list.ensures.noted c.list.ensures.list c.link_ready_node-held.ensures.later c.insert_in_epoch.ensures.later
+    c.in-Some.walked c.in-Some-refusal_of.refusal (sym c.refusal_of.ensures ∙ c.in-Some-refusal_of.is) c.in-Some.ensures.ends c.in-Some.ensures.long
 
 -- what the fast path tried is all that is asked for
 pub returns-then-held-clause-asks : goal.returns-then-held-clause-asks

@@ -1,8 +1,6 @@
 use Rattle.std.proofs.Common.{sym, ◌∙◌}
-use Rattle.std.specs.Prelude.{Some}
 use Rattle.range_rw.proofs.Asking.{asks_kept, asks_on}
-use Rattle.range_rw.proofs.Taking.{has_ends, tried_own, tried_held, tried_ready, back_ready, insert_held, insert_ready}
-use Rattle.range_rw.proofs.Taking.{insert_cause, some_again, ready_again, cause_again}
+use Rattle.range_rw.proofs.Taking.{tried_held, tried_ready, tried_ends, insert_held, insert_ready, insert_cause, some_again, ready_again, cause_again}
 use Rattle.range_rw.proofs.Later.{later_on}
 use Rattle.range_rw.proofs.trying.try_range.Goals as goal
 
@@ -12,65 +10,49 @@ returns-in-Err-clause-cause g c = c.in-Err.ensures.missed.cause (record { range 
 
 -- the node that the fast path left is filled
 pub insert_in_epoch-requires-clause-own : goal.insert_in_epoch-requires-clause-own
-insert_in_epoch-requires-clause-own g c =
-    let p = c.args.hand.now.part in let f = c.link_if_empty.new.hand.part in let t = c.in-Ok.ensures.tried in
-    has_ends f.core.own t.node c.args.range.lo c.args.range.hi c.args.mode (Some 0) (tried_own p f c.args.range c.args.mode c.in-Ok.held t c.if-held.false)
+insert_in_epoch-requires-clause-own g c = tried_ends c.in-Ok.ensures.tried c.if-held.false
 
 -- the ready nodes are as before, without the first
 pub returns-then-held-clause-ready : goal.returns-then-held-clause-ready
-returns-then-held-clause-ready g c = tried_ready c.args.hand.now.part c.link_if_empty.new.hand.part c.args.range c.args.mode c.in-Ok.held c.in-Ok.ensures.tried
+returns-then-held-clause-ready g c = tried_ready c.in-Ok.ensures.tried
 
 -- the fast path holds the range
 pub returns-then-held-clause-held : goal.returns-then-held-clause-held
-returns-then-held-clause-held g c = tried_held c.args.hand.now.part c.link_if_empty.new.hand.part c.args.range c.args.mode
-    c.in-Ok.held c.in-Ok.ensures.tried c.if-held.true
+returns-then-held-clause-held g c = tried_held c.in-Ok.ensures.tried c.if-held.true
 
 -- the refused node is ready again, or was marked
 pub returns-in-Some-refusal_of-clause-ready : goal.returns-in-Some-refusal_of-clause-ready
 returns-in-Some-refusal_of-clause-ready g c =
-    let p = c.args.hand.now.part in let f = c.link_if_empty.new.hand.part in let r = c.insert_in_epoch.new.hand.part in let t = c.in-Ok.ensures.tried in
-    back_ready p f c.args.range c.args.mode c.in-Ok.held t r
-    (insert_ready f r t.node c.args.range c.args.mode (tried_own p f c.args.range c.args.mode c.in-Ok.held t c.if-held.false)
-    c.in-Some.walked c.in-Some.ensures.ends)
+    insert_ready c.in-Ok.ensures.tried c.if-held.false c.insert_in_epoch.new.hand.part c.in-Some.walked c.in-Some.ensures.ends
 
 -- the list's answer is the cause
 pub returns-in-Some-refusal_of-clause-cause : goal.returns-in-Some-refusal_of-clause-cause
-returns-in-Some-refusal_of-clause-cause g c =
-    let p = c.args.hand.now.part in let f = c.link_if_empty.new.hand.part in let t = c.in-Ok.ensures.tried in
-    (insert_cause f c.insert_in_epoch.new.hand.part t.node c.args.range c.args.mode
-    (tried_own p f c.args.range c.args.mode c.in-Ok.held t c.if-held.false) c.list.result c.args.hand.now.table p
-    c.list.ensures.noted c.list.ensures.list c.link_if_empty.ensures.later c.insert_in_epoch.ensures.later c.in-Some.walked c.in-Some-refusal_of.why
-    (sym c.refusal_of.ensures ∙ c.in-Some-refusal_of.is) c.in-Some.ensures.ends c.in-Some.ensures.long).0
+returns-in-Some-refusal_of-clause-cause g c = insert_cause c.in-Ok.ensures.tried c.if-held.false c.insert_in_epoch.new.hand.part c.list.result
+    c.args.hand.now.table c.list.ensures.noted c.list.ensures.list c.link_if_empty.ensures.later c.insert_in_epoch.ensures.later
+    c.in-Some.walked c.in-Some-refusal_of.why (sym c.refusal_of.ensures ∙ c.in-Some-refusal_of.is) c.in-Some.ensures.ends c.in-Some.ensures.long
 
 -- the validation holds the range
 pub returns-in-None-clause-held : goal.returns-in-None-clause-held
-returns-in-None-clause-held g c =
-    let p = c.args.hand.now.part in let f = c.link_if_empty.new.hand.part in let t = c.in-Ok.ensures.tried in
-    insert_held f c.insert_in_epoch.new.hand.part t.node c.args.range c.args.mode
-    (tried_own p f c.args.range c.args.mode c.in-Ok.held t c.if-held.false) c.list.result c.in-Some.walked
+returns-in-None-clause-held g c = insert_held c.in-Ok.ensures.tried c.if-held.false c.insert_in_epoch.new.hand.part c.list.result c.in-Some.walked
     (sym c.refusal_of.ensures ∙ c.in-None.is) c.in-Some.ensures.ends
 
 -- where the list was found empty there is a ready node
 pub try_again-requires-clause-some : goal.try_again-requires-clause-some
 try_again-requires-clause-some g c =
-    let p = c.args.hand.now.part in let f = c.link_if_empty.new.hand.part in let t = c.in-Ok.ensures.tried in
-    some_again p f c.args.range c.args.mode c.in-Ok.held t c.if-held.false c.insert_in_epoch.new.hand.part c.in_default.ensures.ends.0
+    some_again c.in-Ok.ensures.tried c.if-held.false c.insert_in_epoch.new.hand.part c.in_default.ensures.ends.0
 
 -- the ready nodes after the second attempt
 pub returns-in_default-clause-ready : goal.returns-in_default-clause-ready
-returns-in_default-clause-ready g c =
-    let p = c.args.hand.now.part in let f = c.link_if_empty.new.hand.part in let t = c.in-Ok.ensures.tried in
-    ready_again p f c.args.range c.args.mode c.in-Ok.held t c.if-held.false c.insert_in_epoch.new.hand.part
-    c.try_again.new.hand.part c.in_default.ensures.ends.0 c.try_again.ensures.ready
+returns-in_default-clause-ready g c = ready_again c.in-Ok.ensures.tried c.if-held.false c.insert_in_epoch.new.hand.part c.in_default.ensures.ends.0
+    c.try_again.new.hand.part c.try_again.ensures.ready
 
 -- its cause is one of the whole try
 pub returns-in_default-clause-cause : goal.returns-in_default-clause-cause
 returns-in_default-clause-cause g c =
-    let p = c.args.hand.now.part in let f = c.link_if_empty.new.hand.part in let t = c.in-Ok.ensures.tried in
-    let r = c.insert_in_epoch.new.hand.part in
+    let p = c.args.hand.now.part in let f = c.link_if_empty.new.hand.part in let r = c.insert_in_epoch.new.hand.part in
     cause_again c.insert_in_epoch.new.hand.table c.args.hand.now.table c.args.hand.now.table p r c.try_again.new.hand.part
     (later_on p f r c.link_if_empty.ensures.later c.insert_in_epoch.ensures.later)
-    (λ none. absurd (some_again p f c.args.range c.args.mode c.in-Ok.held t c.if-held.false r c.in_default.ensures.ends.0 none))
+    (λ none. absurd (some_again c.in-Ok.ensures.tried c.if-held.false r c.in_default.ensures.ends.0 none))
     (record { range = c.args.range; mode = c.args.mode }) c.try_again.result c.try_again.ensures.cause
 
 -- what the fast path tried is all that is asked for
