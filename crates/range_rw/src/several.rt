@@ -594,8 +594,8 @@ pub(crate) fn try_hold<G: Guard, L: Ledger>(
     if lists == 1 {
         return try_range(list, hand, range, mode, steps);
     }
-    match list.cut().only(range) {
-        Some(at) => hold_narrow(list, hand, at, range, mode, steps),
-        None => hold_wide(list, hand, lists, range, mode, steps),
-    }
+    let Some(at) = list.cut().only(range) else {
+        return hold_wide(list, hand, lists, range, mode, steps);
+    };
+    hold_narrow(list, hand, at, range, mode, steps)
 }

@@ -7,7 +7,7 @@ use Rattle.range_rw.proofs.Choosing.{Here, free_sweeps, one_counts, here_later, 
 use Rattle.range_rw.proofs.Choosing.{alone_there, alone_narrow, alone_wide, stands_first, stands_narrow, stands_wide, narrow_list}
 use Rattle.range_rw.proofs.TakenLists.{some_below, takes_first}
 use Rattle.range_rw.proofs.several.try_hold.Given.{Over}
-use Rattle.range_rw.proofs.several.try_hold.Goals.{After-try_range, In-Some, In-None}
+use Rattle.range_rw.proofs.several.try_hold.Goals.{After-try_range, In-Some, After-hold_wide}
 use Rattle.range_rw.proofs.several.try_hold.Goals as goal
 
 -- with one list the call tries in that
@@ -24,8 +24,8 @@ one : (g : Over) (c : In-Some g) → TakesOne c.args.list.now.cut c.args.range c
 one g c = subst (λ (x : Regions). TakesOne x c.args.range c.in-Some.at) c.cut.ensures c.in-Some.ensures.narrow
 
 -- and a wide one takes two
-two : (g : Over) (c : In-None g) → TakesTwo c.args.list.now.cut c.args.range
-two g c = subst (λ (x : Regions). TakesTwo x c.args.range) c.cut.ensures (c.only.ensures.wide c.in-None.is)
+two : (g : Over) (c : After-hold_wide g) → TakesTwo c.args.list.now.cut c.args.range
+two g c = subst (λ (x : Regions). TakesTwo x c.args.range) c.cut.ensures (c.only.ensures.wide c.in_default.is)
 
 -- the hand may try in its list
 pub try_range-requires-clause-free : goal.try_range-requires-clause-free
@@ -93,66 +93,65 @@ pub hold_narrow-requires-clause-takes : goal.hold_narrow-requires-clause-takes
 hold_narrow-requires-clause-takes g c = one g (goal.at.hold_narrow-requires-clause-takes g c).In-Some
 
 -- what a narrow try holds it holds alone
-pub returns-in-Some-clause-held : goal.returns-in-Some-clause-held
-returns-in-Some-clause-held g c = ok_on c.hold_narrow.result alone_there c.hold_narrow.ensures.held
+pub returns-clause-held : goal.returns-clause-held
+returns-clause-held g c = ok_on c.hold_narrow.result alone_there c.hold_narrow.ensures.held
 
 -- and that counts
-pub returns-in-Some-clause-counts : goal.returns-in-Some-clause-counts
-returns-in-Some-clause-counts g c = ok_both c.hold_narrow.result alone_narrow c.hold_narrow.ensures.held c.hold_narrow.ensures.counts
+pub returns-clause-counts : goal.returns-clause-counts
+returns-clause-counts g c = ok_both c.hold_narrow.result alone_narrow c.hold_narrow.ensures.held c.hold_narrow.ensures.counts
 
 -- there are several lists
-pub returns-in-Some-clause-one : goal.returns-in-Some-clause-one
-returns-in-Some-clause-one g c = ok_on c.hold_narrow.result (λ h only. let f = c.if-lists-eq1.false in let l = c.requires.lists.0 in
+pub returns-clause-one : goal.returns-clause-one
+returns-clause-one g c = ok_on c.hold_narrow.result (λ h only. let f = c.if-lists-eq1.false in let l = c.requires.lists.0 in
     let e = c.hold_narrow.ensures.later.lists in absurd (omega arith)) c.hold_narrow.ensures.held
 
 -- it is held in the list that it takes alone
-pub returns-in-Some-clause-stands : goal.returns-in-Some-clause-stands
-returns-in-Some-clause-stands g c =
-    ok_on c.hold_narrow.result (stands_narrow (one g (goal.at.returns-in-Some-clause-stands g c).In-Some)) c.hold_narrow.ensures.counts
+pub returns-clause-stands : goal.returns-clause-stands
+returns-clause-stands g c =
+    ok_on c.hold_narrow.result (stands_narrow (one g (goal.at.returns-clause-stands g c).In-Some)) c.hold_narrow.ensures.counts
 
 -- the steps of a narrow try
-pub returns-in-Some-clause-narrow : goal.returns-in-Some-clause-narrow
-returns-in-Some-clause-narrow g c = λ _.
+pub returns-clause-narrow : goal.returns-clause-narrow
+returns-clause-narrow g c = λ _.
     let b = c.hold_narrow.ensures.bound in let s = c.seats.ensures.some in let e = c.seats.ensures.seats in omega arith
 
 -- which are no more than those of one list
-pub returns-in-Some-clause-each : goal.returns-in-Some-clause-each
-returns-in-Some-clause-each g c = λ k _.
+pub returns-clause-each : goal.returns-clause-each
+returns-clause-each g c = λ k _.
     let b = c.hold_narrow.ensures.bound in let s = c.seats.ensures.some in let e = c.seats.ensures.seats in omega arith
 
 -- a wide range takes two
 pub hold_wide-requires-clause-takes : goal.hold_wide-requires-clause-takes
-hold_wide-requires-clause-takes g c = two g (goal.at.hold_wide-requires-clause-takes g c).In-None
+hold_wide-requires-clause-takes g c = subst (λ (x : Regions). TakesTwo x c.args.range) c.cut.ensures (c.only.ensures.wide c.in_default.is)
 
 -- what a wide try holds it holds alone
-pub returns-in-None-clause-held : goal.returns-in-None-clause-held
-returns-in-None-clause-held g c = ok_on c.hold_wide.result alone_there c.hold_wide.ensures.held
+pub returns-in_default-clause-held : goal.returns-in_default-clause-held
+returns-in_default-clause-held g c = ok_on c.hold_wide.result alone_there c.hold_wide.ensures.held
 
 -- and that counts
-pub returns-in-None-clause-counts : goal.returns-in-None-clause-counts
-returns-in-None-clause-counts g c = ok_both c.hold_wide.result alone_wide c.hold_wide.ensures.held c.hold_wide.ensures.counts
+pub returns-in_default-clause-counts : goal.returns-in_default-clause-counts
+returns-in_default-clause-counts g c = ok_both c.hold_wide.result alone_wide c.hold_wide.ensures.held c.hold_wide.ensures.counts
 
 -- there are several lists
-pub returns-in-None-clause-one : goal.returns-in-None-clause-one
-returns-in-None-clause-one g c = ok_on c.hold_wide.result (λ h only. let f = c.if-lists-eq1.false in let l = c.requires.lists.0 in
+pub returns-in_default-clause-one : goal.returns-in_default-clause-one
+returns-in_default-clause-one g c = ok_on c.hold_wide.result (λ h only. let f = c.if-lists-eq1.false in let l = c.requires.lists.0 in
     let e = c.hold_wide.ensures.later.lists in absurd (omega arith)) c.hold_wide.ensures.held
 
 -- a wide range doesn't take one list alone
-pub returns-in-None-clause-narrow : goal.returns-in-None-clause-narrow
-returns-in-None-clause-narrow g c = λ t.
-    let both = two g (goal.at.returns-in-None-clause-narrow g c).In-None in
-    absurd (both.differ (t.1.alone both.one both.takes_one ∙ sym (t.1.alone both.two both.takes_two)))
+pub returns-in_default-clause-narrow : goal.returns-in_default-clause-narrow
+returns-in_default-clause-narrow g c = λ t.
+    let both = two g c in absurd (both.differ (t.1.alone both.one both.takes_one ∙ sym (t.1.alone both.two both.takes_two)))
 
 -- it is held in list 0
-pub returns-in-None-clause-stands : goal.returns-in-None-clause-stands
-returns-in-None-clause-stands g c =
-    ok_on c.hold_wide.result (stands_wide (two g (goal.at.returns-in-None-clause-stands g c).In-None)) c.hold_wide.ensures.counts
+pub returns-in_default-clause-stands : goal.returns-in_default-clause-stands
+returns-in_default-clause-stands g c =
+    ok_on c.hold_wide.result (stands_wide (two g c)) c.hold_wide.ensures.counts
 
 -- the steps of a wide try
-pub returns-in-None-clause-each : goal.returns-in-None-clause-each
-returns-in-None-clause-each g c = λ k many.
+pub returns-in_default-clause-each : goal.returns-in_default-clause-each
+returns-in_default-clause-each g c = λ k many.
     let n = c.args.hand.now.part.seats in
-    let both = two g (goal.at.returns-in-None-clause-each g c).In-None in
+    let both = two g c in
     let more : 1 ≤ k = some_below c.args.list.now.cut c.args.range (list_count c.args.list.now.cut) k both.one
     (takes_there c.args.list.now.cut c.args.range both.one c.requires.regions both.takes_one) both.takes_one many in
     let whole : k ≡ suc (k - 1) = omega arith in
