@@ -1,6 +1,6 @@
 -- The rows that a caller knows, by their positions, as `row_blocks` speaks of them: a row at a position has the number
 -- that is known of it; and what the words have that show kinds.
-use Rattle.std.proofs.Common.{◌≡◌, ℕ, zero, suc, ◌+◌, ◌<◌, ◌≤◌, List, [], ◌∷◌, length, get_or, cond, sym, refl, ap, ◌∙◌, subst, arith}
+use Rattle.std.proofs.Common.{◌≡◌, ℕ, zero, suc, ◌+◌, ◌<◌, ◌≤◌, List, [], ◌∷◌, length, get_or, cond, sym, ap, ◌∙◌, subst, arith}
 use Rattle.std.proofs.lemmas.Bool.{lt-ltb, le-leb}
 use Rattle.std.specs.Prelude.{Option, Some, None, ◌&&◌, slice_index}
 use Rattle.page_types.specs.declared.TheConstants.{LIMIT}
@@ -22,9 +22,9 @@ use Rattle.plan_words.specs.Reading.{HasLoaded}
 use Rattle.area_guard.specs.Reads.{KnowsWords}
 
 -- a load is a reading
-pub word_reads : (a b : SeatState Pass) → IsWriting a b → KeepsRead a.pass b.pass → known_words b.pass ≡ known_words a.pass
+pub word_reads : {a b : SeatState Pass} → IsWriting a b → KeepsRead a.pass b.pass → known_words b.pass ≡ known_words a.pass
     → known_count b.pass ≡ known_count a.pass → KnowsWords b.pass → HasLoaded a b
-word_reads a b w read words count knows = record {
+word_reads w read words count knows = record {
   reading = record {
     table = w.table;
     number = w.number;
@@ -66,7 +66,7 @@ number_there nb words at there place =
     let y = le-leb at.place (rows_of nb words at.block) place in
     λ i. cond (x i && y i) (rank nb words at.block at.place) (length (rows_by nb words))
 
-module _ (pass : Pass) (nb : ℕ) (blocks : pass.blocks ≡ nb) where
+module _ (pass : Pass) {nb : ℕ} (blocks : pass.blocks ≡ nb) where
   -- the rows that are known
   pub rows_known : rows_by nb (known_words pass) ≡ known_rows pass
   rows_known = ap (λ (n : ℕ). rows_by n (known_words pass)) (sym blocks)
@@ -74,8 +74,7 @@ module _ (pass : Pass) (nb : ℕ) (blocks : pass.blocks ≡ nb) where
   -- a row at a position has its number
   pub number_known : (at : Position) → at.block < blocks_of nb (known_words pass) → at.place ≤ rows_of nb (known_words pass) at.block
       → rank nb (known_words pass) at.block at.place ≡ number_at pass at
-  number_known at there place =
-      sym (number_there nb (known_words pass) at there place) ∙ ap (λ (n : ℕ). number_in n (known_words pass) at) (sym blocks)
+  number_known at there place = sym (number_there nb (known_words pass) at there place) ∙ ap (λ (n : ℕ). number_in n (known_words pass) at) (sym blocks)
 
   -- which is below the number of rows
   pub number_low : (at : Position) → IsLaidOut nb (known_words pass) → at.block < blocks_of nb (known_words pass)

@@ -1,10 +1,10 @@
 -- What a caller knows of the words of the blocks stands among the client words, word by word.
-use Rattle.std.proofs.Common.{◌≡◌, ℕ, zero, suc, ◌+◌, ◌-◌, ◌*◌, ◌<◌, ◌≤◌, cond, List, [], ◌∷◌, ◌++◌, drop, length, get_or, set, length-set}
+use Rattle.std.proofs.Common.{◌≡◌, ℕ, zero, suc, ◌+◌, ◌-◌, ◌*◌, ◌<◌, cond, List, [], ◌∷◌, drop, length, get_or, set, length-set}
 use Rattle.std.proofs.Common.{sym, refl, ap, ◌∙◌, subst, arith, inl, inr, ⊎_elim, eq-eqb, ne_eqb, length-append}
 use Rattle.std.proofs.lemmas.Bool.{cases_lt}
 use Rattle.std.proofs.lemmas.List.{get_or_append_left, get_or-append_right, get_or-drop, get_or-set_same, get_or-set_other, length-drop}
 use Rattle.std.proofs.lemmas.Grind.{same_number_lists}
-use Rattle.std.specs.Prelude.{Option, Some, slice_index}
+use Rattle.std.specs.Prelude.{Option, slice_index}
 use mathlib.Core.Logic.{dite}
 use native.Mathlib.Decide.{ℕ_discrete}
 use Rattle.area_guard.specs.declared.guard.ReadRow.{ReadRow}
@@ -37,8 +37,8 @@ run_word rows from (suc n) zero lt = let e : from ≡ from + 0 = omega arith in 
 run_word rows from (suc n) (suc k) lt = let e : suc from + k ≡ from + suc k = omega arith in run_word rows (suc from) n k (omega arith) ∙ ap (word_of rows) e
 
 -- how many words a caller knows
-pub known_long : (pass : Pass) → KnowsWords pass → length (known_words pass) ≡ 129 * pass.blocks + 1
-known_long pass knows =
+pub known_long : {pass : Pass} → KnowsWords pass → length (known_words pass) ≡ 129 * pass.blocks + 1
+known_long {pass} knows =
     let many = run_many pass.rows 0 (128 * pass.blocks) in
     let all = length-append (words_of pass.rows (slots_to pass.blocks)) (drop 1 (layout_by pass.laid)) in
     let rest = length-drop 1 (layout_by pass.laid) in
@@ -83,21 +83,21 @@ module _ (words : List ℕ) (pass : Pass) (room : HasBlocks words pass.blocks) (
   count_at = ap (λ (l : List ℕ). slice_index l 0) layout_is
 
 -- what two passes know is the same where the same words stand there
-pub same_known : (one two : Pass) → KnowsWords one → KnowsWords two → two.blocks ≡ one.blocks
+pub same_known : {one two : Pass} → KnowsWords one → KnowsWords two → two.blocks ≡ one.blocks
     → ((t : ℕ) → t < 129 * one.blocks + 1 → slice_index (known_words two) t ≡ slice_index (known_words one) t) → known_words two ≡ known_words one
-same_known one two knows_one knows_two blocks same =
-    let a = known_long one knows_one in
-    let b = known_long two knows_two in
+same_known {one} {two} knows_one knows_two blocks same =
+    let a = known_long knows_one in
+    let b = known_long knows_two in
     same_number_lists (known_words two) (known_words one) (omega arith) (λ k lt. same k (omega arith))
 
 -- and one word has changed where one has
-pub set_known : (one two : Pass) (place value : ℕ) → KnowsWords one → KnowsWords two → two.blocks ≡ one.blocks → place < 129 * one.blocks + 1
+pub set_known : {one two : Pass} (place : ℕ) {value : ℕ} → KnowsWords one → KnowsWords two → two.blocks ≡ one.blocks → place < 129 * one.blocks + 1
     → slice_index (known_words two) place ≡ value
     → ((t : ℕ) → t < 129 * one.blocks + 1 → (t ≡ place → ⊥) → slice_index (known_words two) t ≡ slice_index (known_words one) t)
     → known_words two ≡ set (known_words one) place value
-set_known one two place value knows_one knows_two blocks there here same =
-    let a = known_long one knows_one in
-    let b = known_long two knows_two in
+set_known {one} {two} place {value} knows_one knows_two blocks there here same =
+    let a = known_long knows_one in
+    let b = known_long knows_two in
     let c = length-set (known_words one) place value in
     same_number_lists (known_words two) (set (known_words one) place value) (omega arith) (λ k lt. dite (ℕ_discrete k place)
     (λ is. subst (λ (n : ℕ). slice_index (known_words two) n ≡ slice_index (set (known_words one) place value) n) (sym is)

@@ -1,6 +1,6 @@
 -- What is so at a moment of the running space of a caller that holds everything: what it knows of the words stands
 -- there.
-use Rattle.std.proofs.Common.{◌≡◌, ℕ, ◌+◌, List, [], ◌∷◌, sym, refl, ap, ◌∙◌, subst, ⊎_elim}
+use Rattle.std.proofs.Common.{◌≡◌, ℕ, ◌+◌, List, [], ◌∷◌, refl, subst, ⊎_elim}
 use Rattle.std.proofs.lemmas.List.Elements.{All-head, All-tail}
 use Rattle.std.specs.Prelude.{All, Option, Some, slice_index}
 use mathlib.Core.Option.{some}
@@ -25,9 +25,9 @@ stands held words (r ∷ rest) i w all h = ⊎_elim
     (λ t. stands held words rest i w (All-tail (StillStands held words) r rest all) t) h
 
 -- the caller's moment, as the guard speaks of it
-abbrev pub here_at : (grants : Grants) (words : List ℕ) (passes : List Pass) (seat : ℕ) (held : Option Held) (pass : Pass)
+abbrev pub here_at : {grants : Grants} {words : List ℕ} {passes : List Pass} {seat : ℕ} {held : Option Held} {pass : Pass}
     → Moment HasHistory seat held pass grants words passes → Here grants words passes seat
-here_at grants words passes seat held pass m = record {
+here_at {pass} m = record {
   start = m.met.0;
   history = m.met.1;
   state = m.met.2;

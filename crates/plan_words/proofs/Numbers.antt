@@ -36,18 +36,18 @@ by_tests pass at false b x y lt =
     (λ i. cond (x i && y i) (rank pass.blocks (known_words pass) at.block at.place) (length (known_rows pass))) in absurd (omega arith)
 
 -- a number below the number of rows is that of a row
-pub row_place : (pass : Pass) (at : Position) (nb : ℕ) (rows : List ℕ) → pass.blocks ≡ nb → known_rows pass ≡ rows → number_at pass at < length rows
+pub row_place : (pass : Pass) (at : Position) {nb : ℕ} {rows : List ℕ} → pass.blocks ≡ nb → known_rows pass ≡ rows → number_at pass at < length rows
     → IsRowPlace nb pass at
-row_place pass at nb rows blocks are lt = subst (λ (n : ℕ). IsRowPlace n pass at) blocks
+row_place pass at blocks are lt = subst (λ (n : ℕ). IsRowPlace n pass at) blocks
     (by_tests pass at (nat_lt at.block (blocks_of pass.blocks (known_words pass)))
     (nat_le at.place (rows_of pass.blocks (known_words pass) at.block)) refl refl
     (subst (λ (l : List ℕ). number_at pass at < length l) (sym are) lt))
 
 -- what a splice of the known rows leaves is what the plan does
-pub written_rows : (old new : Pass) (plan : Splice) (nb r gone : ℕ) (more : List ℕ) → old.blocks ≡ nb → new.blocks ≡ old.blocks
+pub written_rows : (old new : Pass) (plan : Splice) {nb r : ℕ} (gone : ℕ) {more : List ℕ} → old.blocks ≡ nb → new.blocks ≡ old.blocks
     → known_rows old ≡ plan.old → plan.first ≡ r → plan.end ≡ plan.first + gone → more ≡ plan.more
     → rows_by nb (known_words new) ≡ splice (rows_by nb (known_words old)) r (r + gone) more → known_rows new ≡ rows_after plan
-written_rows old new plan nb r gone more blocks same are first end comes spliced =
+written_rows old new plan {nb} {r} gone blocks same are first end comes spliced =
     let stood : rows_by nb (known_words old) ≡ plan.old = ap (λ (n : ℕ). rows_by n (known_words old)) (sym blocks) ∙ are in
     let begins : r ≡ plan.first = sym first in
     let ends : r + gone ≡ plan.end = omega arith in

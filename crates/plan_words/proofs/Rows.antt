@@ -1,6 +1,6 @@
 -- The rows that a caller knows are those that stand among the client words; so where the rows of its splice are written
 -- the guard allows it to raise the sequence word.
-use Rattle.std.proofs.Common.{◌≡◌, ℕ, ◌+◌, ◌-◌, ◌*◌, ◌/◌, ◌%◌, ◌<◌, ◌≤◌, List, [], ◌∷◌, ◌++◌, drop, take, length, get_or, inl, inr}
+use Rattle.std.proofs.Common.{◌≡◌, ℕ, ◌+◌, ◌-◌, ◌*◌, ◌/◌, ◌%◌, ◌<◌, ◌≤◌, List, [], ◌∷◌, ◌++◌, drop, take, length, inl, inr}
 use Rattle.std.proofs.Common.{sym, refl, ap, ◌∙◌, subst, arith}
 use Rattle.std.proofs.lemmas.List.{get_or-drop, get_or-map, length-map, length-drop, length-take-le, drop_at, take_at, nil_from_length}
 use Rattle.std.proofs.lemmas.List.Elements.{All-from_get_or, All-weaker, All-drop, All-take}
@@ -33,7 +33,7 @@ use Rattle.plan_words.proofs.Moments.{here_at, part_at, backs_at}
 use Rattle.plan_words.proofs.Storing.{word_now, count_now}
 
 -- lists whose words are the same up to the end of the layout
-module _ (nb : ℕ) (one two : List ℕ) (laid : IsLaidOut nb one) (wide : 129 * nb + 1 ≤ length two)
+module _ {nb : ℕ} {one : List ℕ} (two : List ℕ) (laid : IsLaidOut nb one) (wide : 129 * nb + 1 ≤ length two)
     (same : (t : ℕ) → t < 129 * nb + 1 → slice_index two t ≡ slice_index one t) where
   count : blocks_of nb two ≡ blocks_of nb one
   count = let s = laid.some in let p = laid.spare in same (128 * nb) (omega arith)
@@ -82,8 +82,8 @@ module _ (nb : ℕ) (one two : List ℕ) (laid : IsLaidOut nb one) (wide : 129 *
       subst (λ (n : ℕ). n < 64) (sym e) lt
 
 -- a seat that has a splice to write
-module _ (seat : ℕ) (held : Option Held) (pass : Pass) (plan : Splice) (all : held ≡ Some everything)
-    (planned : pass.pending ≡ Planned plan) (k : KnowsWords pass) where
+module _ (seat : ℕ) {held : Option Held} {pass : Pass} (plan : Splice) (all : held ≡ Some everything) (planned : pass.pending ≡ Planned plan)
+    (k : KnowsWords pass) where
   -- the rows that are written show the last state
   written_shows : (grants : Grants) (words : List ℕ) (passes : List Pass) (kept : HasHistory grants words passes)
       → get_elem? grants seat ≡ some held → get_elem? passes seat ≡ some pass → KnowsBlocks pass
@@ -98,13 +98,13 @@ module _ (seat : ℕ) (held : Option Held) (pass : Pass) (plan : Splice) (all : 
       let long = length-drop 3 words in
       let fits : 129 * pass.blocks + 1 ≤ length blocks = omega arith in
       let same : (t : ℕ) → t < 129 * pass.blocks + 1 → slice_index blocks t ≡ slice_index (known_words pass) t =
-      λ (t : ℕ) lt. get_or-drop 3 words t 0 ∙ sym (word_now seat held pass all k grants words passes kept grant own t lt) in
-      let laid = also_laid pass.blocks (known_words pass) blocks b.laid fits same in
+      λ (t : ℕ) lt. get_or-drop 3 words t 0 ∙ sym (word_now seat all k grants words passes kept grant own t lt) in
+      let laid = also_laid blocks b.laid fits same in
       let laid_now : IsLaidOut (nb_in words) blocks = subst (λ (n : ℕ). IsLaidOut n blocks) nb laid in
       let rows : rows_in words ≡ rows_after plan = ap (λ (n : ℕ). rows_by n blocks) (sym nb)
-      ∙ (also_rows pass.blocks (known_words pass) blocks b.laid fits same ∙ has) in
+      ∙ (also_rows blocks b.laid fits same ∙ has) in
       let stands : slice_index words 2 ≡ length (rows_after plan) =
-      sym (count_now seat held pass all k grants words passes kept grant own) ∙ counted in
+      sym (count_now seat all k grants words passes kept grant own) ∙ counted in
       let slots : length (slots_in words) ≡ length (rows_in words) = ap length (slots_as words wide laid_now)
       ∙ (length-slots_in (nb_in words) blocks ∙ sym (length-rows_in (nb_in words) blocks laid_now)) in
       record {
@@ -115,15 +115,15 @@ module _ (seat : ℕ) (held : Option Held) (pass : Pass) (plan : Splice) (all : 
         gaps = subst (All IsBareGap) (sym rows) shows.gaps;
         laid = laid_now;
         counted = stands ∙ (sym (ap length rows) ∙ sym slots);
-        free = subst (λ (n : ℕ). blocks_of n blocks < n) nb (also_free pass.blocks (known_words pass) blocks b.laid fits same b.free);
-        short = subst (λ (n : ℕ). rows_of n blocks 0 < 64) nb (also_short pass.blocks (known_words pass) blocks b.laid fits same b.free b.short);
+        free = subst (λ (n : ℕ). blocks_of n blocks < n) nb (also_free blocks b.laid fits same b.free);
+        short = subst (λ (n : ℕ). rows_of n blocks 0 < 64) nb (also_short blocks b.laid fits same b.free b.short);
       }
 
   -- so the sequence word may be raised
   pub may_raise : KnowsBlocks pass → known_rows pass ≡ rows_after plan → known_count pass ≡ length (rows_after plan)
       → IsAllowed HasHistory Allowed no_note seat held pass (adds 1 1)
   may_raise b has counted grants words passes m there small =
-      let here = here_at grants words passes seat held pass m in
+      let here = here_at m in
       (after_raise pass, (refl, here, raise plan refl planned (written_shows grants words passes m.met m.grant m.own b has counted) refl))
 
 -- each row of a list is one of them
@@ -132,13 +132,13 @@ all_one_of rows = All-from_get_or (IsOneOf rows) rows 0 (λ j lt.
     let at = there rows j lt in (j, at.1 ∙ ap some (sym (at_or rows j at.0 0 at.1))))
 
 -- the rows that stood are rows of the splice
-pub old_rows : (plan : Splice) (rows : List ℕ) → rows ≡ plan.old → All (IsPlanRow plan) rows
-old_rows plan rows is = subst (All (IsPlanRow plan)) (sym is)
+pub old_rows : (plan : Splice) {rows : List ℕ} → rows ≡ plan.old → All (IsPlanRow plan) rows
+old_rows plan is = subst (All (IsPlanRow plan)) (sym is)
     (All-weaker (IsOneOf plan.old) (IsPlanRow plan) (λ w one. inl one) plan.old (all_one_of plan.old))
 
 -- and so are those that come
-pub more_rows : (plan : Splice) (rows : List ℕ) → rows ≡ plan.more → plan.first ≤ length plan.old → All (IsPlanRow plan) rows
-more_rows plan rows is inside =
+pub more_rows : (plan : Splice) {rows : List ℕ} → rows ≡ plan.more → plan.first ≤ length plan.old → All (IsPlanRow plan) rows
+more_rows plan is inside =
     let front : List ℕ = take plan.first plan.old in
     let back : List ℕ = drop plan.end plan.old in
     let long : length front ≡ plan.first = length-take-le plan.first plan.old inside in
@@ -153,18 +153,18 @@ more_rows plan rows is inside =
     (subst (All (IsOneOf (rows_after plan))) here all))
 
 -- where no row goes and none comes the rows after a splice are those before it
-pub none_written : (plan : Splice) (gone : ℕ) (more : List ℕ) → plan.end ≡ plan.first + gone → gone ≡ 0
-    → more ≡ plan.more → length more ≡ 0 → rows_after plan ≡ plan.old
-none_written plan gone more end none is no_more =
+pub none_written : (plan : Splice) {gone : ℕ} {more : List ℕ} → plan.end ≡ plan.first + gone → gone ≡ 0 → more ≡ plan.more → length more ≡ 0
+    → rows_after plan ≡ plan.old
+none_written plan end none is no_more =
     let nothing : plan.more ≡ [] = nil_from_length plan.more (ap length (sym is) ∙ no_more) in
     let same : plan.end ≡ plan.first = omega arith in
     (λ i. splice plan.old plan.first (same i) (nothing i)) ∙ splice_none plan.old plan.first
 
 -- there is room for the rows of a splice, as `row_blocks` asks for it
-pub write_room : (plan : Splice) (rows more : List ℕ) (nb gone : ℕ) → rows ≡ plan.old → more ≡ plan.more → plan.end ≡ plan.first + gone
+pub write_room : (plan : Splice) {rows more : List ℕ} (nb gone : ℕ) → rows ≡ plan.old → more ≡ plan.more → plan.end ≡ plan.first + gone
     → plan.end ≤ length plan.old → length (rows_after plan) ≤ room_of nb → 0 < length (rows_after plan)
     → 2 * (length rows + length more) < 129 * (nb - 2) + 2 * gone
-write_room plan rows more nb gone stood comes end inside fits some_row =
+write_room plan nb gone stood comes end inside fits some_row =
     let a = ap length stood in
     let b = ap length comes in
     let c = length-splice plan.old plan.more plan.first plan.end (omega arith) inside in

@@ -44,7 +44,7 @@ pub known_blocks : (words : List ℕ) (kinds : ℕ → Option Kind) (pass : Pass
 known_blocks words kinds pass room s k at =
     let blocks : List ℕ = drop 3 words in
     let nb : nb_in words ≡ pass.blocks = sym room.0 in
-    let long = known_long pass k in
+    let long = known_long k in
     let fits : 129 * pass.blocks + 1 ≤ length (known_words pass) = omega arith in
     let laid : IsLaidOut pass.blocks blocks = subst (λ (n : ℕ). IsLaidOut n blocks) nb s.laid in
     let free : blocks_of pass.blocks blocks < pass.blocks = subst (λ (n : ℕ). blocks_of n blocks < n) nb s.free in
@@ -52,9 +52,9 @@ known_blocks words kinds pass room s k at =
     let same : (t : ℕ) → t < 129 * pass.blocks + 1 → slice_index (known_words pass) t ≡ slice_index blocks t =
     λ (t : ℕ) lt. at t lt ∙ sym (get_or-drop 3 words t 0) in (
       record {
-        laid = also_laid pass.blocks blocks (known_words pass) laid fits same;
-        free = also_free pass.blocks blocks (known_words pass) laid fits same free;
-        short = also_short pass.blocks blocks (known_words pass) laid fits same free short;
+        laid = also_laid (known_words pass) laid fits same;
+        free = also_free (known_words pass) laid fits same free;
+        short = also_short (known_words pass) laid fits same free short;
       },
-      also_rows pass.blocks blocks (known_words pass) laid fits same ∙ ap (λ (n : ℕ). rows_by n blocks) (sym nb),
+      also_rows (known_words pass) laid fits same ∙ ap (λ (n : ℕ). rows_by n blocks) (sym nb),
     )

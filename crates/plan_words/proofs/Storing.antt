@@ -15,16 +15,15 @@ use Rattle.lock_core.specs.Grants.{Grants}
 use Rattle.lock_core.specs.Client.{loads, stores, adds, IsAllowed, IsMade}
 use Rattle.range_rw.specs.Contract.{SeatState, TableShape, IsClientCall, Record}
 use Rattle.area_guard.specs.declared.guard.ReadRow.{ReadRow}
-use Rattle.area_guard.specs.declared.guard.Note.{Note}
 use Rattle.area_guard.specs.declared.guard.Pass.{Pass}
 use Rattle.area_guard.specs.declared.guard.Pending.{Pending}
 use Rattle.area_guard.specs.declared.guard.Pending.TheVariants.{Planned}
 use Rattle.area_guard.specs.declared.guard.Splice.{Splice}
 use Rattle.space_model.specs.declared.entries.Entry.{Entry}
-use Rattle.area_guard.specs.Rows.{nb_in, layout_in, slots_to, IsLayoutPlace}
+use Rattle.area_guard.specs.Rows.{nb_in, layout_in, slots_to}
 use Rattle.area_guard.specs.Reads.{everything, HasRead, noted_at}
 use Rattle.area_guard.specs.Writes.{everything_pages}
-use Rattle.area_guard.specs.History.{StillLaid, HasBlocks, HasHistory, HoldsJust, HoldsNothing, HoldsPages, Allowed, Here, IsInUse}
+use Rattle.area_guard.specs.History.{StillLaid, HasBlocks, HasHistory, HoldsJust, HoldsNothing, HoldsPages, Allowed, Here}
 use Rattle.area_guard.specs.History.{IsNew, IsPlanRow, MayLoad, MayStore, MayWrite, MayAdd}
 use Rattle.area_guard.specs.History.{laid_with, without, rows_after, after_seen, after_layout, after_row, after_store, after_raise}
 use Rattle.area_guard.specs.History.MayLoad.{number, glance, sequence, layout, row}
@@ -32,10 +31,10 @@ use Rattle.area_guard.specs.History.MayStore.{store_row, store_count, store_layo
 use Rattle.area_guard.specs.History.MayAdd.{draw, raise}
 use Rattle.area_guard.specs.Keeping.{no_note, steps_keep}
 use Rattle.area_guard.proofs.Slots.{layout_long}
-use Rattle.area_guard.specs.Reads.{layout_by, known_count, known_words, KnowsWords}
+use Rattle.area_guard.specs.Reads.{known_count, known_words, KnowsWords}
 use Rattle.plan_words.specs.Writing.{HoldsWords, KeepsRead, WritesPlan, IsWriting, IsWritten, plan_at, splice_in}
 use Rattle.plan_words.proofs.Knowing.{known_at, count_at, same_known, set_known}
-use Rattle.plan_words.proofs.Moments.{here_at, part_at, backs_at, rows_at}
+use Rattle.plan_words.proofs.Moments.{here_at, part_at, rows_at}
 
 -- a pass that knows another layout and other rows
 abbrev knows : Option (List ℕ) → List ReadRow → Pass → Pass
@@ -65,12 +64,12 @@ has_later words [] rows i w h = h
 has_later words (s ∷ rest) rows i w h = inr (has_later words rest rows i w h)
 
 -- what a load of a word of the blocks leaves
-load_learns : (own : Option Held → Type 0) (free held : Type 0) (words : List ℕ) (history : List Entry) (place : ℕ) (p after : Pass)
+load_learns : {own : Option Held → Type 0} {free held : Type 0} {words : List ℕ} {history : List Entry} (place : ℕ) {p after : Pass}
     → HasBlocks words p.blocks → KnowsWords p → MayLoad own free held words history (3 + place) p after → Learns p after
-load_learns own free held words history place p after room k (number h o e is) = absurd (omega arith)
-load_learns own free held words history place p after room k (glance f e is) = absurd (omega arith)
-load_learns own free held words history place p after room k (sequence h e is) = absurd (omega arith)
-load_learns own free held words history place p after room k (layout h at is) = record {
+load_learns place room k (number h o e is) = absurd (omega arith)
+load_learns place room k (glance f e is) = absurd (omega arith)
+load_learns place room k (sequence h e is) = absurd (omega arith)
+load_learns {words} place {p} room k (layout h at is) = record {
   laid = Some (layout_in words);
   rows = noted_at words (slots_to (nb_in words)) ++ p.rows;
   is = is;
@@ -81,7 +80,7 @@ load_learns own free held words history place p after room k (layout h at is) = 
     slots = λ slot lt. let r = k.slots slot lt in (r.0, has_later words (slots_to (nb_in words)) p.rows slot r.0 r.1);
   };
 }
-load_learns own free held words history place p after room k (row i h slot e is) = record {
+load_learns {words} place {p} room k (row i h slot e is) = record {
   laid = p.laid;
   rows = record { index = i; word = slice_index words (3 + i) } ∷ p.rows;
   is = is;
@@ -94,19 +93,19 @@ load_learns own free held words history place p after room k (row i h slot e is)
 }
 
 -- and keeps
-load_keeps : (own : Option Held → Type 0) (free held : Type 0) (words : List ℕ) (history : List Entry) (place : ℕ) (p after : Pass)
-    → StillLaid words p.laid → MayLoad own free held words history (3 + place) p after → KeepsRead p after
-load_keeps own free held words history place p after still (number h o e is) = absurd (omega arith)
-load_keeps own free held words history place p after still (glance f e is) = absurd (omega arith)
-load_keeps own free held words history place p after still (sequence h e is) = absurd (omega arith)
-load_keeps own free held words history place p after still (layout h at is) = subst (KeepsRead p) (sym is) (record {
+load_keeps : {own : Option Held → Type 0} {free held : Type 0} {words : List ℕ} {history : List Entry} (place : ℕ) {p after : Pass} → StillLaid words p.laid
+    → MayLoad own free held words history (3 + place) p after → KeepsRead p after
+load_keeps place still (number h o e is) = absurd (omega arith)
+load_keeps place still (glance f e is) = absurd (omega arith)
+load_keeps place still (sequence h e is) = absurd (omega arith)
+load_keeps {words} place {p} still (layout h at is) = subst (KeepsRead p) (sym is) (record {
   laid = λ layout e. ap Some (still layout e);
   rows = λ i w h. has_later words (slots_to (nb_in words)) p.rows i w h;
   sequence = λ n e. e;
   pending = refl;
   blocks = refl;
 })
-load_keeps own free held words history place p after still (row i h slot e is) = subst (KeepsRead p) (sym is) (record {
+load_keeps place {p} still (row i h slot e is) = subst (KeepsRead p) (sym is) (record {
   laid = λ layout e. e;
   rows = λ j w h. inr h;
   sequence = λ n e. e;
@@ -115,8 +114,8 @@ load_keeps own free held words history place p after still (row i h slot e is) =
 })
 
 -- what a pass knows after a word of its layout was stored
-laid_learns : (index value : ℕ) (p : Pass) → KnowsWords p → KnowsWords (knows (laid_with index value p.laid) p.rows p)
-laid_learns index value p k = record {
+laid_learns : (index value : ℕ) {p : Pass} → KnowsWords p → KnowsWords (knows (laid_with index value p.laid) p.rows p)
+laid_learns index value k = record {
   layout = set k.layout index value;
   laid = ap (laid_with index value) k.laid;
   long = length-set k.layout index value ∙ k.long;
@@ -124,8 +123,8 @@ laid_learns index value p k = record {
 }
 
 -- and what a store of a splice leaves
-store_learns : (plan : Splice) (place value : ℕ) (p after : Pass) → KnowsWords p → MayStore plan place value p after → Learns p after
-store_learns plan place value p after k (store_row i slot e v is) = record {
+store_learns : {plan : Splice} {place value : ℕ} {p after : Pass} → KnowsWords p → MayStore plan place value p after → Learns p after
+store_learns {value} {p} k (store_row i slot e v is) = record {
   laid = p.laid;
   rows = record { index = i; word = value } ∷ without i p.rows;
   is = is;
@@ -138,26 +137,26 @@ store_learns plan place value p after k (store_row i slot e v is) = record {
         (λ differ. let r = k.slots s lt in (r.0, inr (has_others i s r.0 p.rows differ r.1)));
   };
 }
-store_learns plan place value p after k (store_count e v is) = record {
+store_learns {value} {p} k (store_count e v is) = record {
   laid = laid_with 0 value p.laid;
   rows = p.rows;
   is = is;
-  all = laid_learns 0 value p k;
+  all = laid_learns 0 value k;
 }
-store_learns plan place value p after k (store_layout i few e is) = record {
+store_learns {value} {p} k (store_layout i few e is) = record {
   laid = laid_with (suc i) value p.laid;
   rows = p.rows;
   is = is;
-  all = laid_learns (suc i) value p k;
+  all = laid_learns (suc i) value k;
 }
 
 -- a caller with a splice makes the stores of that splice
-of_plan : (words : List ℕ) (pending : Pending) (plan : Splice) (place value : ℕ) (p after : Pass) → pending ≡ Planned plan
+of_plan : (words : List ℕ) {pending : Pending} (plan : Splice) (place value : ℕ) (p after : Pass) → pending ≡ Planned plan
     → MayWrite words pending place value p after → MayStore plan place value p after
-of_plan words pending plan place value p after is may = (subst (λ (q : Pending). MayWrite words q place value p after) is may).0
+of_plan words plan place value p after is may = (subst (λ (q : Pending). MayWrite words q place value p after) is may).0
 
 -- steps of a seat that holds everything
-module _ (seat : ℕ) (held : Option Held) (pass : Pass) (all : held ≡ Some everything) (k : KnowsWords pass) where
+module _ (seat : ℕ) {held : Option Held} {pass : Pass} (all : held ≡ Some everything) (k : KnowsWords pass) where
   -- at a moment of the seat each word that it knows stands there
   pub word_now : (grants : Grants) (words : List ℕ) (passes : List Pass) → HasHistory grants words passes → get_elem? grants seat ≡ some held
       → get_elem? passes seat ≡ some pass → (t : ℕ) → t < 129 * pass.blocks + 1 → slice_index (known_words pass) t ≡ slice_index words (3 + t)
@@ -174,7 +173,7 @@ module _ (seat : ℕ) (held : Option Held) (pass : Pass) (all : held ≡ Some ev
   -- the guard allows a load of a word of the blocks
   pub may_load_word : (place : ℕ) → place < 129 * pass.blocks + 1 → IsAllowed HasHistory Allowed no_note seat held pass (loads (3 + place))
   may_load_word place lt grants words passes m there small =
-      let here = here_at grants words passes seat held pass m in
+      let here = here_at m in
       let pages : HoldsPages grants seat = (everything, m.grant ∙ ap some all, everything_pages) in
       elim (cases_lt place (128 * pass.blocks)) [
         | inl slot ↦ (after_row place (slice_index words (3 + place)) pass, (here, row place pages slot refl refl))
@@ -191,7 +190,7 @@ module _ (seat : ℕ) (held : Option Held) (pass : Pass) (all : held ≡ Some ev
     pub may_store_row : (slot value : ℕ) → slot < 128 * pass.blocks → IsPlanRow plan value → slice_index (known_words pass) slot ≢ value
         → IsAllowed HasHistory Allowed no_note seat held pass (stores (3 + slot) value)
     may_store_row slot value lt is differs grants words passes m there small =
-        let here = here_at grants words passes seat held pass m in (
+        let here = here_at m in (
           after_store slot value pass,
           (
             here,
@@ -204,7 +203,7 @@ module _ (seat : ℕ) (held : Option Held) (pass : Pass) (all : held ≡ Some ev
     pub may_store_layout : (place value : ℕ) → 128 * pass.blocks ≤ place → place < 129 * pass.blocks + 1
         → IsAllowed HasHistory Allowed no_note seat held pass (stores (3 + place) value)
     may_store_layout place value ge lt grants words passes m there small =
-        let here = here_at grants words passes seat held pass m in
+        let here = here_at m in
         let index : ℕ = place - 128 * pass.blocks in
         let nb = (part_at grants words passes seat pass m.met m.own).room.0 in (
           after_layout (suc index) value pass,
@@ -219,7 +218,7 @@ module _ (seat : ℕ) (held : Option Held) (pass : Pass) (all : held ≡ Some ev
     pub may_store_count : (value : ℕ) → value ≡ length (rows_after plan) → known_count pass ≢ value
         → IsAllowed HasHistory Allowed no_note seat held pass (stores 2 value)
     may_store_count value is differs grants words passes m there small =
-        let here = here_at grants words passes seat held pass m in (
+        let here = here_at m in (
           after_layout 0 value pass,
           (
             here,
@@ -229,8 +228,8 @@ module _ (seat : ℕ) (held : Option Held) (pass : Pass) (all : held ≡ Some ev
         )
 
 -- a step on a word of the blocks, or on the row count, is a writing
-step_writes : (a b : SeatState Pass) (place : ℕ) → IsClientCall a place b → Learns a.pass b.pass → IsWriting a b
-step_writes a b place call l = record {
+step_writes : {a b : SeatState Pass} {place : ℕ} → IsClientCall a place b → Learns a.pass b.pass → IsWriting a b
+step_writes {a} {b} call l = record {
   table = call.table;
   number = call.number;
   held = call.held;
@@ -249,8 +248,8 @@ step_writes a b place call l = record {
 }
 
 -- the seat holds and knows the words still, and has its splice to write
-pub holds_on : (table : TableShape) (a b : SeatState Pass) → HoldsWords table a → IsWriting a b → KnowsWords b.pass → HoldsWords table b
-holds_on table a b p w k = let e = w.blocks in let wide = p.wide in let few = p.few in record {
+pub holds_on : {table : TableShape} {a b : SeatState Pass} → HoldsWords table a → IsWriting a b → KnowsWords b.pass → HoldsWords table b
+holds_on p w k = let e = w.blocks in let wide = p.wide in let few = p.few in record {
   wide = omega arith;
   few = omega arith;
   table_is = w.table ∙ p.table_is;
@@ -258,8 +257,8 @@ holds_on table a b p w k = let e = w.blocks in let wide = p.wide in let few = p.
   knows = k;
 }
 
-pub writes_on : (table : TableShape) (a b : SeatState Pass) → WritesPlan table a → IsWriting a b → HoldsWords table b → WritesPlan table b
-writes_on table a b p w h = record {
+pub writes_on : {table : TableShape} {a b : SeatState Pass} → WritesPlan table a → IsWriting a b → HoldsWords table b → WritesPlan table b
+writes_on p w h = record {
   holds = h;
   pending = w.pending ∙ (p.pending ∙ ap Planned (ap splice_in (sym w.pending)));
 }
@@ -270,12 +269,12 @@ pub record IsStep (table : TableShape) (a b : SeatState Pass) : Type 0 where
   pub holds : HoldsWords table b
   pub taken : b.trace.taken ≡ a.trace.taken + 1
 
-step_of : (table : TableShape) (a b : SeatState Pass) (place : ℕ) → HoldsWords table a → IsClientCall a place b → Learns a.pass b.pass → IsStep table a b
-step_of table a b place w call l =
-    let writing = step_writes a b place call l in
+step_of : {table : TableShape} {a b : SeatState Pass} {place : ℕ} → HoldsWords table a → IsClientCall a place b → Learns a.pass b.pass → IsStep table a b
+step_of w call l =
+    let writing = step_writes call l in
     record {
       writing = writing;
-      holds = holds_on table a b w writing (subst KnowsWords (sym l.is) l.all);
+      holds = holds_on w writing (subst KnowsWords (sym l.is) l.all);
       taken = ap (λ (r : Record). r.taken) call.trace;
     }
 
@@ -287,7 +286,7 @@ pub record IsLoad (table : TableShape) (a b : SeatState Pass) (place found : ℕ
   pub count : known_count b.pass ≡ known_count a.pass
   pub read : KeepsRead a.pass b.pass
 
-module _ (table : TableShape) (a b : SeatState Pass) (w : HoldsWords table a) where
+module _ {table : TableShape} {a : SeatState Pass} (b : SeatState Pass) (w : HoldsWords table a) where
   -- where a step keeps the rule, each word that the seat knows stands there behind it
   after_now : (grants : Grants) (words : List ℕ) (passes : List Pass) → HasHistory grants words (set passes a.number b.pass)
       → get_elem? grants a.number ≡ some a.held → get_elem? passes a.number ≡ some a.pass → (s : IsStep table a b)
@@ -296,8 +295,8 @@ module _ (table : TableShape) (a b : SeatState Pass) (w : HoldsWords table a) wh
   after_now grants words passes kept grant own s =
       let here = set_here passes a.number b.pass (below passes a.number a.pass own) in
       let blocks = s.writing.blocks in (
-        λ t lt. word_now a.number a.held b.pass w.held s.holds.knows grants words (set passes a.number b.pass) kept grant here t (omega arith),
-        count_now a.number a.held b.pass w.held s.holds.knows grants words (set passes a.number b.pass) kept grant here,
+        λ t lt. word_now a.number w.held s.holds.knows grants words (set passes a.number b.pass) kept grant here t (omega arith),
+        count_now a.number w.held s.holds.knows grants words (set passes a.number b.pass) kept grant here,
       )
 
   pub word_loaded : (place found : ℕ) → place < 129 * a.pass.blocks + 1 → IsClientCall a (3 + place) b
@@ -309,18 +308,18 @@ module _ (table : TableShape) (a b : SeatState Pass) (w : HoldsWords table a) wh
       let may : MayLoad (HoldsJust grants a.number) (HoldsNothing grants a.number) (HoldsPages grants a.number) words here.history (3 + place) a.pass b.pass =
       subst (λ (x : Pass). MayLoad (HoldsJust grants a.number) (HoldsNothing grants a.number) (HoldsPages grants a.number) words here.history
       (3 + place) x b.pass) same made.5.1 in
-      let learns = load_learns _ _ _ words here.history place a.pass b.pass part.room w.knows may in
-      let step = step_of table a b (3 + place) w call learns in
-      let before = word_now a.number a.held a.pass w.held w.knows grants words passes m.met m.grant m.own in
-      let counted = count_now a.number a.held a.pass w.held w.knows grants words passes m.met m.grant m.own in
+      let learns = load_learns place part.room w.knows may in
+      let step = step_of w call learns in
+      let before = word_now a.number w.held w.knows grants words passes m.met m.grant m.own in
+      let counted = count_now a.number w.held w.knows grants words passes m.met m.grant m.own in
       let kept = steps_keep grants words passes a.number (loads (3 + place)) no_note b.pass m.met made.5 in
       let after = after_now grants words passes kept m.grant m.own step in
       record {
         step = step;
         word = sym made.4 ∙ sym (before place lt);
-        words = same_known a.pass b.pass w.knows step.holds.knows step.writing.blocks (λ t few. after.0 t few ∙ sym (before t few));
+        words = same_known w.knows step.holds.knows step.writing.blocks (λ t few. after.0 t few ∙ sym (before t few));
         count = after.1 ∙ sym counted;
-        read = load_keeps _ _ _ words here.history place a.pass b.pass part.laid may;
+        read = load_keeps place part.laid may;
       }
 
 -- a store among the words of the blocks, or of the row count
@@ -338,24 +337,23 @@ record WasStored (table : TableShape) (a b : SeatState Pass) (at value : ℕ) (w
   after : (t : ℕ) → t < 129 * a.pass.blocks + 1 → slice_index (known_words b.pass) t ≡ slice_index (set words at value) (3 + t)
   counts : known_count b.pass ≡ slice_index (set words at value) 2
 
-module _ (table : TableShape) (a b : SeatState Pass) (w : WritesPlan table a) (value found : ℕ) where
-  stored : (at : ℕ) → IsClientCall a at b → (made : IsMade HasHistory Allowed no_note a.number a.held a.pass (stores at value) found b.pass)
+module _ {table : TableShape} {a b : SeatState Pass} (w : WritesPlan table a) (value found : ℕ) where
+  stored : {at : ℕ} → IsClientCall a at b → (made : IsMade HasHistory Allowed no_note a.number a.held a.pass (stores at value) found b.pass)
       → WasStored table a b at value made.1
-  stored at call made =
+  stored {at} call made =
       let grants = made.0 in let words = made.1 in let passes = made.2 in let m = made.3 in let here = made.5.0 in
       let h = w.holds in
       let same : here.pass ≡ a.pass = some-injective here.pass a.pass (sym here.own ∙ m.own) in
-      let learns = store_learns (plan_at a) at value a.pass b.pass h.knows
-      (subst (λ (x : Pass). MayStore (plan_at a) at value x b.pass) same
-      (of_plan words here.pass.pending (plan_at a) at value here.pass b.pass (ap (λ (x : Pass). x.pending) same ∙ w.pending) made.5.1)) in
-      let step = step_of table a b at h call learns in
+      let learns = store_learns h.knows (subst (λ (x : Pass). MayStore (plan_at a) at value x b.pass) same
+      (of_plan words (plan_at a) at value here.pass b.pass (ap (λ (x : Pass). x.pending) same ∙ w.pending) made.5.1)) in
+      let step = step_of h call learns in
       let kept = steps_keep grants words passes a.number (stores at value) no_note b.pass m.met made.5 in
-      let after = after_now table a b h grants (set words at value) passes kept m.grant m.own step in
+      let after = after_now b h grants (set words at value) passes kept m.grant m.own step in
       record {
         step = step;
         room = (part_at grants words passes a.number a.pass m.met m.own).room;
-        before = word_now a.number a.held a.pass h.held h.knows grants words passes m.met m.grant m.own;
-        counted = count_now a.number a.held a.pass h.held h.knows grants words passes m.met m.grant m.own;
+        before = word_now a.number h.held h.knows grants words passes m.met m.grant m.own;
+        counted = count_now a.number h.held h.knows grants words passes m.met m.grant m.own;
         after = after.0;
         counts = after.1;
       }
@@ -365,16 +363,15 @@ module _ (table : TableShape) (a b : SeatState Pass) (w : WritesPlan table a) (v
       → IsMade HasHistory Allowed no_note a.number a.held a.pass (stores (3 + place) value) found b.pass
       → IsStore table a b (set (known_words a.pass) place value) (known_count a.pass)
   word_stored place lt call made =
-      let s = stored (3 + place) call made in
+      let s = stored call made in
       let words = made.1 in
       let nb = s.room.0 in
       let wide = s.room.1 in
       record {
         step = s.step;
-        words_are = set_known a.pass b.pass place value w.holds.knows s.step.holds.knows s.step.writing.blocks lt
+        words_are = set_known place w.holds.knows s.step.holds.knows s.step.writing.blocks lt
             (s.after place lt ∙ get_or-set_same words (3 + place) value 0 (omega arith))
-            (λ t few differ. s.after t few
-            ∙ (get_or-set_other words (3 + place) (3 + t) value 0 (λ e. differ (omega arith)) ∙ sym (s.before t few)));
+            (λ t few differ. s.after t few ∙ (get_or-set_other words (3 + place) (3 + t) value 0 (λ e. differ (omega arith)) ∙ sym (s.before t few)));
         count_is = s.counts ∙ (get_or-set_other words (3 + place) 2 value 0 (λ e. omega arith) ∙ sym s.counted);
       }
 
@@ -382,28 +379,28 @@ module _ (table : TableShape) (a b : SeatState Pass) (w : WritesPlan table a) (v
   pub count_stored : IsClientCall a 2 b → IsMade HasHistory Allowed no_note a.number a.held a.pass (stores 2 value) found b.pass
       → IsStore table a b (known_words a.pass) value
   count_stored call made =
-      let s = stored 2 call made in
+      let s = stored call made in
       let words = made.1 in
       let wide = s.room.1 in
       record {
         step = s.step;
-        words_are = same_known a.pass b.pass w.holds.knows s.step.holds.knows s.step.writing.blocks
+        words_are = same_known w.holds.knows s.step.holds.knows s.step.writing.blocks
             (λ t few. s.after t few ∙ (get_or-set_other words 2 (3 + t) value 0 (λ e. omega arith) ∙ sym (s.before t few)));
         count_is = s.counts ∙ get_or-set_same words 2 value 0 (omega arith);
       }
 
-raise_after : (grants : Grants) (words : List ℕ) (passes : List Pass) (worker : ℕ) (here : Here grants words passes worker)
-    (after : Pass) → MayAdd grants words passes worker no_note here 1 after → after ≡ after_raise here.pass
-raise_after grants words passes worker here after (draw e d is) = absurd (omega arith)
-raise_after grants words passes worker here after (raise plan e pends written is) = is
+raise_after : {grants : Grants} {words : List ℕ} {passes : List Pass} {worker : ℕ} {here : Here grants words passes worker} {after : Pass}
+    → MayAdd grants words passes worker no_note here 1 after → after ≡ after_raise here.pass
+raise_after (draw e d is) = absurd (omega arith)
+raise_after (raise plan e pends written is) = is
 
 -- the raising of the sequence word, after which all is written
-pub all_written : (a b : SeatState Pass) (found : ℕ) → IsClientCall a 1 b
-    → IsMade HasHistory Allowed no_note a.number a.held a.pass (adds 1 1) found b.pass → IsWritten a b
-all_written a b found call made =
+pub all_written : {a b : SeatState Pass} (found : ℕ) → IsClientCall a 1 b → IsMade HasHistory Allowed no_note a.number a.held a.pass (adds 1 1) found b.pass
+    → IsWritten a b
+all_written {a} {b} found call made =
     let m = made.3 in let here = made.5.1 in
     let same : here.pass ≡ a.pass = some-injective here.pass a.pass (sym here.own ∙ m.own) in
-    let is : b.pass ≡ after_raise a.pass = raise_after made.0 made.1 made.2 a.number here b.pass made.5.2 ∙ ap after_raise same in
+    let is : b.pass ≡ after_raise a.pass = raise_after made.5.2 ∙ ap after_raise same in
     record {
       rest = ap (λ (x : Pass). x.pending) is;
       step = a.trace.taken;
@@ -426,8 +423,8 @@ all_written a b found call made =
     }
 
 -- steps of writing before it are of the same writing
-pub written_on : (a b c : SeatState Pass) → IsWriting a b → IsWritten b c → IsWritten a c
-written_on a b c f g = record {
+pub written_on : {a b c : SeatState Pass} → IsWriting a b → IsWritten b c → IsWritten a c
+written_on f g = record {
   rest = g.rest;
   step = g.step;
   client = g.client;

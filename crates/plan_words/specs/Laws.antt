@@ -1,6 +1,6 @@
 -- Steps of writing, one after another, are such steps: the laws of `Words` for a space. A reader who trusts the check
 -- may pass them over.
-use Rattle.std.proofs.Common.{◌≡◌, ◌≤◌, ◌∙◌, refl, arith}
+use Rattle.std.proofs.Common.{◌≡◌, ◌∙◌, refl, arith}
 use Rattle.range_rw.specs.Contract.{SeatState}
 use Rattle.area_guard.specs.declared.guard.Pass.{Pass}
 use Rattle.area_guard.specs.Reads.{known_count}

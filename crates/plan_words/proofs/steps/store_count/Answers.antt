@@ -5,20 +5,19 @@ use Rattle.plan_words.proofs.steps.store_count.Goals as goal
 -- the guard allows the store of how many rows the splice leaves
 pub store_as_uncounted-requires-clause-allowed : goal.store_as_uncounted-requires-clause-allowed
 store_as_uncounted-requires-clause-allowed c = let s = c.args.seat.now in let w = c.requires.writes in
-    may_store_count s.number s.held s.pass w.holds.held w.holds.knows (plan_at s) w.pending c.args.count c.requires.count c.requires.differs
+    may_store_count s.number w.holds.held w.holds.knows (plan_at s) w.pending c.args.count c.requires.count c.requires.differs
 
 -- it was one step, which left that count
 pub returns : goal.returns
 returns c =
-    let s = c.args.seat.now in
     let t = c.store_as_uncounted.new.seat in
     let w = c.requires.writes in
     let made = c.store_as_uncounted.ensures.made in
-    let r = count_stored c.args.table.now s t w c.args.count made.0 c.store_as_uncounted.ensures.call made.1 in
+    let r = count_stored w c.args.count made.0 c.store_as_uncounted.ensures.call made.1 in
     record {
       words = r.words_are;
       count = r.count_is;
-      writes = writes_on c.args.table.now s t w r.step.writing r.step.holds;
+      writes = writes_on w r.step.writing r.step.holds;
       writing = r.step.writing;
       taken = r.step.taken;
     }

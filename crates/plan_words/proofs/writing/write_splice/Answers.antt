@@ -57,6 +57,5 @@ write_count-requires-clause-left c =
 -- the last step raises the sequence word, and all is written
 pub returns-clause-written : goal.returns-clause-written
 returns-clause-written c =
-    let s = c.args.seat.now in
-    let both = writing_on s c.write_rows.new.seat c.write_count.new.seat c.write_rows.ensures.writing.0 c.write_count.ensures.writing in
-    written_on s c.write_count.new.seat c.raise_sequence.new.seat both c.raise_sequence.ensures.written
+    let both = writing_on c.args.seat.now c.write_rows.new.seat c.write_count.new.seat c.write_rows.ensures.writing.0 c.write_count.ensures.writing in
+    written_on both c.raise_sequence.ensures.written

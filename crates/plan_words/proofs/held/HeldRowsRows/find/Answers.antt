@@ -1,4 +1,4 @@
-use Rattle.std.proofs.Common.{◌≡◌, ◌+◌, ◌<◌, ◌≤◌, ℕ, List, drop, length, ap, ◌∙◌, subst, arith}
+use Rattle.std.proofs.Common.{◌+◌, ◌<◌, ℕ, drop, ◌∙◌, subst, arith}
 use Rattle.std.specs.Prelude.{slice_index}
 use Rattle.row_plans.specs.RowLists.{rows_start, areas_from}
 use Rattle.space_model.specs.Areas.{kind_at}
@@ -26,7 +26,7 @@ pub find-found-requires-clause-first : goal.find-found-requires-clause-first
 find-found-requires-clause-first c =
     let may = c.requires.may in
     let p = c.args.hand.now.pass in
-    first_known p c.args.self.now.words.blocks may.blocks_are (laid _ _ _ c.args.hand.now may) (kind_at (areas_from (known_rows p))) may.list.show may.list.some
+    first_known p may.blocks_are (laid _ _ _ c.args.hand.now may) (kind_at (areas_from (known_rows p))) may.list.show may.list.some
 
 -- the first block has few rows
 pub find-found-requires-clause-short : goal.find-found-requires-clause-short
@@ -37,32 +37,27 @@ find-found-requires-clause-short c =
 pub find-found-requires-clause-low : goal.find-found-requires-clause-low
 find-found-requires-clause-low c =
     let may = c.requires.may in
-    let p = c.args.hand.now.pass in
-    low_known p c.args.self.now.words.blocks may.blocks_are (kind_at (areas_from (known_rows p))) may.list.show
+    low_known c.args.hand.now.pass may.blocks_are (kind_at (areas_from (known_rows c.args.hand.now.pass))) may.list.show
 
 -- the row that was found is one of those that are known
 pub returns-clause-there : goal.returns-clause-there
 returns-clause-there c =
     let may = c.requires.may in
-    number_low c.args.hand.now.pass c.args.self.now.words.blocks may.blocks_are c.find-found.result.at (laid _ _ _ c.args.hand.now may)
-    c.find-found.ensures.block c.find-found.ensures.place
+    number_low c.args.hand.now.pass may.blocks_are c.find-found.result.at (laid _ _ _ c.args.hand.now may) c.find-found.ensures.block
+    c.find-found.ensures.place
 
 -- its word
 pub returns-clause-word : goal.returns-clause-word
 returns-clause-word c =
-    let p = c.args.hand.now.pass in
-    let nb = c.args.self.now.words.blocks in
     let blocks = c.requires.may.blocks_are in
-    let rows = rows_known p nb blocks in
-    let number = number_known p nb blocks c.find-found.result.at c.find-found.ensures.block c.find-found.ensures.place in
+    let rows = rows_known c.args.hand.now.pass blocks in
+    let number = number_known c.args.hand.now.pass blocks c.find-found.result.at c.find-found.ensures.block c.find-found.ensures.place in
     c.find-found.ensures.word ∙ (λ i. slice_index (rows i) (number i))
 
 -- and its end
 pub returns-clause-end : goal.returns-clause-end
 returns-clause-end c =
-    let p = c.args.hand.now.pass in
-    let nb = c.args.self.now.words.blocks in
     let blocks = c.requires.may.blocks_are in
-    let rows = rows_known p nb blocks in
-    let number = number_known p nb blocks c.find-found.result.at c.find-found.ensures.block c.find-found.ensures.place in
+    let rows = rows_known c.args.hand.now.pass blocks in
+    let number = number_known c.args.hand.now.pass blocks c.find-found.result.at c.find-found.ensures.block c.find-found.ensures.place in
     c.find-found.ensures.end ∙ (λ i. rows_start (drop (number i + 1) (rows i)))

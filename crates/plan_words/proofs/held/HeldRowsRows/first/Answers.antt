@@ -1,4 +1,4 @@
-use Rattle.std.proofs.Common.{◌≡◌, ◌<◌, ◌≤◌, refl, sym, arith}
+use Rattle.std.proofs.Common.{refl, sym, arith}
 use Rattle.plan_words.proofs.HeldPlaces.{number_known}
 use Rattle.plan_words.proofs.held.HeldRowsRows.first.Goals as goal
 
@@ -6,4 +6,4 @@ use Rattle.plan_words.proofs.held.HeldRowsRows.first.Goals as goal
 pub returns : goal.returns
 returns c = λ hand may.
     let laid = may.knows.blocks.laid in
-    sym (number_known hand.pass hand.pass.blocks refl (record { block = 0; place = 0 }) laid.some (omega arith))
+    sym (number_known hand.pass refl (record { block = 0; place = 0 }) laid.some (omega arith))

@@ -1,4 +1,4 @@
-use Rattle.std.proofs.Common.{◌≡◌, ◌+◌, ◌<◌, ◌≤◌, ℕ, List, length, refl, subst, arith}
+use Rattle.std.proofs.Common.{◌+◌, ℕ, refl, subst, arith}
 use Rattle.row_plans.specs.Plans.{IsPlaceOf}
 use Rattle.row_blocks.specs.declared.positions.Position.{Position}
 use Rattle.row_blocks.specs.Blocks.{IsLaidOut, rank}
@@ -14,27 +14,23 @@ next-requires-clause-few c = let few = c.requires.may.holds.few in let blocks = 
 
 -- the words are laid out
 pub next-requires-clause-laid : goal.next-requires-clause-laid
-next-requires-clause-laid c =
-    subst (λ (n : ℕ). IsLaidOut n (known_words c.args.hand.now.pass)) c.requires.may.blocks_are c.requires.may.knows.blocks.laid
+next-requires-clause-laid c = subst (λ (n : ℕ). IsLaidOut n (known_words c.args.hand.now.pass)) c.requires.may.blocks_are c.requires.may.knows.blocks.laid
 
 -- and a row stands at the position
 pub next-requires-clause-there : goal.next-requires-clause-there
 next-requires-clause-there c =
-    let p = c.args.hand.now.pass in
-    (row_place p c.args.at c.args.self.now.words.blocks (known_rows p) c.requires.may.blocks_are refl c.requires.there).there
+    (row_place c.args.hand.now.pass c.args.at c.requires.may.blocks_are refl c.requires.there).there
 
 pub next-requires-clause-place : goal.next-requires-clause-place
 next-requires-clause-place c =
-    let p = c.args.hand.now.pass in
-    (row_place p c.args.at c.args.self.now.words.blocks (known_rows p) c.requires.may.blocks_are refl c.requires.there).place
+    (row_place c.args.hand.now.pass c.args.at c.requires.may.blocks_are refl c.requires.there).place
 
 -- the one behind it has the next number
 pub returns-clause-next : goal.returns-clause-next
 returns-clause-next c =
     let p = c.args.hand.now.pass in
-    let nb = c.args.self.now.words.blocks in
     let blocks = c.requires.may.blocks_are in
     let laid = subst (λ (n : ℕ). IsLaidOut n (known_words p)) blocks c.requires.may.knows.blocks.laid in
-    let number = (row_place p c.args.at nb (known_rows p) blocks refl c.requires.there).number in
+    let number = (row_place p c.args.at blocks refl c.requires.there).number in
     subst (λ (n : ℕ). IsPlaceOf (known_rows p) (λ (at : Position). number_at p at) (n + 1) c.next.result) number
-    (next_known p nb blocks (rank nb (known_words p) c.args.at.block c.args.at.place) c.next.result laid c.next.ensures.next)
+    (next_known p blocks (rank c.args.self.now.words.blocks (known_words p) c.args.at.block c.args.at.place) c.next.result laid c.next.ensures.next)

@@ -1,6 +1,6 @@
-use Rattle.std.proofs.Common.{◌≡◌, ◌+◌, ◌<◌, ◌≤◌, ℕ, List, length, refl, subst, arith}
+use Rattle.std.proofs.Common.{ℕ, refl, subst, arith}
 use Rattle.row_blocks.specs.Blocks.{IsLaidOut}
-use Rattle.area_guard.specs.Reads.{known_rows, known_words}
+use Rattle.area_guard.specs.Reads.{known_words}
 use Rattle.plan_words.proofs.HeldPlaces.{number_known}
 use Rattle.plan_words.proofs.Numbers.{row_place}
 use Rattle.plan_words.proofs.held.HeldRowsRows.previous.Goals as goal
@@ -11,35 +11,29 @@ previous-requires-clause-few c = let few = c.requires.may.holds.few in let block
 
 -- the words are laid out
 pub previous-requires-clause-laid : goal.previous-requires-clause-laid
-previous-requires-clause-laid c =
-    subst (λ (n : ℕ). IsLaidOut n (known_words c.args.hand.now.pass)) c.requires.may.blocks_are c.requires.may.knows.blocks.laid
+previous-requires-clause-laid c = subst (λ (n : ℕ). IsLaidOut n (known_words c.args.hand.now.pass)) c.requires.may.blocks_are c.requires.may.knows.blocks.laid
 
 -- and a row stands at the position
 pub previous-requires-clause-there : goal.previous-requires-clause-there
 previous-requires-clause-there c =
-    let p = c.args.hand.now.pass in
-    (row_place p c.args.at c.args.self.now.words.blocks (known_rows p) c.requires.may.blocks_are refl c.requires.there).there
+    (row_place c.args.hand.now.pass c.args.at c.requires.may.blocks_are refl c.requires.there).there
 
 pub previous-requires-clause-place : goal.previous-requires-clause-place
 previous-requires-clause-place c =
-    let p = c.args.hand.now.pass in
-    (row_place p c.args.at c.args.self.now.words.blocks (known_rows p) c.requires.may.blocks_are refl c.requires.there).place
+    (row_place c.args.hand.now.pass c.args.at c.requires.may.blocks_are refl c.requires.there).place
 
 -- with one before it
 pub previous-requires-clause-less : goal.previous-requires-clause-less
 previous-requires-clause-less c =
-    let p = c.args.hand.now.pass in
-    let number = (row_place p c.args.at c.args.self.now.words.blocks (known_rows p) c.requires.may.blocks_are refl c.requires.there).number in
+    let number = (row_place c.args.hand.now.pass c.args.at c.requires.may.blocks_are refl c.requires.there).number in
     let less = c.requires.less in
     omega arith
 
 -- which has the number before
 pub returns-clause-previous : goal.returns-clause-previous
 returns-clause-previous c =
-    let p = c.args.hand.now.pass in
-    let nb = c.args.self.now.words.blocks in
     let blocks = c.requires.may.blocks_are in
-    let number = (row_place p c.args.at nb (known_rows p) blocks refl c.requires.there).number in
-    let before = number_known p nb blocks c.previous.result c.previous.ensures.there c.previous.ensures.place in
+    let number = (row_place c.args.hand.now.pass c.args.at blocks refl c.requires.there).number in
+    let before = number_known c.args.hand.now.pass blocks c.previous.result c.previous.ensures.there c.previous.ensures.place in
     let rank = c.previous.ensures.rank in
     omega arith

@@ -7,17 +7,17 @@ use Rattle.plan_words.proofs.held.HeldWordsLoads.load.Goals as goal
 pub overflow_cast-place : goal.overflow_cast-place
 overflow_cast-place c =
     let h = c.requires.may.0 in
-    let long = known_long c.args.hand.now.pass h.knows in
+    let long = known_long h.knows in
     let there = c.requires.there in let few = h.few in omega arith
 
 -- and each is one of the words that the seat knows
 pub load_word-requires-clause-place : goal.load_word-requires-clause-place
 load_word-requires-clause-place c =
-    let long = known_long c.args.hand.now.pass c.requires.may.0.knows in
+    let long = known_long c.requires.may.0.knows in
     let there = c.requires.there in omega arith
 
 -- the step reads
 pub returns-clause-kept : goal.returns-clause-kept
 returns-clause-kept c =
     let r = c.load_word.ensures in
-    word_reads c.args.hand.now c.load_word.new.seat r.writing r.read r.words r.count r.holds.knows
+    word_reads r.writing r.read r.words r.count r.holds.knows
