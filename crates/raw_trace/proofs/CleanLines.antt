@@ -3,17 +3,17 @@ use Rattle.std.proofs.Common.{◌≡◌, ℕ, List, [], ◌∷◌, ◌++◌, tak
 use Rattle.std.proofs.Common.{take-append-drop}
 use Rattle.line_parts.specs.Lines.{lines_of}
 use Rattle.strace_reader.specs.declared.item.BadCall.{BadCall}
-use Rattle.strace_reader.specs.declared.item.Name.{Name}
 use Rattle.raw_lines.specs.Marks.{unread_mark}
 use Rattle.raw_lines.specs.Mends.{Mends, AreMends, is_read, one_mend, detached, never_returned, deleted}
 use Rattle.raw_lines.proofs.Searches.{isnt, each_parts, each_whole}
 use Rattle.raw_lines.proofs.MarkFacts.{each_by}
-use Rattle.raw_logs.specs.Log.{Numbered, texts_of}
+use Rattle.raw_logs.specs.Log.{Numbered, texts_of, Each}
 use Rattle.raw_logs.proofs.CleanLogs.{IsClean, EachLine, line_back}
 use Rattle.raw_trace.specs.declared.settling.Ending.{Ending}
-use Rattle.raw_trace.specs.Order.{Entry, Step, Begins, Ends, Comes}
-use Rattle.raw_trace.specs.Places.{IsFirst, IsSecond, Becomes, becomes_itself, becomes_mended, becomes_unreturned, becomes_unread, IsStep, AreSteps}
+use Rattle.raw_trace.specs.Places.{ReadText, IsReadText, Part, Whole, Front, Back, Becomes, becomes_itself, becomes_mended, becomes_unreturned, becomes_unread}
 use Rattle.raw_trace.specs.Rewriting.{text_of}
+use Rattle.raw_trace.proofs.EachEntries.{line_in}
+use Rattle.raw_trace.proofs.ReadTexts.{HasPart, near_each}
 
 -- lines without newlines are the lines of their text
 pub lines_back : (lines : List (List ℕ)) → EachLine IsClean lines → lines_of (text_of lines) ≡ lines
@@ -63,21 +63,23 @@ joined_clean first second to behind h g =
     let b = each_parts (isnt 10) (take behind second) (drop behind second) (subst IsClean (sym (take-append-drop behind second)) g) in
     each_whole (isnt 10) (take to first) (drop behind second) a.0 b.1
 
--- what holds of each line of a list holds of one of them
-pub each_in : (P : List ℕ → Type 0) (before : List (List ℕ)) (line : List ℕ) (after : List (List ℕ)) → EachLine P (before ++ (line ∷ after)) → P line
-each_in P [] line after h = h.0
-each_in P (l ∷ before) line after h = each_in P before line after h.1
+-- the texts have none
+abbrev pub AreCleanTexts : List ReadText → Type 0
+AreCleanTexts [] = Unit {0}
+AreCleanTexts (text ∷ texts) = IsClean text.line.text × AreCleanTexts texts
 
-pub first_clean_line : (text : List ℕ) (later : List (List ℕ)) (name : Name) (joined : List ℕ) → IsClean text → EachLine IsClean later
-    → IsFirst text later name joined → IsClean joined
-first_clean_line text later name joined h g first =
-    let k = first.halves in
-    subst IsClean (sym k.5)
-    (joined_clean text first.second k.1 k.2 h (each_in IsClean first.between first.second first.after (subst (EachLine IsClean) first.parts g)))
+pub clean_texts : (lines : List Numbered) (texts : List ReadText) → Each IsReadText lines texts → EachLine IsClean (texts_of lines) → AreCleanTexts (texts ++ [])
+clean_texts [] [] h c = tt
+clean_texts [] (text ∷ texts) h c = absurd h
+clean_texts (line ∷ lines) [] h c = absurd h
+clean_texts (line ∷ lines) (text ∷ texts) h c =
+    (subst (λ (l : Numbered). IsClean l.text) (sym h.0.0) c.0, clean_texts lines texts h.1 c.1)
 
-pub second_clean_line : (fed : List (List ℕ)) (text : List ℕ) (name : Name) (joined : List ℕ) → EachLine IsClean fed → IsClean text
-    → IsSecond fed text name joined → IsClean joined
-second_clean_line fed text name joined h g second =
-    let k = second.halves in
-    subst IsClean (sym k.5)
-    (joined_clean second.first text k.1 k.2 (each_in IsClean second.between second.first second.earlier (subst (EachLine IsClean) second.parts h)) g)
+-- nor has the line of a part
+pub part_clean : (fed : List ReadText) (x : ReadText) (later : List ReadText) (o : Part) → IsClean x.line.text → AreCleanTexts later → HasPart fed x later o
+    → IsClean (line_in x.line o)
+part_clean fed x later Whole c all h = c
+part_clean fed x later (Back p) c all h = c
+part_clean fed x later (Front line) c all h =
+    subst IsClean (sym h.joins) (joined_clean x.line.text h.second.line.text h.to h.behind c
+    (near_each (λ y. IsClean y.line.text) AreCleanTexts (λ y ys a. a) h.process later h.second all h.near))

@@ -1,7 +1,9 @@
 -- What holds of each entry of the steps, and of those that wait, holds of each line in the order.
-use Rattle.std.proofs.Common.{◌≡◌, ℕ, zero, suc, Bool, List, [], ◌∷◌, ◌++◌, sym, subst}
+use Rattle.std.proofs.Common.{ℕ, zero, suc, Bool, true, false, List, [], ◌∷◌, ◌++◌, subst}
 use Rattle.std.specs.Prelude.{◌==◌}
-use Rattle.raw_trace.specs.Order.{Entry, Step, Begins, Ends, Comes, Written, pick, write_due, turns, does, order}
+use Rattle.raw_trace.specs.Order.{Entry, Step, Begins, Ends, Comes, Written, write_due, turns, does, order}
+use Rattle.raw_logs.specs.Log.{Numbered}
+use Rattle.raw_trace.specs.Places.{Part, Whole, Front, Back, IsEntry, IsDone}
 use Rattle.raw_trace.specs.Stages.{EachEntry}
 use Rattle.raw_trace.proofs.OwnCalls.{Picks, picks_one, picks_none, picks}
 
@@ -11,6 +13,26 @@ EachStep P [] = Unit {0}
 EachStep P (Begins entry ∷ steps) = P entry × EachStep P steps
 EachStep P (Comes entry ∷ steps) = P entry × EachStep P steps
 EachStep P (Ends q ∷ steps) = Unit {0} × EachStep P steps
+
+-- the line of a part of the text in this line
+abbrev pub line_in : Numbered → Part → List ℕ
+line_in line Whole = line.text
+line_in line (Front joined) = joined
+line_in line (Back process) = line.text
+
+-- what holds of the entry of that line holds of the step's
+pub done_each : (P : Entry → Type 0) (line : Numbered) (o : Part) (step : Step) (steps : List Step)
+    → ((number : ℕ) (two : Bool) (e : Entry) → IsEntry number two (line_in line o) e → P e) → IsDone line o step → EachStep P steps
+    → EachStep P (step ∷ steps)
+done_each P line Whole (Comes e) steps make h more = (make line.number false e h, more)
+done_each P line Whole (Begins e) steps make h more = absurd h
+done_each P line Whole (Ends q) steps make h more = absurd h
+done_each P line (Front joined) (Begins e) steps make h more = (make line.number true e h, more)
+done_each P line (Front joined) (Comes e) steps make h more = absurd h
+done_each P line (Front joined) (Ends q) steps make h more = absurd h
+done_each P line (Back p) (Ends q) steps make h more = (tt, more)
+done_each P line (Back p) (Comes e) steps make h more = absurd h
+done_each P line (Back p) (Begins e) steps make h more = absurd h
 
 pub each_both : (P : Entry → Type 0) (a b : List Entry) → EachEntry P a → EachEntry P b → EachEntry P (a ++ b)
 each_both P [] b h g = g

@@ -1,14 +1,10 @@
 -- Why an entry may be written or may not, from what the code looks at.
-use Rattle.std.proofs.Common.{◌≡◌, ◌≢◌, ◌⊎◌, ℕ, ◌<◌, ◌≤◌, Bool, true, false, List, [], ◌∷◌, ◌++◌, length, Option, Some, None, refl, sym, ap, subst, ◌∙◌, inl, inr, arith}
-use Rattle.raw_logs.specs.declared.counts.Counts.{Counts}
-use Rattle.raw_trace.specs.declared.fault.Cause.{Cause}
+use Rattle.std.proofs.Common.{◌≡◌, ◌≤◌, Bool, false, [], ◌∷◌, ◌++◌, length, Option, Some, None, sym, ◌∙◌, arith}
 use Rattle.raw_trace.specs.declared.fault.Trouble.{Trouble}
-use Rattle.raw_trace.specs.declared.fault.Fault.{Fault}
 use Rattle.raw_trace.specs.declared.fault.Fault.TheVariants.{Unreadable, LongLine, NoProcess, Memory}
 use Rattle.raw_trace.specs.declared.writing.Written.{Written}
 use Rattle.raw_trace.specs.Order.{Entry}
-use Rattle.raw_trace.specs.Faults.{IsEntryFault}
-use Rattle.raw_trace.specs.Rewriting.{text_of, lines_as, counted_entry, counted_all, calls_after}
+use Rattle.raw_trace.specs.Rewriting.{text_of, counted_entry, calls_after}
 use Rattle.raw_trace.specs.Stages.{MayBeWritten, WroteLines}
 
 -- where not every line has to be read, a short line may be written

@@ -1,11 +1,11 @@
 -- Good lines stand by themselves: a line that is read as a whole is half of no call, and becomes itself. What a line
 -- becomes is one line, with one ending.
-use Rattle.std.proofs.Common.{◌≡◌, ℕ, ◌<◌, ◌≤◌, Bool, List, length, codes, sym, subst, ◌∙◌, inl, inr, arith}
+use Rattle.std.proofs.Common.{◌≡◌, ℕ, ◌<◌, ◌≤◌, List, length, codes, refl, sym, subst, ◌∙◌, arith}
+use Rattle.std.specs.Prelude.{Result, Ok, Err}
 use Rattle.std.proofs.lemmas.List.{length-append}
-use Rattle.std.specs.Bool.{Decides}
 use Rattle.strace_reader.specs.declared.item.BadCall.{BadCall}
 use Rattle.strace_reader.specs.declared.item.Item.{Item}
-use Rattle.strace_reader.specs.declared.item.Item.TheVariants.{Unfinished, Resumed}
+use Rattle.strace_reader.specs.declared.item.Item.TheVariants.{Played, Unfinished, Resumed, Other, Blank}
 use Rattle.strace_reader.specs.declared.item.Name.{Name}
 use Rattle.strace_reader.specs.Grammar.{Spells, Refuses}
 use Rattle.strace_reader.proofs.OneOutcome.{one_outcome}
@@ -16,7 +16,9 @@ use Rattle.raw_lines.specs.Plain.{IsStill}
 use Rattle.raw_trace.specs.declared.settling.Ending.{Ending}
 use Rattle.raw_trace.specs.declared.settling.Ending.TheVariants.{AsItIs, AsUnread, AsUnreturned, ByMends}
 use Rattle.raw_trace.specs.declared.settling.Settled.{Settled}
-use Rattle.raw_trace.specs.Places.{IsPaired, IsGood, IsHalfAlone, Becomes, becomes_itself, becomes_unread, becomes_unreturned, becomes_mended}
+use Rattle.raw_logs.specs.Log.{Numbered}
+use Rattle.raw_trace.specs.Order.{Step}
+use Rattle.raw_trace.specs.Places.{HasReading, ReadText, IsReadText, Part, Whole, part, IsDone, IsStep, IsGood, IsHalfAlone, Becomes, becomes_itself, becomes_unread, becomes_unreturned, becomes_mended}
 
 -- a line that is read as a whole is no first half
 pub whole_no_first : (line : List ℕ) (item : Item) (p : ℕ) (n : Name) (from to : ℕ) → Spells line item → IsWhole item
@@ -29,11 +31,21 @@ pub whole_no_second : (line : List ℕ) (item : Item) (p : ℕ) (n : Name) (from
 whole_no_second line item p n from s w h = subst IsWhole ((one_outcome line).item item (Resumed p n from) s h) w
 
 -- so it is half of no call
-pub good_alone : (fed later : List (List ℕ)) (text : List ℕ) → IsGood text → ¬ IsPaired fed text later
-good_alone fed later text good (name, joined, inl first) =
-    let h = first.halves in whole_no_first text good.0.0 first.process name h.0 h.1 good.0.1 good.0.2 h.3
-good_alone fed later text good (name, joined, inr second) =
-    let h = second.halves in whole_no_second text good.0.0 second.process name h.2 good.0.1 good.0.2 h.4
+good_read : (text : List ℕ) (reading : Result Item ℕ) (fed later : List ReadText) (x : ReadText) → IsGood text → HasReading text reading
+    → part fed x later reading ≡ Whole
+good_read text (Ok (Unfinished p n from to)) fed later x good h = absurd (whole_no_first text good.0.0 p n from to good.0.1 good.0.2 h)
+good_read text (Ok (Resumed p n b)) fed later x good h = absurd (whole_no_second text good.0.0 p n b good.0.1 good.0.2 h)
+good_read text (Ok (Played p c r)) fed later x good h = refl
+good_read text (Ok Other) fed later x good h = refl
+good_read text (Ok Blank) fed later x good h = refl
+good_read text (Err p) fed later x good h = refl
+
+-- what it does is a whole line's
+pub good_done : (fed later : List ReadText) (line : Numbered) (x : ReadText) (step : Step) → IsGood line.text → IsReadText line x → IsStep fed x later step
+    → IsDone line Whole step
+good_done fed later line x step good h is =
+    subst (λ (l : Numbered). IsDone l Whole step) h.0
+    (subst (λ (o : Part). IsDone x.line o step) (good_read line.text x.reading fed later x good h.1) is)
 
 -- a first half alone isn't good
 pub half_not_good : (line : List ℕ) → IsHalfAlone line → IsGood line → ⊥
@@ -46,8 +58,6 @@ refused_not_good line bad h good = (one_outcome line).never_both good.0.0 bad go
 -- nor is it a first half
 pub refused_no_half : (line : List ℕ) (bad : BadCall) → Refuses line bad → IsHalfAlone line → ⊥
 refused_no_half line bad h half = (one_outcome line).never_both (Unfinished half.0 half.1 half.2 half.3) bad half.4 h
-
--- ---- whether a line is good
 
 -- ---- lines that are left unread
 

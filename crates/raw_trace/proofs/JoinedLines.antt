@@ -1,6 +1,6 @@
 -- The line of two halves is a line of their process: it begins with the first half's number and name.
 use Rattle.std.proofs.Common.{◌≡◌, ℕ, ◌+◌, ◌-◌, List, [], ◌∷◌, ◌++◌, length, take, drop}
-use Rattle.std.proofs.Common.{Bool, false, Option, refl, sym, ap, subst, ◌∙◌, append_assoc, inl, inr, arith}
+use Rattle.std.proofs.Common.{Bool, false, refl, sym, ap, subst, ◌∙◌, append_assoc, arith}
 use Rattle.std.specs.Prelude.{◌==◌, if◌then◌else◌}
 use Rattle.std.proofs.lemmas.List.{length-append}
 use Rattle.std.proofs.Math.Seq.{take-append_seam, drop-append_seam, take-append-add}
@@ -15,7 +15,6 @@ use Rattle.strace_reader.specs.Grammar.{BeginsWith, IsCut, IsHalf, IsBody, Spell
 use Rattle.raw_lines.proofs.Searches.{isnt}
 use Rattle.raw_lines.proofs.MarkFacts.{each_by}
 use Rattle.raw_lines.proofs.LineFacts.{cut_parts}
-use Rattle.raw_trace.specs.Places.{AreHalves}
 use Rattle.raw_trace.proofs.Prefixes.{same_prefix}
 
 -- ---- what is kept of a first half
@@ -144,7 +143,7 @@ joined_of process name first second joined from to behind p e =
     }
 
 -- each line of two halves has it
-pub joined_parts : (process : ℕ) (name : Name) (first second joined : List ℕ) → (h : AreHalves process name first second joined)
-    → JoinedParts process name first second joined h.0 h.1 h.2
-joined_parts process name first second joined h =
-    joined_of process name first second joined h.0 h.1 h.2 (first_half_parts first process name h.0 h.1 h.3) h.5
+pub joined_parts : (process : ℕ) (name : Name) (first second joined : List ℕ) (from to behind : ℕ) → Spells first (Unfinished process name from to)
+    → joined ≡ take to first ++ drop behind second → JoinedParts process name first second joined from to behind
+joined_parts process name first second joined from to behind h e =
+    joined_of process name first second joined from to behind (first_half_parts first process name from to h) e

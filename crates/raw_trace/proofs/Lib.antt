@@ -10,7 +10,7 @@ pub mod LineCalls
 pub mod OneFault
 pub mod OneWay
 pub mod OwnCalls
-pub mod Pairs
+pub mod ReadTexts
 pub mod Prefixes
 pub mod RoleMaps
 pub mod StepFacts

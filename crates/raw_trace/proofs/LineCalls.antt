@@ -1,5 +1,5 @@
 -- What is written is read as the calls of its entries, and no line of it is refused or half of a call.
-use Rattle.std.proofs.Common.{◌≡◌, ℕ, ◌≤◌, List, [], ◌∷◌, ◌++◌, length, codes, Bool, Option, Some, None, refl, sym, ap, subst, ◌∙◌, inl, inr, arith}
+use Rattle.std.proofs.Common.{◌≡◌, ℕ, List, [], ◌∷◌, ◌++◌, codes, Bool, Option, Some, None, refl, sym, ap, subst, ◌∙◌, inl, inr, arith}
 use Rattle.std.specs.Prelude.{option_to_list}
 use Rattle.page_types.specs.declared.calls.Call.{Call}
 use Rattle.line_parts.specs.Lines.{lines_of}
@@ -15,18 +15,17 @@ use Rattle.strace_reader.specs.Joining.{KeepsNone}
 use Rattle.strace_reader.proofs.OneOutcome.{one_outcome}
 use Rattle.raw_lines.specs.Marks.{unread_text}
 use Rattle.raw_lines.specs.Mends.{IsWhole}
-use Rattle.raw_logs.specs.declared.counts.Counts.{Counts}
-use Rattle.raw_logs.specs.Log.{Numbered, texts_of}
 use Rattle.raw_logs.proofs.CleanLogs.{IsClean, EachLine, texts_clean}
 use Rattle.raw_trace.specs.declared.calls.ReadCall.{ReadCall}
 use Rattle.raw_trace.specs.declared.settling.Ending.{Ending}
-use Rattle.raw_trace.specs.Order.{Entry, Step, Begins, Ends, Comes, frees_for, order}
-use Rattle.raw_trace.specs.Places.{Becomes, becomes_itself, becomes_mended, becomes_unreturned, becomes_unread, IsReadAs, IsEntry, IsStep, AreSteps}
-use Rattle.raw_trace.specs.Rewriting.{IsRewriting, text_of, lines_as, calls_of}
+use Rattle.raw_trace.specs.Order.{Entry, Step, frees_for, order}
+use Rattle.raw_trace.specs.Places.{Becomes, becomes_itself, becomes_mended, becomes_unreturned, becomes_unread, IsReadAs, IsEntry, ReadText, part, AreSteps}
+use Rattle.raw_trace.specs.Rewriting.{lines_as, calls_of}
 use Rattle.raw_trace.specs.Stages.{EachEntry}
 use Rattle.raw_trace.specs.Laws.{ReadsAs, all_read, reads_text, KeepsCalls}
-use Rattle.raw_trace.proofs.CleanLines.{lines_back, becomes_clean, first_clean_line, second_clean_line}
-use Rattle.raw_trace.proofs.EachEntries.{EachStep, order_each}
+use Rattle.raw_trace.proofs.CleanLines.{lines_back, becomes_clean, clean_texts, part_clean, AreCleanTexts}
+use Rattle.raw_trace.proofs.EachEntries.{EachStep, line_in, done_each, order_each}
+use Rattle.raw_trace.proofs.ReadTexts.{parts_of}
 
 -- the body of a first half
 pub half_first : (line : List ℕ) (process : ℕ) (name : Name) (from to : ℕ) → Spells line (Unfinished process name from to)
@@ -101,18 +100,15 @@ entry_written number joined line entry c is =
     let w = becomes_whole line entry.line entry.ending is.becomes in
     record { item = w.0; spelled = w.1; whole = w.2; read = is.read; clean = becomes_clean line entry.line entry.ending c is.becomes }
 
-steps_written : (fed : List (List ℕ)) (texts : List Numbered) (steps : List Step) → EachLine IsClean fed → EachLine IsClean (texts_of texts ++ [])
-    → AreSteps fed texts [] steps → EachStep IsWritten steps
-steps_written fed [] [] cf ct are = tt
-steps_written fed [] (step ∷ steps) cf ct are = absurd are
-steps_written fed (text ∷ texts) [] cf ct are = absurd are
-steps_written fed (text ∷ texts) (Comes e ∷ steps) cf ct are =
-    (entry_written text.number _ text.text e ct.0 are.0.1, steps_written (text.text ∷ fed) texts steps (ct.0, cf) ct.1 are.1)
-steps_written fed (text ∷ texts) (Begins e ∷ steps) cf ct are = (
-  entry_written text.number _ are.0.1 e (first_clean_line text.text (texts_of texts ++ []) are.0.0 are.0.1 ct.0 ct.1 are.0.2) are.0.3,
-  steps_written (text.text ∷ fed) texts steps (ct.0, cf) ct.1 are.1,
-)
-steps_written fed (text ∷ texts) (Ends q ∷ steps) cf ct are = (tt, steps_written (text.text ∷ fed) texts steps (ct.0, cf) ct.1 are.1)
+steps_written : (fed texts : List ReadText) (steps : List Step) → AreCleanTexts (texts ++ []) → AreSteps fed texts [] steps → EachStep IsWritten steps
+steps_written fed [] [] clean are = tt
+steps_written fed [] (step ∷ steps) clean are = absurd are
+steps_written fed (text ∷ texts) [] clean are = absurd are
+steps_written fed (text ∷ texts) (step ∷ steps) clean are =
+    let o = part fed text (texts ++ []) text.reading in
+    let c = part_clean fed text (texts ++ []) o clean.0 clean.1 (parts_of fed text (texts ++ [])) in
+    done_each IsWritten text.line o step steps (λ number two e h. entry_written number two (line_in text.line o) e c h) are.0
+    (steps_written (text ∷ fed) texts steps clean.1 are.1)
 
 entries_clean : (entries : List Entry) → EachEntry IsWritten entries → EachLine IsClean (lines_as entries)
 entries_clean [] h = tt
@@ -161,15 +157,11 @@ reads heard (e ∷ entries) w h =
     read_line heard e (lines_as entries) (calls_of entries) w h.0.read
     (reads (e.line ∷ heard) entries ((h.0.item, h.0.spelled, h.0.whole), w) h.1) h.0.item h.0.spelled h.0.whole
 
-more_clean : (lines : List (List ℕ)) → EachLine IsClean lines → EachLine IsClean (lines ++ [])
-more_clean [] h = tt
-more_clean (line ∷ lines) h = (h.0, more_clean lines h.1)
-
 -- what is written is read as just the calls of the log
 pub calls_kept : KeepsCalls
 calls_kept process bytes out counts number is =
-    let clean = more_clean (texts_of is.chosen) (texts_clean process bytes is.chosen is.before is.texts) in
-    let each = order_each IsWritten frees_for [] is.steps tt (steps_written [] is.chosen is.steps tt clean is.are) in
+    let clean = clean_texts is.chosen is.read is.reads (texts_clean process bytes is.chosen is.before is.texts) in
+    let each = order_each IsWritten frees_for [] is.steps tt (steps_written [] is.read is.steps clean is.are) in
     let entries = order frees_for [] is.steps in
     subst (λ (x : List (List ℕ)). ReadsAs [] x (calls_of entries))
     (sym (ap lines_of is.bytes_of ∙ lines_back (lines_as entries) (entries_clean entries each)))

@@ -1,9 +1,8 @@
 -- A log has one fault at most: the first line in the order that may not be written is one, for one cause.
-use Rattle.std.proofs.Common.{◌≡◌, ◌≢◌, ◌⊎◌, ℕ, ◌<◌, ◌≤◌, List, [], ◌∷◌, ◌++◌, length, Bool, true, Option, Some, None, refl, sym, ap, subst, ◌∙◌, append_assoc, inl, inr, arith}
+use Rattle.std.proofs.Common.{◌≡◌, ℕ, List, [], ◌∷◌, ◌++◌, Bool, Option, Some, None, refl, sym, ap, subst, ◌∙◌, append_assoc, inl, inr, arith}
 use Rattle.std.proofs.lemmas.List.{append-nil}
-use Rattle.raw_logs.specs.declared.counts.Counts.{Counts}
 use Rattle.raw_logs.specs.declared.fault.LogFault.{LogFault}
-use Rattle.raw_logs.specs.Log.{Numbered, texts_of}
+use Rattle.raw_logs.specs.Log.{Numbered, Each}
 use Rattle.raw_logs.specs.Reading.{IsFirstUnknown, IsLogFault}
 use Rattle.raw_logs.proofs.OneLog.{read_one, texts_one, unknown_one, log_fault_one, texts_no_fault}
 use Rattle.raw_trace.specs.declared.fault.Cause.{Cause}
@@ -12,12 +11,12 @@ use Rattle.raw_trace.specs.declared.fault.Trouble.{Trouble}
 use Rattle.raw_trace.specs.declared.fault.Fault.{Fault}
 use Rattle.raw_trace.specs.declared.fault.Fault.TheVariants.{Unreadable, LongLine, NoProcess, Memory}
 use Rattle.raw_trace.specs.Order.{Entry, Step, frees_for, does, order}
-use Rattle.raw_trace.specs.Places.{IsStep, AreSteps}
-use Rattle.raw_trace.specs.Faults.{of_log, IsEntryFault, IsFirstFault, Stops, IsCausedFault}
+use Rattle.raw_trace.specs.Places.{ReadText, IsReadText, IsStep, AreSteps}
+use Rattle.raw_trace.specs.Faults.{of_log, IsEntryFault, IsFirstFault, Stops}
 use Rattle.raw_trace.specs.Laws.{HasOneFault}
 use Rattle.raw_trace.specs.Stages.{MayBeWritten, EachEntry}
-use Rattle.raw_trace.proofs.EachEntries.{each_front}
 use Rattle.raw_trace.proofs.OneWay.{steps_one}
+use Rattle.raw_trace.proofs.ReadTexts.{reads_one}
 
 -- ---- the fault of a line
 
@@ -74,12 +73,8 @@ none_first strict (e ∷ entries) fault may (inr h) = none_first strict entries 
 
 -- ---- the first of the texts
 
-pub texts_both : (a b : List Numbered) → texts_of (a ++ b) ≡ texts_of a ++ texts_of b
-texts_both [] b = refl
-texts_both (x ∷ a) b = ap (λ (z : List (List ℕ)). x.text ∷ z) (texts_both a b)
-
 -- the steps of texts begin with those of the first
-record Begun (fed : List (List ℕ)) (a : List Numbered) (later : List (List ℕ)) (steps : List Step) : Type 0 where
+record Begun (fed a later : List ReadText) (steps : List Step) : Type 0 where
   -- those of the first
   pub front : List Step
   -- the others
@@ -89,24 +84,17 @@ record Begun (fed : List (List ℕ)) (a : List Numbered) (later : List (List ℕ
   -- they are
   pub are : AreSteps fed a later front
 
-steps_front : (fed : List (List ℕ)) (a b : List Numbered) (later : List (List ℕ)) (steps : List Step) → AreSteps fed (a ++ b) later steps
-    → Begun fed a (texts_of b ++ later) steps
+steps_front : (fed a b later : List ReadText) (steps : List Step) → AreSteps fed (a ++ b) later steps → Begun fed a (b ++ later) steps
 steps_front fed [] b later steps h = record { front = []; back = steps; parts = refl; are = tt }
 steps_front fed (x ∷ a) b later [] h = absurd h
 steps_front fed (x ∷ a) b later (s ∷ steps) h =
-    let r = steps_front (x.text ∷ fed) a b later steps h.1 in
+    let r = steps_front (x ∷ fed) a b later steps h.1 in
     record {
       front = s ∷ r.front;
       back = r.back;
       parts = ap (λ (z : List Step). s ∷ z) r.parts;
-      are = (IsStep_texts fed x a b later s h.0, r.are);
+      are = (subst (λ (z : List ReadText). IsStep fed x z s) (append_assoc a b later) h.0, r.are);
     }
-  where
-    IsStep_texts : (fed : List (List ℕ)) (x : Numbered) (a b : List Numbered) (later : List (List ℕ)) (s : Step) → IsStep fed x (texts_of (a ++ b) ++ later) s
-        → IsStep fed x (texts_of a ++ (texts_of b ++ later)) s
-    IsStep_texts fed x a b later s h =
-        subst (λ (z : List (List ℕ)). IsStep fed x z s)
-        (ap (λ (z : List (List ℕ)). z ++ later) (texts_both a b) ∙ append_assoc (texts_of a) (texts_of b) later) h
 
 -- the order of the first steps begins that of all
 order_front : (f : Entry → Entry → Bool) (ws : List Entry) (a b : List Step) → (more : List Entry) × (order f ws (a ++ b) ≡ order f ws a ++ more)
@@ -117,11 +105,11 @@ order_front f ws (s ∷ a) b =
     (r.0, ap (λ (z : List Entry). found.lines ++ z) r.1 ∙ sym (append_assoc found.lines (order f found.waiting a) r.0))
 
 -- of two beginnings of one list one is longer
-data Beginnings (a b c d : List Numbered) : Type 0 where
-  second_longer : (m : List Numbered) → c ≡ a ++ m → b ≡ m ++ d → Beginnings a b c d
-  first_longer : (m : List Numbered) → a ≡ c ++ m → d ≡ m ++ b → Beginnings a b c d
+data Beginnings (a b c d : List ReadText) : Type 0 where
+  second_longer : (m : List ReadText) → c ≡ a ++ m → b ≡ m ++ d → Beginnings a b c d
+  first_longer : (m : List ReadText) → a ≡ c ++ m → d ≡ m ++ b → Beginnings a b c d
 
-beginnings : (a b c d : List Numbered) → a ++ b ≡ c ++ d → Beginnings a b c d
+beginnings : (a b c d : List ReadText) → a ++ b ≡ c ++ d → Beginnings a b c d
 beginnings [] b c d e = second_longer c refl e
 beginnings (x ∷ a) b [] d e = first_longer (x ∷ a) refl (sym e)
 beginnings (x ∷ a) b (y ∷ c) d e =
@@ -134,39 +122,37 @@ beginnings (x ∷ a) b (y ∷ c) d e =
     more k (first_longer m p q) = first_longer m (λ i. k i ∷ p i) q
 
 -- what stops the writing of the first texts stops that of more
-stops_longer : (strict : Bool) (a m : List Numbered) (later : List (List ℕ)) (front steps : List Step) (fault : Fault)
-    → AreSteps [] a (texts_of m ++ later) front → AreSteps [] (a ++ m) later steps
-    → IsFirstFault strict (order frees_for [] front) fault → IsFirstFault strict (order frees_for [] steps) fault
+stops_longer : (strict : Bool) (a m later : List ReadText) (front steps : List Step) (fault : Fault) → AreSteps [] a (m ++ later) front
+    → AreSteps [] (a ++ m) later steps → IsFirstFault strict (order frees_for [] front) fault → IsFirstFault strict (order frees_for [] steps) fault
 stops_longer strict a m later front steps fault hf hs first =
     let r = steps_front [] a m later steps hs in
-    let same = steps_one [] a (texts_of m ++ later) front r.front hf r.are in
+    let same = steps_one [] a (m ++ later) front r.front hf r.are in
     let o = order_front frees_for [] r.front r.back in
     subst (λ (x : List Entry). IsFirstFault strict x fault) (sym (ap (λ (x : List Step). order frees_for [] x) r.parts ∙ o.1))
     (first_more strict (order frees_for [] r.front) o.0 fault
     (subst (λ (x : List Step). IsFirstFault strict (order frees_for [] x) fault) same first))
 
-stops_one : (strict : Bool) (texts : List Numbered) (a b : Fault) → Stops strict texts a → Stops strict texts b → a ≡ b
-stops_one strict texts a b h g = by (beginnings h.fed h.later g.fed g.later (sym h.parts ∙ g.parts))
+stops_one : (strict : Bool) (lines : List Numbered) (a b : Fault) → Stops strict lines a → Stops strict lines b → a ≡ b
+stops_one strict lines a b h g = by (beginnings h.fed h.later g.fed g.later (reads_one lines (h.fed ++ h.later) (g.fed ++ g.later) h.reads g.reads))
   where
     by : Beginnings h.fed h.later g.fed g.later → a ≡ b
     by (second_longer m p q) =
-        let hf : AreSteps [] h.fed (texts_of m ++ texts_of g.later) h.steps =
-        subst (λ (x : List (List ℕ)). AreSteps [] h.fed x h.steps) (ap texts_of q ∙ texts_both m g.later) h.are in
-        let gs : AreSteps [] (h.fed ++ m) (texts_of g.later) g.steps = subst (λ (x : List Numbered). AreSteps [] x (texts_of g.later) g.steps) p g.are in
-        first_one strict (order frees_for [] g.steps) a b (stops_longer strict h.fed m (texts_of g.later) h.steps g.steps a hf gs h.first) g.first
+        let hf : AreSteps [] h.fed (m ++ g.later) h.steps = subst (λ (x : List ReadText). AreSteps [] h.fed x h.steps) q h.are in
+        let gs : AreSteps [] (h.fed ++ m) g.later g.steps = subst (λ (x : List ReadText). AreSteps [] x g.later g.steps) p g.are in
+        first_one strict (order frees_for [] g.steps) a b (stops_longer strict h.fed m g.later h.steps g.steps a hf gs h.first) g.first
     by (first_longer m p q) =
-        let gf : AreSteps [] g.fed (texts_of m ++ texts_of h.later) g.steps =
-        subst (λ (x : List (List ℕ)). AreSteps [] g.fed x g.steps) (ap texts_of q ∙ texts_both m h.later) g.are in
-        let hs : AreSteps [] (g.fed ++ m) (texts_of h.later) h.steps = subst (λ (x : List Numbered). AreSteps [] x (texts_of h.later) h.steps) p h.are in
-        first_one strict (order frees_for [] h.steps) a b h.first (stops_longer strict g.fed m (texts_of h.later) g.steps h.steps b gf hs g.first)
+        let gf : AreSteps [] g.fed (m ++ h.later) g.steps = subst (λ (x : List ReadText). AreSteps [] g.fed x g.steps) q g.are in
+        let hs : AreSteps [] (g.fed ++ m) h.later h.steps = subst (λ (x : List ReadText). AreSteps [] x h.later h.steps) p h.are in
+        first_one strict (order frees_for [] h.steps) a b h.first (stops_longer strict g.fed m h.later g.steps h.steps b gf hs g.first)
 
 -- where each line of a log may be written, the writing stops nowhere
-pub never_stops : (strict : Bool) (texts : List Numbered) (steps : List Step) → AreSteps [] texts [] steps
-    → EachEntry (MayBeWritten strict) (order frees_for [] steps) → (fault : Fault) → Stops strict texts fault → ⊥
-never_stops strict texts steps are may fault h =
-    let whole : AreSteps [] (h.fed ++ h.later) [] steps = subst (λ (x : List Numbered). AreSteps [] x [] steps) h.parts are in
-    let front : AreSteps [] h.fed (texts_of h.later ++ []) h.steps =
-    subst (λ (x : List (List ℕ)). AreSteps [] h.fed x h.steps) (sym (append-nil (texts_of h.later))) h.are in
+pub never_stops : (strict : Bool) (lines : List Numbered) (texts : List ReadText) (steps : List Step) → Each IsReadText lines texts → AreSteps [] texts [] steps
+    → EachEntry (MayBeWritten strict) (order frees_for [] steps) → (fault : Fault) → Stops strict lines fault → ⊥
+never_stops strict lines texts steps reads are may fault h =
+    let whole : AreSteps [] (h.fed ++ h.later) [] steps =
+    subst (λ (x : List ReadText). AreSteps [] x [] steps) (reads_one lines texts (h.fed ++ h.later) reads h.reads) are in
+    let front : AreSteps [] h.fed (h.later ++ []) h.steps =
+    subst (λ (x : List ReadText). AreSteps [] h.fed x h.steps) (sym (append-nil h.later)) h.are in
     none_first strict (order frees_for [] steps) fault may (stops_longer strict h.fed h.later [] h.steps steps fault front whole h.first)
 
 -- ---- the whole

@@ -1,12 +1,11 @@
 -- A log is rewritten in one way: each text does one step, and becomes one line.
-use Rattle.std.proofs.Common.{◌≡◌, ◌≢◌, ◌⊎◌, ℕ, List, [], ◌∷◌, ◌++◌, Bool, true, false, Option, Some, None, refl, sym, ap, subst, ◌∙◌, append_assoc, inl, inr, arith}
+use Rattle.std.proofs.Common.{◌≡◌, ℕ, List, [], ◌∷◌, ◌++◌, Bool, true, false, Option, Some, None, refl, sym, ap, subst, ◌∙◌, inl, inr, arith}
 use Rattle.strace_reader.specs.declared.item.Item.TheVariants.{Played, Resumed}
-use Rattle.strace_reader.specs.declared.item.Name.{Name}
 use Rattle.strace_reader.proofs.OneOutcome.{one_outcome}
 use Rattle.strace_reader.proofs.FormFacts.{cut_same}
 use Rattle.raw_lines.proofs.MendFacts.{all_mends_same}
 use Rattle.raw_logs.specs.declared.counts.Counts.{Counts}
-use Rattle.raw_logs.specs.Log.{Numbered, texts_of}
+use Rattle.raw_logs.specs.Log.{Numbered, Each}
 use Rattle.raw_logs.proofs.OneLog.{texts_one}
 use Rattle.raw_trace.specs.declared.calls.ReadCall.{ReadCall}
 use Rattle.line_parts.specs.declared.refusal.What.{What}
@@ -16,12 +15,12 @@ use Rattle.raw_trace.specs.declared.fault.Cause.{Cause}
 use Rattle.raw_trace.specs.declared.fault.Cause.TheVariants.{Form, Alone, Unclear, OtherForm, Unknown}
 use Rattle.raw_trace.specs.declared.fault.Trouble.{Trouble}
 use Rattle.raw_trace.specs.declared.settling.Ending.{Ending}
-use Rattle.raw_trace.specs.Order.{Entry, Step, Begins, Ends, Comes, frees_for, does, order}
+use Rattle.raw_trace.specs.Order.{Entry, Step, Begins, Ends, Comes, frees_for, order}
 use Rattle.raw_trace.specs.Places.{Becomes, becomes_itself, becomes_mended, becomes_unreturned, becomes_unread}
-use Rattle.raw_trace.specs.Places.{IsFirst, IsSecond, IsReadAs, IsCauseAt, IsTrouble, IsEntry, IsStep, AreSteps}
-use Rattle.raw_trace.specs.Rewriting.{IsRewriting, text_of, lines_as, counted_all, calls_after}
+use Rattle.raw_trace.specs.Places.{ReadText, IsReadText, Part, Whole, Front, Back, part, IsReadAs, IsCauseAt, IsTrouble, IsEntry, IsDone, AreSteps}
+use Rattle.raw_trace.specs.Rewriting.{text_of, lines_as, counted_all, calls_after}
 use Rattle.raw_trace.specs.Laws.{HasOneRewriting}
-use Rattle.raw_trace.proofs.Pairs.{first_one, second_one, no_first_second}
+use Rattle.raw_trace.proofs.ReadTexts.{reads_one}
 use Rattle.raw_trace.proofs.GoodLines.{half_not_good, refused_not_good, refused_no_half}
 
 -- ---- what a line becomes
@@ -121,37 +120,33 @@ entry_one number joined line a b h g =
 
 -- ---- what texts do
 
--- two second halves of one text are of one process
-pub second_process : (fed other : List (List ℕ)) (t : List ℕ) (n m : Name) (j k : List ℕ) → (x : IsSecond fed t n j) → (y : IsSecond other t m k)
-    → x.process ≡ y.process
-second_process fed other t n m j k x y =
-    let e = (one_outcome t).item (Resumed x.process n x.halves.2) (Resumed y.process m y.halves.2) x.halves.4 y.halves.4 in cc
+-- a part does one step
+done_one : (line : Numbered) (one : Part) (a b : Step) → IsDone line one a → IsDone line one b → a ≡ b
+done_one line Whole (Comes a) (Comes b) h g = ap (λ (x : Entry). Comes x) (entry_one line.number false line.text a b h g)
+done_one line Whole (Comes a) (Begins b) h g = absurd g
+done_one line Whole (Comes a) (Ends q) h g = absurd g
+done_one line Whole (Begins a) b h g = absurd h
+done_one line Whole (Ends p) b h g = absurd h
+done_one line (Front joined) (Begins a) (Begins b) h g = ap (λ (x : Entry). Begins x) (entry_one line.number true joined a b h g)
+done_one line (Front joined) (Begins a) (Comes b) h g = absurd g
+done_one line (Front joined) (Begins a) (Ends q) h g = absurd g
+done_one line (Front joined) (Comes a) b h g = absurd h
+done_one line (Front joined) (Ends p) b h g = absurd h
+done_one line (Back p) (Ends a) (Ends b) h g = ap (λ (x : ℕ). Ends x) (h ∙ sym g)
+done_one line (Back p) (Ends a) (Comes b) h g = absurd g
+done_one line (Back p) (Ends a) (Begins b) h g = absurd g
+done_one line (Back p) (Comes a) b h g = absurd h
+done_one line (Back p) (Begins a) b h g = absurd h
 
--- a text does one step
-step_one : (fed : List (List ℕ)) (text : Numbered) (later : List (List ℕ)) (a b : Step) → IsStep fed text later a → IsStep fed text later b → a ≡ b
-step_one fed text later (Comes a) (Comes b) h g = ap (λ (x : Entry). Comes x) (entry_one text.number false text.text a b h.1 g.1)
-step_one fed text later (Comes a) (Begins b) h g = absurd (h.0 (g.0, g.1, inl g.2))
-step_one fed text later (Comes a) (Ends q) h g = absurd (h.0 (g.0, g.1, inr g.2))
-step_one fed text later (Begins a) (Comes b) h g = absurd (g.0 (h.0, h.1, inl h.2))
-step_one fed text later (Begins a) (Begins b) h g =
-    let s = first_one text.text later h.0 g.0 h.1 g.1 h.2 g.2 in
-    ap (λ (x : Entry). Begins x) (entry_one text.number true g.1 a b (subst (λ (x : List ℕ). IsEntry text.number true x a) s.1 h.3) g.3)
-step_one fed text later (Begins a) (Ends q) h g = absurd (no_first_second fed text.text later h.0 g.0 h.1 g.1 h.2 g.2)
-step_one fed text later (Ends p) (Comes b) h g = absurd (g.0 (h.0, h.1, inr h.2))
-step_one fed text later (Ends p) (Begins b) h g = absurd (no_first_second fed text.text later g.0 h.0 g.1 h.1 g.2 h.2)
-step_one fed text later (Ends p) (Ends q) h g =
-    ap (λ (x : ℕ). Ends x) (sym h.3 ∙ second_process fed fed text.text h.0 g.0 h.1 g.1 h.2 g.2 ∙ g.3)
-
-pub steps_one : (fed : List (List ℕ)) (texts : List Numbered) (later : List (List ℕ)) (a b : List Step) → AreSteps fed texts later a
-    → AreSteps fed texts later b → a ≡ b
+pub steps_one : (fed texts later : List ReadText) (a b : List Step) → AreSteps fed texts later a → AreSteps fed texts later b → a ≡ b
 steps_one fed [] later [] [] h g = refl
 steps_one fed [] later [] (y ∷ b) h g = absurd g
 steps_one fed [] later (x ∷ a) b h g = absurd h
 steps_one fed (text ∷ texts) later [] b h g = absurd h
 steps_one fed (text ∷ texts) later (x ∷ a) [] h g = absurd g
 steps_one fed (text ∷ texts) later (x ∷ a) (y ∷ b) h g =
-    let s = step_one fed text (texts_of texts ++ later) x y h.0 g.0 in
-    let r = steps_one (text.text ∷ fed) texts later a b h.1 g.1 in
+    let s = done_one text.line (part fed text (texts ++ later) text.reading) x y h.0 g.0 in
+    let r = steps_one (text ∷ fed) texts later a b h.1 g.1 in
     λ i. s i ∷ r i
 
 -- ---- the whole
@@ -160,7 +155,8 @@ steps_one fed (text ∷ texts) later (x ∷ a) (y ∷ b) h g =
 pub rewriting_one : HasOneRewriting
 rewriting_one process bytes out other m n c d h g =
     let s = texts_one process bytes h.chosen g.chosen h.before g.before h.texts g.texts in
-    let r = steps_one [] g.chosen [] h.steps g.steps (subst (λ (x : List Numbered). AreSteps [] x [] h.steps) s.0 h.are) g.are in
+    let t = reads_one g.chosen h.read g.read (subst (λ (x : List Numbered). Each IsReadText x h.read) s.0 h.reads) g.reads in
+    let r = steps_one [] g.read [] h.steps g.steps (subst (λ (x : List ReadText). AreSteps [] x [] h.steps) t h.are) g.are in
     let o = ap (λ (x : List Step). order frees_for [] x) r in (
       h.bytes_of ∙ ap (λ (x : List Entry). text_of (lines_as x)) o ∙ sym g.bytes_of,
       h.sum ∙ ap (λ (x : Counts). counted_all x (order frees_for [] h.steps)) s.1 ∙ ap (λ (x : List Entry). counted_all g.before x) o ∙ sym g.sum,

@@ -1,11 +1,11 @@
 -- The calls of one process among lines: while at most one of its calls waits, what is written and what waits still have
 -- them between them, whichever calls go before others.
-use Rattle.std.proofs.Common.{◌≡◌, ◌⊎◌, ℕ, zero, suc, ◌+◌, ◌≤◌, Bool, true, false, List, [], ◌∷◌, ◌++◌, length, Option, Some, None, refl, sym, ap, subst, ◌∙◌, append_assoc, inl, inr, arith}
+use Rattle.std.proofs.Common.{◌≡◌, ℕ, zero, suc, ◌+◌, ◌≤◌, Bool, true, false, List, [], ◌∷◌, ◌++◌, Some, None, refl, sym, ap, subst, ◌∙◌, append_assoc, inl, inr, arith}
 use Rattle.std.specs.Prelude.{option_map, option_to_list, ◌==◌, if◌then◌else◌}
 use Rattle.std.proofs.lemmas.List.{append-nil, length-append}
 use Rattle.line_parts.proofs.Leaves.{bool_cases}
 use Rattle.raw_trace.specs.declared.calls.ReadCall.{ReadCall}
-use Rattle.raw_trace.specs.Order.{Entry, Picked, Written, pick, write_due, behind, turns, write_entry}
+use Rattle.raw_trace.specs.Order.{Entry, Picked, Written, pick, write_due, behind, turns}
 use Rattle.raw_trace.specs.Laws.{of_process}
 
 -- the calls of the process in one line

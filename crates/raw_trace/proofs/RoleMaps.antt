@@ -5,7 +5,7 @@ use Rattle.std.specs.BTreeMap.{BTreeMap, get}
 use Rattle.std.specs.Ordering.{nat_cmp}
 use Rattle.raw_trace.specs.declared.halves.Role.{Role}
 use Rattle.raw_trace.specs.declared.halves.Role.TheVariants.{Alone}
-use Rattle.raw_trace.specs.Roles.{role_or, roles_in, AreBelow}
+use Rattle.raw_trace.specs.Roles.{role_or, roles_in}
 
 -- there are as many as places
 pub roles_count : (halves : BTreeMap ℕ Role) (from n : ℕ) → length (roles_in halves from n) ≡ n

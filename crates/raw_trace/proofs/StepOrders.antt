@@ -1,21 +1,14 @@
 -- Each process keeps the order of its calls: between the halves of one nothing of it is written, so it doesn't matter
 -- where between them the call stands.
-use Rattle.std.proofs.Common.{◌≡◌, ◌⊎◌, ℕ, ◌+◌, ◌≤◌, Bool, true, false, List, [], ◌∷◌, ◌++◌, length, Option, Some, None, refl, sym, ap, subst, ◌∙◌, append_assoc, inl, inr, arith}
-use Rattle.std.specs.Prelude.{option_map, option_to_list, unwrap_or, ◌==◌, if◌then◌else◌}
+use Rattle.std.proofs.Common.{◌≡◌, ℕ, ◌+◌, Bool, true, false, List, [], ◌∷◌, ◌++◌, Option, Some, None, refl, sym, ap, subst, ◌∙◌, append_assoc, inl, inr, arith}
+use Rattle.std.specs.Prelude.{◌==◌}
 use Rattle.std.proofs.lemmas.List.{append-nil}
 use Rattle.std.proofs.lemmas.Bool.Decides.{eqb_tells}
-use Rattle.line_parts.proofs.Leaves.{bool_cases}
-use Rattle.strace_reader.specs.declared.item.Item.TheVariants.{Played, Unfinished, Resumed}
-use Rattle.strace_reader.specs.declared.item.Name.{Name}
-use Rattle.strace_reader.specs.Grammar.{IsCut, Spells}
-use Rattle.raw_logs.specs.Log.{Numbered, texts_of}
 use Rattle.raw_trace.specs.declared.calls.ReadCall.{ReadCall}
-use Rattle.raw_trace.specs.Order.{Entry, Step, Begins, Ends, Comes, Picked, Written, pick, write_due, turns, write_entry, does, order}
-use Rattle.raw_trace.specs.Places.{IsQuiet, AreHalves, IsFirst, IsSecond, IsPaired, IsEntry, IsStep, AreSteps}
-use Rattle.raw_trace.specs.Laws.{of_process, KeepsOrders}
+use Rattle.raw_trace.specs.Order.{Entry, Step, Begins, Ends, Comes, pick, turns, write_entry, order}
+use Rattle.raw_trace.specs.Laws.{of_process}
 use Rattle.raw_trace.proofs.OwnCalls.{
   own,
-  NoneOf,
   Apart,
   OneOf,
   of_both,
@@ -31,7 +24,6 @@ use Rattle.raw_trace.proofs.OwnCalls.{
   picked_of,
   pick_it,
   pick_apart,
-  WroteApart,
   due_apart,
   WroteOne,
   waits_still,
@@ -104,19 +96,16 @@ begun_holds p one ws ahead entry n (holds_waiting {one = x} t h) =
       none_after = apart_both p h.after (entry ∷ []) h.none_after (n, tt);
     })
 
+-- lines of other processes without one of them
+without : (p : ℕ) (a b : List Entry) (x : Entry) → Apart p (a ++ (x ∷ b)) → Apart p (a ++ b)
+without p [] b x h = h.1
+without p (y ∷ a) b x h = (h.0, without p a b x h.1)
+
 -- a call of another process that is picked
 other_holds : (p : ℕ) (one : Option Entry) (ws a b : List Entry) (x : Entry) (ahead : List ReadCall) → ws ≡ a ++ (x ∷ b) → (x.process == p) ≡ false
     → Holds p one ws ahead → Holds p one (a ++ b) ahead
 other_holds p one ws a b x ahead e n (holds_none h) = holds_none (without p a b x (subst (Apart p) e h))
-  where
-    without : (p : ℕ) (a b : List Entry) (x : Entry) → Apart p (a ++ (x ∷ b)) → Apart p (a ++ b)
-    without p [] b x h = h.1
-    without p (y ∷ a) b x h = (h.0, without p a b x h.1)
 other_holds p one ws a b x ahead e n (holds_gone h) = holds_gone (without p a b x (subst (Apart p) e h))
-  where
-    without : (p : ℕ) (a b : List Entry) (x : Entry) → Apart p (a ++ (x ∷ b)) → Apart p (a ++ b)
-    without p [] b x h = h.1
-    without p (y ∷ a) b x h = (h.0, without p a b x h.1)
 other_holds p one ws a b x ahead e n (holds_waiting {one = w} t h) =
     by (picked_of p w x h.before h.after a b (sym h.parts ∙ e) h.none_before h.none_after)
   where

@@ -1,19 +1,18 @@
 -- What the text at a place does, by its role: a text alone comes, a first half begins its call, and a second half ends
 -- it.
-use Rattle.std.proofs.Common.{◌≡◌, ◌≢◌, ◌⊎◌, ℕ, ◌≤◌, ◌<◌, Bool, true, false, List, [], ◌∷◌, ◌++◌, length, take, drop, Option, Some, None, refl, sym, ap, subst, ◌∙◌, inl, inr, arith}
-use Rattle.std.specs.Prelude.{reverse, slice_get, IfSome, IsNone, codes}
+use Rattle.std.proofs.Common.{◌≡◌, ◌≢◌, ℕ, ◌+◌, ◌≤◌, ◌<◌, Bool, true, false, List, [], ◌∷◌, ◌++◌, length, take, drop, get_or, Option, Some, None, refl, sym, ap, subst, ◌∙◌, inl, inr, arith}
+use Rattle.std.specs.Prelude.{IfSome, IsNone, codes}
 use Rattle.std.specs.Bool.{Decides}
 use Rattle.raw_lines.specs.Beginnings.{ChangesSpace}
-use Rattle.strace_reader.specs.declared.item.Item.TheVariants.{Played, Resumed, Other}
-use Rattle.strace_reader.specs.declared.item.Name.{Name}
-use Rattle.strace_reader.specs.Grammar.{EndsWith, IsCut, IsBody, Spells}
+use Rattle.strace_reader.specs.declared.item.Item.TheVariants.{Played, Other}
+use Rattle.strace_reader.specs.Grammar.{EndsWith, IsCut, Spells}
 use Rattle.strace_reader.proofs.FormFacts.{cut_same}
 use Rattle.strace_reader.proofs.OneOutcome.{one_outcome}
 use Rattle.raw_lines.specs.Marks.{unread_text}
-use Rattle.raw_logs.specs.Log.{Numbered, texts_of}
+use Rattle.raw_logs.specs.declared.counts.Counts.{Counts}
+use Rattle.raw_logs.specs.Log.{Numbered, line_of}
 use Rattle.raw_trace.specs.declared.fault.Trouble.{Trouble}
 use Rattle.raw_trace.specs.declared.fault.Fault.{Fault}
-use Rattle.raw_trace.specs.declared.fault.Fault.TheVariants.{Memory}
 use Rattle.raw_trace.specs.declared.halves.Role.{Role}
 use Rattle.raw_trace.specs.declared.halves.Role.TheVariants.{Alone, First, Second}
 use Rattle.raw_trace.specs.declared.order.Ordering.{Ordering}
@@ -21,12 +20,14 @@ use Rattle.raw_trace.specs.declared.order.Piece.{Piece}
 use Rattle.raw_trace.specs.declared.settling.Ending.{Ending}
 use Rattle.raw_trace.specs.declared.settling.Ending.TheVariants.{AsUnread}
 use Rattle.raw_trace.specs.declared.writing.Written.{Written}
-use Rattle.raw_trace.specs.Order.{Entry, Step, Begins, Ends, Comes, frees_for, write_entry, does}
-use Rattle.raw_trace.specs.Places.{Becomes, becomes_itself, becomes_mended, becomes_unreturned, becomes_unread, IsReadAs, Changes, IsOtherForm, IsCause, IsTrouble, other_form, IsEntry, IsStep}
-use Rattle.raw_trace.specs.Faults.{IsFirstFault}
-use Rattle.raw_trace.specs.Stages.{entry, entries, IsRole, IsRoleAt, WroteLines, WroteDue, EndsDue, TookText, EndsText}
+use Rattle.raw_trace.specs.Order.{Entry, Begins, Ends, Comes, frees_for, write_entry, does}
+use Rattle.raw_trace.specs.Places.{Becomes, becomes_itself, becomes_mended, becomes_unreturned, becomes_unread, IsReadAs, Changes, IsOtherForm, IsCause, IsTrouble, other_form, IsEntry}
+use Rattle.raw_trace.specs.Places.{HasReading, ReadText, Part, Whole, Back, part, IsDone, IsStep}
+use Rattle.raw_trace.specs.Stages.{entry, entries, fed_by, IsRole, AreRoles, WroteLines, WroteDue, EndsDue, DidSome, EndsAll}
+use Rattle.raw_trace.proofs.GivenSteps.{did_more, did_end}
 use Rattle.raw_trace.proofs.LineCalls.{unread_passes}
-use Rattle.raw_trace.proofs.TextPlaces.{IsTextAt, HasRoleAt, role_text, joined_first}
+use Rattle.raw_trace.proofs.ReadTexts.{reading_of}
+use Rattle.raw_trace.proofs.TextPlaces.{half_ends, rest_begins, line_at, IsShown, RoleAt, role_at, shown_is}
 use Rattle.raw_trace.proofs.Turns.{wrote_none}
 
 -- ---- the call of a line
@@ -82,91 +83,115 @@ entry_of number joined line body piece n j c b t r =
 
 -- ---- by role
 
--- the number of the line at a place
-abbrev pub IsNumberAt : List Numbered → ℕ → ℕ → Type 0
-IsNumberAt lines place number = (text : Numbered) → slice_get lines place ≡ Some text → number ≡ text.number
-
 -- the entry of the text at a place
-entry_at : (number : ℕ) (joined : Bool) (shown : List ℕ) (e : Entry) (text : Numbered) → number ≡ text.number → shown ≡ text.text
-    → IsEntry number joined shown e → IsEntry text.number joined text.text e
-entry_at number joined shown e text n s is =
-    subst (λ (x : ℕ). IsEntry x joined text.text e) n (subst (λ (x : List ℕ). IsEntry number joined x e) s is)
+entry_at : (joined : Bool) (number : ℕ) (shown : List ℕ) (line : Numbered) (e : Entry) → line_of number shown ≡ line
+    → IsEntry number joined shown e → IsEntry line.number joined line.text e
+entry_at joined number shown line e same is = subst (λ (l : Numbered). IsEntry l.number joined l.text e) same is
 
 -- a text alone comes
-alone_step : (lines : List Numbered) (place number : ℕ) (role : Role) (shown : List ℕ) (e : Entry) → role ≡ Alone → IsTextAt lines place shown
-    → IsNumberAt lines place number → IsEntry number false shown e
-    → (text : Numbered) (at : IsRoleAt (texts_of lines) place text.text role) → slice_get lines place ≡ Some text
-    → IsStep (reverse at.before) text at.after (Comes e)
-alone_step lines place number role shown e r is n en text at get = (
-  subst (IsRole at.before text.text at.after) r at.has,
-  entry_at number false shown e text (n text get) (is text.text (role_text (texts_of lines) place text.text role at)) en,
-)
-
-pub alone_took : (strict : Bool) (lines : List Numbered) (place number : ℕ) (role : Role) (shown : List ℕ) (e : Entry) (old new : Ordering) → role ≡ Alone
-    → IsTextAt lines place shown → IsNumberAt lines place number → IsEntry number false shown e
-    → WroteDue strict old (write_entry frees_for e (entries old.waiting.items)) new
-    → (text : Numbered) (at : IsRoleAt (texts_of lines) place text.text role) → slice_get lines place ≡ Some text
-    → TookText strict (reverse at.before) text at.after old new
-alone_took strict lines place number role shown e old new r is n en did text at get =
-    record { step = Comes e; is = alone_step lines place number role shown e r is n en text at get; did = did }
-
-pub alone_ends : (strict : Bool) (lines : List Numbered) (place number : ℕ) (role : Role) (shown : List ℕ) (e : Entry) (old : Ordering) (fault : Fault)
-    → role ≡ Alone → IsTextAt lines place shown → IsNumberAt lines place number → IsEntry number false shown e
-    → EndsDue strict (write_entry frees_for e (entries old.waiting.items)).lines fault
-    → (text : Numbered) (at : IsRoleAt (texts_of lines) place text.text role) → slice_get lines place ≡ Some text
-    → EndsText strict (reverse at.before) text at.after old fault
-alone_ends strict lines place number role shown e old fault r is n en (inl m) text at get = inl m
-alone_ends strict lines place number role shown e old fault r is n en (inr f) text at get =
-    inr (Comes e, alone_step lines place number role shown e r is n en text at get, f)
+alone_step : (lines : List Numbered) (place number : ℕ) (fed later : List ReadText) (role : Role) (shown : List ℕ) (e : Entry)
+    → (x : RoleAt lines place fed later role) → role ≡ Alone → IsShown lines place number shown → IsEntry number false shown e
+    → IsStep (fed_by [] fed) x.text x.rest (Comes e)
+alone_step lines place number fed later role shown e x r is en =
+    let all = fed ++ (x.text ∷ x.rest) in
+    let whole : part (fed_by [] fed) x.text x.rest x.text.reading ≡ Whole = subst (IsRole all (fed_by [] fed) x.text x.rest) r x.has in
+    subst (λ (o : Part). IsDone x.text.line o (Comes e)) (sym whole)
+    (entry_at false number shown x.text.line e (shown_is lines place number shown x.text is x.at) en)
 
 -- a first half begins its call
-pub first_took : (strict : Bool) (lines : List Numbered) (place number other to behind : ℕ) (name : Name) (role : Role) (shown second line : List ℕ) (e : Entry)
-    (old new : Ordering) → role ≡ First other to behind name → IsTextAt lines place shown → IsTextAt lines other second
-    → line ≡ take to shown ++ drop behind second → IsNumberAt lines place number → IsEntry number true line e
-    → entries new.waiting.items ≡ entries old.waiting.items ++ (e ∷ []) → new.written ≡ old.written
-    → (text : Numbered) (at : IsRoleAt (texts_of lines) place text.text role) → slice_get lines place ≡ Some text
-    → TookText strict (reverse at.before) text at.after old new
-first_took strict lines place number other to behind name role shown second line e old new r is other_is le n en w same text at get =
-    record {
-      step = Begins e;
-      is = (
-        name,
-        line,
-        joined_first lines at.before at.after text.text shown second line other to behind name at.parts
-            (is text.text (role_text (texts_of lines) place text.text role at)) other_is le (subst (IsRole at.before text.text at.after) r at.has),
-        subst (λ (x : ℕ). IsEntry x true line e) (n text get) en,
-      );
-      did = record { wrote = subst (λ (x : Written). WroteLines strict old.written [] x) (sym same) (wrote_none strict old.written); waits = w };
-    }
+first_step : (lines : List Numbered) (place number other to behind : ℕ) (fed later : List ReadText) (role : Role) (n : ℕ) (shown second line : List ℕ)
+    (e : Entry) → (x : RoleAt lines place fed later role) → role ≡ First other to behind → IsShown lines place number shown
+    → IsShown lines other n second → line ≡ take to shown ++ drop behind second → IsEntry number true line e
+    → IsStep (fed_by [] fed) x.text x.rest (Begins e)
+first_step lines place number other to behind fed later role n shown second line e x r is other_is le en =
+    let all = fed ++ (x.text ∷ x.rest) in
+    let has = subst (IsRole all (fed_by [] fed) x.text x.rest) r x.has in
+    let one = shown_is lines place number shown x.text is x.at in
+    let two = shown_is lines other n second has.0 other_is (line_at lines all other has.0 x.reads has.1) in
+    let same : line ≡ take to x.text.line.text ++ drop behind has.0.line.text =
+    le ∙ ap (λ (l : Numbered). take to l.text ++ drop behind second) one ∙ ap (λ (l : Numbered). take to x.text.line.text ++ drop behind l.text) two in
+    subst (λ (o : Part). IsDone x.text.line o (Begins e)) (sym has.8)
+    (subst (λ (l : List ℕ). IsEntry x.text.line.number true l e) same (subst (λ (l : Numbered). IsEntry l.number true line e) one en))
 
 -- a second half ends it
-cut_second : (text : List ℕ) (p : ℕ) (name : Name) (from : ℕ) → Spells text (Resumed p name from) → (body : List ℕ) × IsCut text p body
-unfolding Spells
-cut_second text p name from h = (h.0, h.2)
+second_step : (lines : List Numbered) (place p : ℕ) (fed later : List ReadText) (role : Role) → (x : RoleAt lines place fed later role)
+    → role ≡ Second p → IsStep (fed_by [] fed) x.text x.rest (Ends p)
+second_step lines place p fed later role x r =
+    let all = fed ++ (x.text ∷ x.rest) in
+    let back : part (fed_by [] fed) x.text x.rest x.text.reading ≡ Back p = subst (IsRole all (fed_by [] fed) x.text x.rest) r x.has in
+    subst (λ (o : Part). IsDone x.text.line o (Ends p)) (sym back) refl
 
-second_step : (lines : List Numbered) (place other to behind pid : ℕ) (name : Name) (role : Role) (shown body : List ℕ)
-    → role ≡ Second other to behind name → IsTextAt lines place shown → IsCut shown pid body
-    → (text : Numbered) (at : IsRoleAt (texts_of lines) place text.text role) → IsStep (reverse at.before) text at.after (Ends pid)
-second_step lines place other to behind pid name role shown body r is cut text at =
-    let has = subst (IsRole at.before text.text at.after) r at.has in
-    let s = has.6 in
-    let c = cut_second text.text s.process name s.halves.2 s.halves.4 in
-    let here : IsCut text.text pid body = subst (λ (x : List ℕ). IsCut x pid body) (is text.text (role_text (texts_of lines) place text.text role at)) cut in
-    (name, take to has.0 ++ drop behind text.text, s, (cut_same text.text s.process pid c.0 body c.1 here).0)
+-- the second half of a first one is there, and what is kept of both is within them
+pub record KeptHalves (lines : List Numbered) (place other to behind : ℕ) : Type 0 where
+  -- it is there
+  pub within : other < length lines
+  -- what is kept of the first ends within it
+  pub first : (number : ℕ) (shown : List ℕ) → IsShown lines place number shown → to ≤ length shown
+  -- what is kept of the second begins within it
+  pub second : (number : ℕ) (shown : List ℕ) → IsShown lines other number shown → behind ≤ length shown
 
-pub second_took : (strict : Bool) (lines : List Numbered) (place other to behind pid : ℕ) (name : Name) (role : Role) (shown body : List ℕ)
-    (old new : Ordering) → role ≡ Second other to behind name → IsTextAt lines place shown → IsCut shown pid body
-    → WroteDue strict old (does frees_for (Ends pid) (entries old.waiting.items)) new
-    → (text : Numbered) (at : IsRoleAt (texts_of lines) place text.text role) → slice_get lines place ≡ Some text
-    → TookText strict (reverse at.before) text at.after old new
-second_took strict lines place other to behind pid name role shown body old new r is cut did text at get =
-    record { step = Ends pid; is = second_step lines place other to behind pid name role shown body r is cut text at; did = did }
+-- of each first half
+pub kept_halves : (strict : Bool) (lines : List Numbered) (place other to behind : ℕ) (roles : List Role) (role : Role) (now : Ordering)
+    → (counts : Counts) × DidSome strict lines place counts now → AreRoles lines roles → role ≡ get_or roles place Alone → place < length lines
+    → role ≡ First other to behind → KeptHalves lines place other to behind
+kept_halves strict lines place other to behind roles role now (counts, d) h is l r =
+    let x = role_at lines place d.fed d.later roles role d.reads d.count h is l in
+    let all = d.fed ++ (x.text ∷ x.rest) in
+    let has = subst (IsRole all (fed_by [] d.fed) x.text x.rest) r x.has in
+    let second = line_at lines all other has.0 x.reads has.1 in
+    let one = subst (HasReading x.text.line.text) has.6 (reading_of x.at.line x.text x.at.read) in
+    let two = subst (HasReading has.0.line.text) has.7 (reading_of second.line has.0 second.read) in
+    record {
+      within = second.within;
+      first = λ number shown s.
+          let same = ap (λ (l : Numbered). length l.text) (shown_is lines place number shown x.text s x.at) in
+          let k = half_ends x.text.line.text has.2 has.4 has.3 to one in
+          omega arith;
+      second = λ number shown s.
+          let same = ap (λ (l : Numbered). length l.text) (shown_is lines other number shown has.0 s second) in
+          let k = rest_begins has.0.line.text has.2 has.5 behind two in
+          omega arith;
+    }
 
-pub second_ends : (strict : Bool) (lines : List Numbered) (place other to behind pid : ℕ) (name : Name) (role : Role) (shown body : List ℕ)
-    (old : Ordering) (fault : Fault) → role ≡ Second other to behind name → IsTextAt lines place shown → IsCut shown pid body
-    → EndsDue strict (does frees_for (Ends pid) (entries old.waiting.items)).lines fault
-    → (text : Numbered) (at : IsRoleAt (texts_of lines) place text.text role) → slice_get lines place ≡ Some text
-    → EndsText strict (reverse at.before) text at.after old fault
-second_ends strict lines place other to behind pid name role shown body old fault r is cut (inl m) text at get = inl m
-second_ends strict lines place other to behind pid name role shown body old fault r is cut (inr f) text at get =
-    inr (Ends pid, second_step lines place other to behind pid name role shown body r is cut text at, f)
+-- ---- what was done with a text more
+
+module _ (strict : Bool) (lines : List Numbered) (place : ℕ) (roles : List Role) (role : Role) (old : Ordering) (have : AreRoles lines roles)
+    (is : role ≡ get_or roles place Alone) (within : place < length lines) where
+  here : (counts : Counts) → (d : DidSome strict lines place counts old) → RoleAt lines place d.fed d.later role
+  here counts d = role_at lines place d.fed d.later roles role d.reads d.count have is within
+
+  pub alone_did : (number : ℕ) (shown : List ℕ) (e : Entry) (new : Ordering) → role ≡ Alone → IsShown lines place number shown
+      → IsEntry number false shown e → WroteDue strict old (write_entry frees_for e (entries old.waiting.items)) new
+      → (counts : Counts) → DidSome strict lines place counts old → DidSome strict lines (place + 1) counts new
+  alone_did number shown e new r s en w counts d =
+      let x = here counts d in
+      did_more strict lines place counts old new d role x (Comes e) (alone_step lines place number d.fed d.later role shown e x r s en) w
+
+  pub alone_ends : (number : ℕ) (shown : List ℕ) (e : Entry) (fault : Fault) → role ≡ Alone → IsShown lines place number shown
+      → IsEntry number false shown e → EndsDue strict (write_entry frees_for e (entries old.waiting.items)).lines fault
+      → (counts : Counts) × DidSome strict lines place counts old → EndsAll strict lines fault
+  alone_ends number shown e fault r s en w (counts, d) =
+      let x = here counts d in
+      did_end strict lines place counts old d role x (Comes e) fault (alone_step lines place number d.fed d.later role shown e x r s en) w
+
+  pub first_did : (number other to behind n : ℕ) (shown second line : List ℕ) (e : Entry) (new : Ordering) → role ≡ First other to behind
+      → IsShown lines place number shown → IsShown lines other n second → line ≡ take to shown ++ drop behind second
+      → IsEntry number true line e → entries new.waiting.items ≡ entries old.waiting.items ++ (e ∷ []) → new.written ≡ old.written
+      → (counts : Counts) → DidSome strict lines place counts old → DidSome strict lines (place + 1) counts new
+  first_did number other to behind n shown second line e new r s t le en w same counts d =
+      let x = here counts d in
+      did_more strict lines place counts old new d role x (Begins e)
+      (first_step lines place number other to behind d.fed d.later role n shown second line e x r s t le en)
+      (record { wrote = subst (λ (z : Written). WroteLines strict old.written [] z) (sym same) (wrote_none strict old.written); waits = w })
+
+  pub second_did : (p : ℕ) (new : Ordering) → role ≡ Second p → WroteDue strict old (does frees_for (Ends p) (entries old.waiting.items)) new
+      → (counts : Counts) → DidSome strict lines place counts old → DidSome strict lines (place + 1) counts new
+  second_did p new r w counts d =
+      let x = here counts d in
+      did_more strict lines place counts old new d role x (Ends p) (second_step lines place p d.fed d.later role x r) w
+
+  pub second_ends : (p : ℕ) (fault : Fault) → role ≡ Second p → EndsDue strict (does frees_for (Ends p) (entries old.waiting.items)).lines fault
+      → (counts : Counts) × DidSome strict lines place counts old → EndsAll strict lines fault
+  second_ends p fault r w (counts, d) =
+      let x = here counts d in
+      did_end strict lines place counts old d role x (Ends p) fault (second_step lines place p d.fed d.later role x r) w

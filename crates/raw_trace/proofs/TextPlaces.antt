@@ -1,16 +1,18 @@
--- The texts of a log at their places, with what each is to its other half.
-use Rattle.std.proofs.Common.{◌≡◌, ◌≢◌, ◌⊎◌, ℕ, zero, suc, ◌+◌, ◌<◌, ◌≤◌, Bool, true, false, List, [], ◌∷◌, ◌++◌, length, take, drop, get_or, Option, Some, None, refl, sym, ap, subst, ◌∙◌, append_assoc, inl, inr, arith}
-use Rattle.std.specs.Prelude.{reverse, slice_get}
-use Rattle.std.proofs.lemmas.List.{append-nil, length-append, length-map, reverse-append}
+-- The texts of a log at their places, with what each is read as and to its other half.
+use Rattle.std.proofs.Common.{◌≡◌, ℕ, zero, suc, ◌<◌, ◌≤◌, List, [], ◌∷◌, ◌++◌, length, get_or, Option, Some, refl, sym, ap, subst, ◌∙◌, arith}
+use Rattle.std.specs.Prelude.{slice_get}
+use Rattle.std.proofs.lemmas.List.{append-nil}
 use Rattle.strace_reader.specs.declared.item.Item.TheVariants.{Unfinished, Resumed}
 use Rattle.strace_reader.specs.declared.item.Name.{Name}
 use Rattle.strace_reader.specs.Grammar.{IsBody, Spells}
 use Rattle.strace_reader.proofs.FormFacts.{half_length}
 use Rattle.raw_trace.specs.declared.halves.Role.{Role}
-use Rattle.raw_trace.specs.declared.halves.Role.TheVariants.{Alone, First, Second}
-use Rattle.raw_logs.specs.Log.{Numbered, texts_of}
-use Rattle.raw_trace.specs.Places.{IsFirst, IsSecond, IsPaired}
-use Rattle.raw_trace.specs.Stages.{IsRole, AreRoles, IsRoleAt}
+use Rattle.raw_trace.specs.declared.halves.Role.TheVariants.{Alone}
+use Rattle.raw_logs.specs.Log.{Numbered, Each, line_of}
+use Rattle.raw_trace.specs.Places.{ReadText, IsReadText}
+use Rattle.raw_trace.specs.Stages.{IsRole, HaveRoles, AreRoles, fed_by}
+use Rattle.raw_trace.proofs.FoundHalves.{get_there, have_count}
+use Rattle.raw_trace.proofs.ReadTexts.{reads_one}
 
 -- ---- halves within their texts
 
@@ -29,22 +31,6 @@ pub rest_begins : (text : List ℕ) (p : ℕ) (n : Name) (from : ℕ) → Spells
 unfolding Spells IsBody
 rest_begins text p n from h = let k = h.4 in omega arith
 
-get_within : (xs : List (List ℕ)) (k : ℕ) (x : List ℕ) → slice_get xs k ≡ Some x → k < length xs
-get_within [] k x e = absurd cc
-get_within (z ∷ xs) zero x e = omega arith
-get_within (z ∷ xs) (suc k) x e = let l = get_within xs k x e in omega arith
-
-get_there : (xs ys : List (List ℕ)) (x : List ℕ) (k : ℕ) → length xs ≡ k → slice_get (xs ++ (x ∷ ys)) k ≡ Some x
-get_there [] ys x zero e = refl
-get_there [] ys x (suc k) e = absurd (omega arith)
-get_there (z ∷ xs) ys x zero e = absurd (omega arith)
-get_there (z ∷ xs) ys x (suc k) e = get_there xs ys x k (omega arith)
-
--- the text of a role stands at its place
-pub role_text : (log : List (List ℕ)) (place : ℕ) (text : List ℕ) (role : Role) → IsRoleAt log place text role → slice_get log place ≡ Some text
-role_text log place text role at =
-    subst (λ (x : List (List ℕ)). slice_get x place ≡ Some text) (sym at.parts) (get_there at.before at.after text place at.count)
-
 -- the line at a place is the one there
 pub line_got : (lines : List Numbered) (place : ℕ) (line other : Numbered) → line ≡ get_or lines place line → slice_get lines place ≡ Some other
     → line ≡ other
@@ -52,129 +38,93 @@ line_got [] place line other e g = absurd cc
 line_got (x ∷ lines) zero line other e g = let k : x ≡ other = cc in e ∙ k
 line_got (x ∷ lines) (suc place) line other e g = line_got lines place line other e g
 
--- and so is its text
-pub text_got : (lines : List Numbered) (place : ℕ) (line : Numbered) (text : List ℕ) → line ≡ get_or lines place line
-    → slice_get (texts_of lines) place ≡ Some text → line.text ≡ text
-text_got [] place line text e g = absurd cc
-text_got (x ∷ lines) zero line text e g = let k : x.text ≡ text = cc in ap (λ (y : Numbered). y.text) e ∙ k
-text_got (x ∷ lines) (suc place) line text e g = text_got lines place line text e g
-
--- the other half is there
-pub second_there : (lines : List Numbered) (place other to behind : ℕ) (name : Name) (text : List ℕ)
-    → IsRoleAt (texts_of lines) place text (First other to behind name) → other < length lines
-second_there lines place other to behind name text at =
-    let k = get_within (at.before ++ (text ∷ at.after)) other at.has.0 at.has.3 in
-    let l = ap length at.parts in
-    let m = length-map lines (λ (x : Numbered). x.text) in
-    omega arith
-
--- ---- the place of a role
-
--- a text is the one at this place
-abbrev pub IsTextAt : List Numbered → ℕ → List ℕ → Type 0
-IsTextAt lines place shown = (text : List ℕ) → slice_get (texts_of lines) place ≡ Some text → shown ≡ text
-
--- some text of this role stands at the place
-abbrev pub HasRoleAt : List Numbered → ℕ → Role → Type 0
-HasRoleAt lines place role = (text : List ℕ) × IsRoleAt (texts_of lines) place text role
-
--- the second half is there
-pub second_place : (lines : List Numbered) (place other to behind : ℕ) (name : Name) (role : Role) → role ≡ First other to behind name
-    → HasRoleAt lines place role → other < length lines
-second_place lines place other to behind name role e h =
-    second_there lines place other to behind name h.0 (subst (IsRoleAt (texts_of lines) place h.0) e h.1)
-
--- the other text is the one at its place
-other_text : (lines : List Numbered) (before after : List (List ℕ)) (text other_one shown : List ℕ) (other : ℕ) → texts_of lines ≡ before ++ (text ∷ after)
-    → slice_get (before ++ (text ∷ after)) other ≡ Some other_one → IsTextAt lines other shown → shown ≡ other_one
-other_text lines before after text other_one shown other parts get is =
-    is other_one (subst (λ (x : List (List ℕ)). slice_get x other ≡ Some other_one) (sym parts) get)
-
--- what is kept of a first half ends within it
-pub first_kept : (lines : List Numbered) (place other to behind : ℕ) (name : Name) (role : Role) (shown : List ℕ) → role ≡ First other to behind name
-    → HasRoleAt lines place role → IsTextAt lines place shown → to ≤ length shown
-first_kept lines place other to behind name role shown e h is =
-    let at = subst (IsRoleAt (texts_of lines) place h.0) e h.1 in
-    let r = at.has in
-    let same = ap length (is h.0 (role_text (texts_of lines) place h.0 (First other to behind name) at)) in
-    let k = half_ends h.0 r.1 name r.2 to r.4 in
-    omega arith
-
--- what is kept of its second half begins within that
-pub rest_kept : (lines : List Numbered) (place other to behind : ℕ) (name : Name) (role : Role) (shown : List ℕ) → role ≡ First other to behind name
-    → HasRoleAt lines place role → IsTextAt lines other shown → behind ≤ length shown
-rest_kept lines place other to behind name role shown e h is =
-    let at = subst (IsRoleAt (texts_of lines) place h.0) e h.1 in
-    let r = at.has in
-    let same = ap length (other_text lines at.before at.after h.0 r.0 shown other at.parts r.3 is) in
-    let k = rest_begins r.0 r.1 name behind r.5 in
-    omega arith
-
--- a line of two halves, at its first
-pub joined_first : (lines : List Numbered) (before after : List (List ℕ)) (text first second line : List ℕ) (other to behind : ℕ) (name : Name)
-    → texts_of lines ≡ before ++ (text ∷ after) → first ≡ text → IsTextAt lines other second → line ≡ take to first ++ drop behind second
-    → IsRole before text after (First other to behind name) → IsFirst text after name line
-joined_first lines before after text first second line other to behind name parts same is e r =
-    let k = other_text lines before after text r.0 second other parts r.3 is in
-    subst (IsFirst text after name) (sym (e ∙ ap (λ (x : List ℕ). take to x ++ drop behind second) same
-    ∙ ap (λ (x : List ℕ). take to text ++ drop behind x) k)) r.6
-
--- and at its second
-pub joined_second : (lines : List Numbered) (before after : List (List ℕ)) (text first second line : List ℕ) (other to behind : ℕ) (name : Name)
-    → texts_of lines ≡ before ++ (text ∷ after) → second ≡ text → IsTextAt lines other first → line ≡ take to first ++ drop behind second
-    → IsRole before text after (Second other to behind name) → IsSecond (reverse before) text name line
-joined_second lines before after text first second line other to behind name parts same is e r =
-    let k = other_text lines before after text r.0 first other parts r.3 is in
-    subst (IsSecond (reverse before) text name) (sym (e ∙ ap (λ (x : List ℕ). take to first ++ drop behind x) same
-    ∙ ap (λ (x : List ℕ). take to x ++ drop behind text) k)) r.6
-
--- the texts of lines behind others
-pub texts_both : (a b : List Numbered) → texts_of (a ++ b) ≡ texts_of a ++ texts_of b
-texts_both [] b = refl
-texts_both (x ∷ a) b = ap (λ (y : List (List ℕ)). x.text ∷ y) (texts_both a b)
-
--- a line more is before
-pub fed_more : (fed : List Numbered) (line : Numbered) → reverse (texts_of (fed ++ (line ∷ []))) ≡ line.text ∷ reverse (texts_of fed)
-fed_more fed line =
-    ap (λ (x : List (List ℕ)). reverse x) (texts_both fed (line ∷ [])) ∙ reverse-append (texts_of fed) (line.text ∷ [])
-
--- ---- a line at its place
-
--- what is left at a place that is there
-pub record LeftAt (later : List Numbered) : Type 0 where
-  -- the line there
+-- the line of a text at a place
+pub record LineAt (lines : List Numbered) (place : ℕ) (text : ReadText) : Type 0 where
+  -- the line
   pub line : Numbered
+  -- it is there
+  pub got : slice_get lines place ≡ Some line
+  -- and is read so
+  pub read : IsReadText line text
+  -- the place is one of the lines
+  pub within : place < length lines
+
+-- each text has one
+pub line_at : (lines : List Numbered) (texts : List ReadText) (place : ℕ) (text : ReadText) → Each IsReadText lines texts → slice_get texts place ≡ Some text
+    → LineAt lines place text
+line_at [] [] place text h e = absurd cc
+line_at [] (x ∷ texts) place text h e = absurd h
+line_at (line ∷ lines) [] place text h e = absurd h
+line_at (line ∷ lines) (x ∷ texts) zero text h e =
+    record { line = line; got = refl; read = subst (IsReadText line) (some_text e) h.0; within = omega arith }
+  where
+    some_text : ◌≡◌ {A = Option ReadText} (Some x) (Some text) → x ≡ text
+    some_text k = cc
+line_at (line ∷ lines) (x ∷ texts) (suc place) text h e =
+    let r = line_at lines texts place text h.1 e in
+    record { line = r.line; got = r.got; read = r.read; within = let w = r.within in omega arith }
+
+-- there are as many texts as lines
+pub reads_count : (lines : List Numbered) (texts : List ReadText) → Each IsReadText lines texts → length texts ≡ length lines
+reads_count [] [] h = refl
+reads_count [] (x ∷ texts) h = absurd h
+reads_count (line ∷ lines) [] h = absurd h
+reads_count (line ∷ lines) (x ∷ texts) h = ap suc (reads_count lines texts h.1)
+
+-- ---- the role at a place
+
+-- what is shown of the line at a place is that line
+abbrev pub IsShown : List Numbered → ℕ → ℕ → List ℕ → Type 0
+IsShown lines place number shown = (line : Numbered) → slice_get lines place ≡ Some line → line_of number shown ≡ line
+
+-- the text at a place, with its role
+pub record RoleAt (lines : List Numbered) (place : ℕ) (fed later : List ReadText) (role : Role) : Type 0 where
+  -- it
+  pub text : ReadText
   -- those behind it
-  pub rest : List Numbered
+  pub rest : List ReadText
   -- they are what is left
-  pub is : later ≡ line ∷ rest
+  pub is : later ≡ text ∷ rest
+  -- its line
+  pub at : LineAt lines place text
+  -- all the texts
+  pub reads : Each IsReadText lines (fed ++ (text ∷ rest))
+  -- what it is
+  pub has : IsRole (fed ++ (text ∷ rest)) (fed_by [] fed) text rest role
 
--- before the end of the lines some are left
-pub left_at : (lines fed later : List Numbered) (place : ℕ) → lines ≡ fed ++ later → length fed ≡ place → place < length lines → LeftAt later
-left_at lines fed [] place e c l = let k = ap length e in let m = ap length (append-nil fed) in absurd (omega arith)
-left_at lines fed (line ∷ rest) place e c l = record { line = line; rest = rest; is = refl }
+role_there : (all fed before : List ReadText) (text : ReadText) (rest : List ReadText) (roles : List Role) → HaveRoles all fed (before ++ (text ∷ rest)) roles
+    → IsRole all (fed_by fed before) text rest (get_or roles (length before) Alone)
+role_there all fed [] text rest [] h = absurd h
+role_there all fed [] text rest (r ∷ roles) h = h.0
+role_there all fed (x ∷ before) text rest [] h = absurd h
+role_there all fed (x ∷ before) text rest (r ∷ roles) h = role_there all (x ∷ fed) before text rest roles h.1
 
--- the role of a line, behind those before it
-pub role_here : (lines fed rest : List Numbered) (line : Numbered) (place : ℕ) (roles : List Role) (role : Role)
-    → texts_of lines ≡ texts_of fed ++ (line.text ∷ texts_of rest)
-    → length fed ≡ place → AreRoles (texts_of lines) roles → role ≡ get_or roles place Alone → IsRole (texts_of fed) line.text (texts_of rest) role
-role_here lines fed rest line place roles role parts c h is =
-    let many : length (texts_of fed) ≡ place = length-map fed (λ (x : Numbered). x.text) ∙ c in
-    subst (λ (x : Role). IsRole (texts_of fed) line.text (texts_of rest) x) (ap (λ (x : ℕ). get_or roles x Alone) many ∙ sym is)
-    (h.at (texts_of fed) line.text (texts_of rest) parts)
+-- each place has one
+pub role_at : (lines : List Numbered) (place : ℕ) (fed later : List ReadText) (roles : List Role) (role : Role) → Each IsReadText lines (fed ++ later)
+    → length fed ≡ place → AreRoles lines roles → role ≡ get_or roles place Alone → place < length lines → RoleAt lines place fed later role
+role_at lines place fed [] roles role reads count h is l =
+    let k = reads_count lines (fed ++ []) reads in
+    let m = ap length (append-nil fed) in
+    absurd (omega (arith, l))
+role_at lines place fed (text ∷ rest) roles role reads count h is l =
+    let all = fed ++ (text ∷ rest) in
+    let same : h.texts ≡ all = reads_one lines h.texts all h.reads reads in
+    let have : HaveRoles all [] all roles = subst (λ (x : List ReadText). HaveRoles x [] x roles) same h.have in
+    record {
+      text = text;
+      rest = rest;
+      is = refl;
+      at = line_at lines all place text reads (subst (λ (k : ℕ). slice_get all k ≡ Some text) count (get_there fed rest text));
+      reads = reads;
+      has = subst (IsRole all (fed_by [] fed) text rest) (ap (λ (k : ℕ). get_or roles k Alone) count ∙ sym is)
+          (role_there all [] fed text rest roles have);
+    }
 
-pub split_texts : (lines fed rest : List Numbered) (line : Numbered) → lines ≡ fed ++ (line ∷ rest)
-    → texts_of lines ≡ texts_of fed ++ (line.text ∷ texts_of rest)
-split_texts lines fed rest line e = ap (λ (x : List Numbered). texts_of x) e ∙ texts_both fed (line ∷ rest)
+-- there are as many roles as lines
+pub roles_count : (lines : List Numbered) (roles : List Role) → AreRoles lines roles → length roles ≡ length lines
+roles_count lines roles h = have_count h.texts [] h.texts roles h.have ∙ reads_count lines h.texts h.reads
 
-pub number_there : (fed rest : List Numbered) (line : Numbered) (place : ℕ) → length fed ≡ place
-    → slice_get ((fed ++ (line ∷ rest))) place ≡ Some line
-number_there [] rest line zero e = refl
-number_there [] rest line (suc place) e = absurd (omega arith)
-number_there (x ∷ fed) rest line zero e = absurd (omega arith)
-number_there (x ∷ fed) rest line (suc place) e = number_there fed rest line place (omega arith)
-
--- behind the last place nothing is left
-pub none_later : (lines fed later : List Numbered) (place : ℕ) → lines ≡ fed ++ later → length fed ≡ place → length lines ≤ place → later ≡ []
-none_later lines fed [] place e c l = refl
-none_later lines fed (x ∷ later) place e c l = let k = ap length e in let m = length-append fed (x ∷ later) in absurd (omega arith)
+-- what is shown of a text's line is its text
+pub shown_is : (lines : List Numbered) (place number : ℕ) (shown : List ℕ) (text : ReadText) → IsShown lines place number shown → LineAt lines place text
+    → line_of number shown ≡ text.line
+shown_is lines place number shown text is at = is at.line at.got ∙ sym at.read.0

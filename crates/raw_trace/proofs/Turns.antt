@@ -1,22 +1,20 @@
 -- Which waiting entry is picked, and what a turn of an entry that is due comes to.
-use Rattle.std.proofs.Common.{◌≡◌, ◌⊎◌, ℕ, zero, suc, ◌+◌, ◌*◌, ◌<◌, ◌≤◌, Bool, true, false, List, [], ◌∷◌, ◌++◌, length, map, take, get_or, Option, Some, None, refl, sym, ap, subst, ◌∙◌, append_assoc, inl, inr, arith}
+use Rattle.std.proofs.Common.{◌≡◌, ℕ, zero, suc, ◌+◌, ◌*◌, ◌<◌, ◌≤◌, Bool, true, false, List, [], ◌∷◌, ◌++◌, length, take, get_or, Option, Some, None, refl, sym, ap, subst, ◌∙◌, append_assoc, inl, inr, arith}
 use Rattle.std.proofs.lemmas.Bool.Decides.{eqb_tells}
-use Rattle.std.specs.Prelude.{◌==◌, drop, reverse, option_map, remove, option_to_list}
+use Rattle.std.specs.Prelude.{◌==◌, reverse, option_map, remove}
 use Rattle.std.proofs.lemmas.List.{append-nil, take_more, take_all, length-append, length-map, length-reverse, reverse-append}
 use Rattle.raw_logs.specs.declared.counts.Counts.{Counts}
 use Rattle.raw_logs.proofs.TextLists.{item_of}
-use Rattle.raw_trace.specs.declared.calls.ReadCall.{ReadCall}
 use Rattle.raw_trace.specs.declared.fault.Fault.{Fault}
-use Rattle.raw_trace.specs.declared.fault.Fault.TheVariants.{Memory}
 use Rattle.raw_trace.specs.declared.order.Ordering.{Ordering}
 use Rattle.raw_trace.specs.declared.order.Piece.{Piece}
 use Rattle.raw_trace.specs.declared.writing.Written.{Written}
-use Rattle.raw_trace.specs.Order.{Entry, Picked, Step, Ends, Written as WrittenOf, frees_for, pick, turns, write_due, write_entry, does}
-use Rattle.raw_trace.specs.Faults.{IsEntryFault, IsFirstFault}
+use Rattle.raw_trace.specs.Order.{Entry, Picked, Written as WrittenOf, frees_for, pick, turns, write_due, write_entry}
+use Rattle.raw_trace.specs.Faults.{IsFirstFault}
 use Rattle.raw_trace.specs.Rewriting.{text_of, lines_as, counted_entry, counted_call, counted_all, calls_after}
-use Rattle.raw_trace.specs.Stages.{entry, entries, due_of, IsPicked, MayBeWritten, EachEntry, WroteLines, WroteDue, EndsDue, TookTurn, wrote_one, made_due, EndsTurn, DueSome}
+use Rattle.raw_trace.specs.Stages.{entry, entries, due_of, IsPicked, MayBeWritten, WroteLines, WroteDue, EndsDue, TookTurn, wrote_one, made_due, EndsTurn, DueSome}
 use Rattle.raw_trace.proofs.EachEntries.{each_both}
-use Rattle.raw_trace.proofs.OneFault.{first_more, first_behind}
+use Rattle.raw_trace.proofs.OneFault.{first_behind}
 use Rattle.raw_trace.proofs.OwnCalls.{Picks, picks_one, picks_none, picks}
 
 -- ---- what is picked

@@ -10,7 +10,7 @@ use Rattle.raw_logs.specs.declared.fault.LogFault.{LogFault}
 use Rattle.raw_logs.specs.declared.fault.LogFault.TheVariants.{Memory as LogMemory}
 use Rattle.raw_logs.specs.Counting.{one_more_of}
 use Rattle.raw_logs.specs.declared.counts.Sort.TheVariants.{Joined, Forms}
-use Rattle.raw_logs.specs.Log.{Numbered}
+use Rattle.raw_logs.specs.Log.{Numbered, Each}
 use Rattle.raw_logs.specs.Reading.{AreTexts, IsFirstUnknown, IsLogFault}
 use Rattle.raw_logs.proofs.OneLog.{texts_one, unknown_one, texts_no_fault}
 use Rattle.raw_logs.proofs.UnreadLogs.{texts_unread}
@@ -22,14 +22,14 @@ use Rattle.raw_trace.specs.declared.rewriting.Rewriting.{Rewriting}
 use Rattle.raw_trace.specs.declared.settling.Ending.{Ending}
 use Rattle.raw_trace.specs.declared.settling.Ending.TheVariants.{AsItIs, ByMends, AsUnreturned, AsUnread}
 use Rattle.raw_trace.specs.declared.writing.Written.{Written}
-use Rattle.raw_trace.specs.Order.{Entry, Step, Begins, Ends, Comes, frees_for, order}
-use Rattle.raw_trace.specs.Places.{Becomes, becomes_itself, becomes_mended, becomes_unreturned, becomes_unread, IsTrouble, IsEntry, IsStep, AreSteps}
+use Rattle.raw_trace.specs.Order.{Entry, Step, frees_for, order}
+use Rattle.raw_trace.specs.Places.{Becomes, becomes_itself, becomes_mended, becomes_unreturned, becomes_unread, IsTrouble, IsEntry, ReadText, IsReadText, part, AreSteps}
 use Rattle.raw_trace.specs.Rewriting.{text_of, lines_as, is_form, counted, counted_entry, counted_all, IsRewriting}
 use Rattle.raw_trace.specs.Faults.{of_log, Stops, IsCausedFault, IsFault}
 use Rattle.raw_trace.specs.Laws.{HasShortLines, HasOneRewriting, HasOneFault}
 use Rattle.raw_trace.specs.Stages.{EachEntry, MayBeWritten, WroteAll, EndsAll}
-use Rattle.raw_trace.proofs.EachEntries.{EachStep, order_each}
-use Rattle.raw_trace.proofs.OneFault.{never_stops, no_unknown}
+use Rattle.raw_trace.proofs.EachEntries.{EachStep, line_in, done_each, order_each}
+use Rattle.raw_trace.proofs.OneFault.{never_stops}
 
 -- ---- the whole
 
@@ -42,8 +42,10 @@ rewriting_is process strict bytes chosen shown before found are e w =
       chosen = chosen;
       before = before;
       texts = are;
+      read = w.texts;
+      reads = subst (λ (x : List Numbered). Each IsReadText x w.texts) e w.reads;
       steps = w.steps;
-      are = subst (λ (x : List Numbered). AreSteps [] x [] w.steps) e w.are;
+      are = w.are;
       bytes_of = w.out;
       sum = w.sum;
       number = w.calls;
@@ -130,16 +132,14 @@ entry_told number joined line e is u n =
     let t : IsTrouble line e.line e.ending None = subst (IsTrouble line e.line e.ending) n is.troubled in
     unread_long line e.line e.ending is.becomes u (t.0 u)
 
-steps_told : (fed : List (List ℕ)) (texts : List Numbered) (later : List (List ℕ)) (steps : List Step) → AreSteps fed texts later steps
-    → EachStep IsTold steps
+steps_told : (fed texts later : List ReadText) (steps : List Step) → AreSteps fed texts later steps → EachStep IsTold steps
 steps_told fed [] later [] are = tt
 steps_told fed [] later (step ∷ steps) are = absurd are
 steps_told fed (text ∷ texts) later [] are = absurd are
-steps_told fed (text ∷ texts) later (Comes e ∷ steps) are =
-    (entry_told text.number false text.text e are.0.1, steps_told (text.text ∷ fed) texts later steps are.1)
-steps_told fed (text ∷ texts) later (Begins e ∷ steps) are =
-    (entry_told text.number true are.0.1 e are.0.3, steps_told (text.text ∷ fed) texts later steps are.1)
-steps_told fed (text ∷ texts) later (Ends q ∷ steps) are = (tt, steps_told (text.text ∷ fed) texts later steps are.1)
+steps_told fed (text ∷ texts) later (step ∷ steps) are =
+    let o = part fed text (texts ++ later) text.reading in
+    done_each IsTold text.line o step steps (λ number two e h. entry_told number two (line_in text.line o) e h) are.0
+    (steps_told (text ∷ fed) texts later steps are.1)
 
 -- where every line has to be read, one that may be written isn't left unread
 may_not_unread : (e : Entry) → MayBeWritten true e → IsTold e → e.ending ≢ AsUnread
@@ -178,7 +178,7 @@ none_unread process strict bytes texts before found are w s =
     let may : EachEntry (MayBeWritten true) (order frees_for [] w.steps) =
     subst (λ (b : Bool). EachEntry (MayBeWritten b) (order frees_for [] w.steps)) s w.may in
     ap (λ (c : Counts). c.unread) w.sum
-    ∙ all_unread (order frees_for [] w.steps) before may (order_each IsTold frees_for [] w.steps tt (steps_told [] texts [] w.steps w.are))
+    ∙ all_unread (order frees_for [] w.steps) before may (order_each IsTold frees_for [] w.steps tt (steps_told [] w.texts [] w.steps w.are))
     ∙ texts_unread process bytes texts before are
 
 -- ---- faults
@@ -193,7 +193,7 @@ no_cause process strict bytes texts before unknown found are u k w fault (inr (i
     let n : ◌≡◌ {A = Option ℕ} None (Some h.1) = sym (k h.0) ∙ e in cc
 no_cause process strict bytes texts before unknown found are u k w fault (inr (inr h)) =
     let same = texts_one process bytes texts h.1 before h.2 are h.3 in
-    never_stops strict texts w.steps w.are w.may fault (subst (λ (x : List Numbered). Stops strict x fault) (sym same.0) h.4)
+    never_stops strict texts w.texts w.steps w.reads w.are w.may fault (subst (λ (x : List Numbered). Stops strict x fault) (sym same.0) h.4)
 
 -- a fault of the reading
 pub log_fault : (process : Option ℕ) (strict : Bool) (bytes : List ℕ) (why : LogFault) (fault : Fault) → IsLogFault process bytes why → fault ≡ of_log why

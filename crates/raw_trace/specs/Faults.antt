@@ -1,24 +1,17 @@
 -- Why a log isn't rewritten: its texts can't be had; or, of the lines in their order, the first that may not be
 -- written: it is too long, or it can't be read where every line has to be. Its column counts in the text that stands
 -- there: a plain text, or what two halves make.
-use Rattle.std.specs.Prelude.{◌≡◌, ◌≢◌, ◌⊎◌, ℕ, ◌<◌, ◌≤◌, List, [], ◌∷◌, ◌++◌, length, Bool, true, Option, Some, None}
-use Rattle.strace_reader.specs.declared.item.BadCall.{BadCall}
-use Rattle.strace_reader.specs.declared.item.Item.TheVariants.{Resumed}
-use Rattle.strace_reader.specs.declared.item.Name.{Name}
-use Rattle.strace_reader.specs.Grammar.{Spells, Refuses}
-use Rattle.raw_lines.specs.Marks.{unread_text}
+use Rattle.std.specs.Prelude.{◌≡◌, ◌⊎◌, ℕ, ◌<◌, ◌≤◌, List, [], ◌∷◌, ◌++◌, length, Bool, true, Option, Some, None}
 use Rattle.raw_logs.specs.declared.counts.Counts.{Counts}
-use Rattle.raw_logs.specs.Log.{Numbered, texts_of}
+use Rattle.raw_logs.specs.Log.{Numbered, Each}
 use Rattle.raw_logs.specs.Reading.{AreTexts, IsFirstUnknown, IsLogFault}
 use Rattle.raw_logs.specs.declared.fault.LogFault.{LogFault}
 use Rattle.raw_logs.specs.declared.fault.LogFault.TheVariants.{LongLine as LogLong, NoProcess as LogSilent, Memory as LogMemory}
-use Rattle.raw_trace.specs.declared.fault.Cause.{Cause}
-use Rattle.raw_trace.specs.declared.fault.Cause.TheVariants.{Form, Alone, Unclear, OtherForm, Unknown}
+use Rattle.raw_trace.specs.declared.fault.Cause.TheVariants.{Unknown}
 use Rattle.raw_trace.specs.declared.fault.Fault.{Fault}
 use Rattle.raw_trace.specs.declared.fault.Fault.TheVariants.{Unreadable, LongLine, NoProcess, Memory}
-use Rattle.raw_trace.specs.declared.settling.Ending.TheVariants.{AsUnread}
 use Rattle.raw_trace.specs.Order.{Entry, Step, frees_for, order}
-use Rattle.raw_trace.specs.Places.{AreSteps}
+use Rattle.raw_trace.specs.Places.{ReadText, IsReadText, AreSteps}
 
 -- why an entry may not be written
 abbrev pub IsEntryFault : Bool → Entry → Fault → Type 0
@@ -36,11 +29,11 @@ IsFirstFault strict (entry ∷ entries) fault = IsEntryFault strict entry fault
 
 -- the writing of texts ends so: of what the first of them give, an entry may not be written
 pub record Stops (strict : Bool) (texts : List Numbered) (fault : Fault) : Type 0 where
-  pub fed : List Numbered
-  pub later : List Numbered
-  pub parts : texts ≡ fed ++ later
+  pub fed : List ReadText
+  pub later : List ReadText
+  pub reads : Each IsReadText texts (fed ++ later)
   pub steps : List Step
-  pub are : AreSteps [] fed (texts_of later) steps
+  pub are : AreSteps [] fed later steps
   pub first : IsFirstFault strict (order frees_for [] steps) fault
 
 -- why the texts of a log can't be had

@@ -1,20 +1,20 @@
 -- What the definitions come to. The lines that are written are read by the project's own reader as exactly the calls of
 -- the log, each once, in the order of the rule; each process' lines keep their order; and a line that is good already
 -- stays byte for byte. The laws speak of every log, and say nothing of how one is read.
-use Rattle.std.specs.Prelude.{◌≡◌, ◌⊎◌, ℕ, ◌≤◌, List, [], ◌∷◌, ◌++◌, length, Bool, true, false, Option, Some, All, option_to_list, ◌==◌, if◌then◌else◌}
+use Rattle.std.specs.Prelude.{◌≡◌, ℕ, ◌≤◌, List, [], ◌∷◌, ◌++◌, length, Bool, false, Option, All, option_to_list, ◌==◌, if◌then◌else◌}
 use Rattle.line_parts.specs.Lines.{lines_of}
 use Rattle.strace_reader.specs.declared.joiner.Fed.{Fed}
 use Rattle.strace_reader.specs.declared.joiner.Fed.TheVariants.{Played as Answered, Kept, Skipped, Blank}
 use Rattle.strace_reader.specs.Joining.{IsAnswer}
 use Rattle.raw_logs.specs.declared.counts.Counts.{Counts}
-use Rattle.raw_logs.specs.Log.{Numbered, texts_of}
+use Rattle.raw_logs.specs.Log.{Numbered, texts_of, Each}
 use Rattle.raw_logs.specs.Reading.{AreTexts}
 use Rattle.raw_trace.specs.declared.calls.ReadCall.{ReadCall}
 use Rattle.raw_trace.specs.declared.fault.Fault.{Fault}
 use Rattle.raw_trace.specs.declared.settling.Ending.TheVariants.{AsItIs}
 use Rattle.raw_trace.specs.Faults.{IsCausedFault}
 use Rattle.raw_trace.specs.Order.{Entry, Step, Comes, frees_for, order}
-use Rattle.raw_trace.specs.Places.{IsGood, IsStep, AreSteps}
+use Rattle.raw_trace.specs.Places.{ReadText, IsReadText, IsGood, IsStep, AreSteps}
 use Rattle.raw_trace.specs.Rewriting.{IsRewriting, calls_of, text_of}
 
 -- ---- the calls that the reader finds in lines
@@ -49,13 +49,13 @@ of_process process (entry ∷ entries) = (if entry.process == process then optio
 -- Whichever calls free pages for others: each process has the same calls in the same order. Where none does, each call
 -- stands at its last half.
 abbrev pub KeepsOrders : Type 0
-KeepsOrders = (texts : List Numbered) (steps : List Step) → AreSteps [] texts [] steps → (frees other : Entry → Entry → Bool) → (process : ℕ)
-    → of_process process (order frees [] steps) ≡ of_process process (order other [] steps)
+KeepsOrders = (lines : List Numbered) (texts : List ReadText) (steps : List Step) → Each IsReadText lines texts → AreSteps [] texts [] steps
+    → (frees other : Entry → Entry → Bool) → (process : ℕ) → of_process process (order frees [] steps) ≡ of_process process (order other [] steps)
 
 -- A line that is read as a whole and stays so comes as it is, byte for byte.
 abbrev pub KeepsGoodLines : Type 0
-KeepsGoodLines = (fed later : List (List ℕ)) (text : Numbered) (step : Step) → IsGood text.text → IsStep fed text later step
-    → (entry : Entry) × (step ≡ Comes entry) × (entry.line ≡ text.text) × (entry.ending ≡ AsItIs) × (entry.joined ≡ false)
+KeepsGoodLines = (fed later : List ReadText) (line : Numbered) (text : ReadText) (step : Step) → IsGood line.text → IsReadText line text
+    → IsStep fed text later step → (entry : Entry) × (step ≡ Comes entry) × (entry.line ≡ line.text) × (entry.ending ≡ AsItIs) × (entry.joined ≡ false)
 
 -- A log whose texts are all good lines is written as these, byte for byte.
 abbrev pub KeepsGoodTexts : Type 0

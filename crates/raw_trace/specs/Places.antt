@@ -1,15 +1,16 @@
 -- What each text of a log does: a whole line comes, or a call that another thread's line cut in two begins or ends. And
 -- what a line becomes as it is written. The definitions speak of a text, of those before it, the last one first, and of
 -- those behind it; the halves of a call are the nearest of its process, as `strace_reader` joins them.
-use Rattle.std.specs.Prelude.{◌≡◌, ◌≢◌, ◌⊎◌, ℕ, ◌<◌, ◌≤◌, List, [], ◌∷◌, ◌++◌, length, map, take, drop, Bool, true, false, Option, Some, None, codes}
+use Rattle.std.specs.Prelude.{◌≡◌, ◌≢◌, ◌⊎◌, ℕ, ◌<◌, ◌≤◌, ◌==◌, List, [], ◌∷◌, ◌++◌, length, take, drop, Bool, true, false, if◌then◌else◌, codes}
+use Rattle.std.specs.Prelude.{Option, Some, None, option_map, option_and_then, unwrap_or, Result, Ok, Err}
 use Rattle.strace_reader.specs.declared.item.BadCall.{BadCall}
 use Rattle.strace_reader.specs.declared.item.Item.{Item}
-use Rattle.strace_reader.specs.declared.item.Item.TheVariants.{Played, Unfinished, Resumed, Other}
+use Rattle.strace_reader.specs.declared.item.Item.TheVariants.{Played, Unfinished, Resumed, Other, Blank}
 use Rattle.strace_reader.specs.declared.item.Name.{Name}
+use Rattle.strace_reader.specs.declared.item.Name.TheVariants.{Mmap, Munmap, Mprotect, Fault, Mseal, Brk, Mremap}
 use Rattle.strace_reader.specs.declared.item.Recorded.{Recorded}
 use Rattle.page_types.specs.declared.calls.Call.{Call}
 use Rattle.strace_reader.specs.Grammar.{EndsWith, IsCut, Spells, Refuses}
-use Rattle.strace_reader.specs.Joining.{IsSilent}
 use Rattle.raw_lines.specs.Beginnings.{ChangesSpace}
 use Rattle.raw_lines.specs.Marks.{unread_text}
 use Rattle.raw_lines.specs.Mends.{IsWhole, IsMended, unreturned_text}
@@ -21,44 +22,60 @@ use Rattle.raw_trace.specs.declared.fault.Cause.TheVariants.{Form, Alone, Unclea
 use Rattle.raw_trace.specs.declared.fault.Trouble.{Trouble}
 use Rattle.raw_trace.specs.declared.settling.Ending.{Ending}
 use Rattle.raw_trace.specs.declared.settling.Ending.TheVariants.{AsItIs, ByMends, AsUnreturned, AsUnread}
-use Rattle.raw_logs.specs.Log.{Numbered, texts_of}
+use Rattle.raw_logs.specs.Log.{Numbered}
 
 -- ---- the halves of a call
 
--- no text is a call of the process or a half of one, nor a line of it that is refused
-abbrev pub IsQuiet : ℕ → List (List ℕ) → Type 0
-IsQuiet process [] = Unit {0}
-IsQuiet process (text ∷ texts) = ((bad : BadCall) (body : List ℕ) → Refuses text bad → IsCut text process body → ⊥)
-    × IsSilent process (text ∷ []) × IsQuiet process texts
+-- a text is read so: as an item, or it is refused and is a line of this process
+abbrev pub HasReading : List ℕ → Result Item ℕ → Type 0
+HasReading text (Ok item) = Spells text item
+HasReading text (Err process) = (bad : BadCall) × (body : List ℕ) × Refuses text bad × IsCut text process body
 
--- the two texts are the halves of a call of this name, and make this line, with the number of the first
-abbrev pub AreHalves : ℕ → Name → List ℕ → List ℕ → List ℕ → Type 0
-AreHalves process name first second joined = (from to behind : ℕ) × Spells first (Unfinished process name from to)
-    × Spells second (Resumed process name behind) × (joined ≡ take to first ++ drop behind second)
+-- a text of a log with what it is read as
+pub record ReadText : Type 0 where
+  pub line : Numbered
+  pub reading : Result Item ℕ
 
--- the text is a first half, and its second is behind it
-pub record IsFirst (text : List ℕ) (later : List (List ℕ)) (name : Name) (joined : List ℕ) : Type 0 where
-  pub process : ℕ
-  pub between : List (List ℕ)
-  pub second : List ℕ
-  pub after : List (List ℕ)
-  pub parts : later ≡ between ++ (second ∷ after)
-  pub quiet : IsQuiet process between
-  pub halves : AreHalves process name text second joined
+-- a line is this text, which is read so
+abbrev pub IsReadText : Numbered → ReadText → Type 0
+IsReadText line text = (text.line ≡ line) × HasReading line.text text.reading
 
--- the text is a second half, and its first is before it
-pub record IsSecond (fed : List (List ℕ)) (text : List ℕ) (name : Name) (joined : List ℕ) : Type 0 where
-  pub process : ℕ
-  pub between : List (List ℕ)
-  pub first : List ℕ
-  pub earlier : List (List ℕ)
-  pub parts : fed ≡ between ++ (first ∷ earlier)
-  pub quiet : IsQuiet process between
-  pub halves : AreHalves process name first text joined
+-- what is read so is a call of the process or a half of one, or a line of it that is refused
+abbrev pub is_of : ℕ → Result Item ℕ → Bool
+is_of process (Ok (Played other call recorded)) = other == process
+is_of process (Ok (Unfinished other name from to)) = other == process
+is_of process (Ok (Resumed other name from)) = other == process
+is_of process (Ok Other) = false
+is_of process (Ok Blank) = false
+is_of process (Err other) = other == process
 
--- the text is half of a call whose other half is there too
-abbrev pub IsPaired : List (List ℕ) → List ℕ → List (List ℕ) → Type 0
-IsPaired fed text later = (name : Name) × (joined : List ℕ) × (IsFirst text later name joined ⊎ IsSecond fed text name joined)
+-- the first of the texts that is one of the process
+abbrev pub nearest : ℕ → List ReadText → Option ReadText
+nearest process [] = None
+nearest process (text ∷ texts) = if is_of process text.reading then Some text else nearest process texts
+
+-- calls by number, so that names can be compared
+abbrev pub name_number : Name → ℕ
+name_number Mmap = 0
+name_number Munmap = 1
+name_number Mprotect = 2
+name_number Fault = 3
+name_number Mseal = 4
+name_number Brk = 5
+name_number Mremap = 6
+
+-- the line that a first half and a second half of one name make, with the number of the first
+abbrev pub joined : List ℕ → Result Item ℕ → List ℕ → Result Item ℕ → Option (List ℕ)
+joined first (Ok (Unfinished process name from to)) second (Ok (Resumed other end behind)) =
+    if name_number name == name_number end then Some (take to first ++ drop behind second) else None
+joined first begin second end = None
+
+-- The line of a call of the process that was cut in two here, behind the first texts, the last one first, and before
+-- the others: the nearest texts of the process are its halves.
+abbrev pub cut_call : ℕ → List ReadText → List ReadText → Option (List ℕ)
+cut_call process fed later =
+    option_and_then (λ first. option_and_then (λ second. joined first.line.text first.reading second.line.text second.reading) (nearest process later))
+    (nearest process fed)
 
 -- ---- what a line becomes
 
@@ -129,16 +146,34 @@ pub record IsEntry (number : ℕ) (joined : Bool) (line : List ℕ) (entry : Ent
 
 -- ---- what a text does
 
--- What a text does behind those that were fed and before later ones: half of a call whose other half is there begins it
--- or ends it, and any other line comes. The line of two halves has the number of the first.
-abbrev pub IsStep : List (List ℕ) → Numbered → List (List ℕ) → Step → Type 0
-IsStep fed text later (Comes entry) = (¬ IsPaired fed text.text later) × IsEntry text.number false text.text entry
-IsStep fed text later (Begins entry) = (name : Name) × (joined : List ℕ) × IsFirst text.text later name joined × IsEntry text.number true joined entry
-IsStep fed text later (Ends process) = (name : Name) × (joined : List ℕ) × (second : IsSecond fed text.text name joined) × (second.process ≡ process)
+-- a whole line, or one that is left alone; the first half of a call, with its line; or the second half of one of the
+-- process
+pub data Part : Type 0 where
+  Whole : Part
+  Front : List ℕ → Part
+  Back : ℕ → Part
+
+-- what a text is that is read so, behind those that were fed and before later ones
+abbrev pub part : List ReadText → ReadText → List ReadText → Result Item ℕ → Part
+part fed text later (Ok (Unfinished process name from to)) = unwrap_or (option_map Front (cut_call process (text ∷ fed) later)) Whole
+part fed text later (Ok (Resumed process name from)) = unwrap_or (option_map (λ line. Back process) (cut_call process fed (text ∷ later))) Whole
+part fed text later reading = Whole
+
+-- What a text does that is this part: a whole line comes, a first half begins its call, and a second half ends it. The
+-- line of two halves has the number of the first.
+abbrev pub IsDone : Numbered → Part → Step → Type 0
+IsDone line Whole (Comes entry) = IsEntry line.number false line.text entry
+IsDone line (Front joined) (Begins entry) = IsEntry line.number true joined entry
+IsDone line (Back process) (Ends other) = other ≡ process
+IsDone line one step = ⊥
+
+-- what a text does
+abbrev pub IsStep : List ReadText → ReadText → List ReadText → Step → Type 0
+IsStep fed text later step = IsDone text.line (part fed text later text.reading) step
 
 -- what these texts do, behind those that were fed and before later ones
-abbrev pub AreSteps : List (List ℕ) → List Numbered → List (List ℕ) → List Step → Type 0
+abbrev pub AreSteps : List ReadText → List ReadText → List ReadText → List Step → Type 0
 AreSteps fed [] later [] = Unit {0}
 AreSteps fed [] later (step ∷ steps) = ⊥
 AreSteps fed (text ∷ texts) later [] = ⊥
-AreSteps fed (text ∷ texts) later (step ∷ steps) = IsStep fed text (texts_of texts ++ later) step × AreSteps (text.text ∷ fed) texts later steps
+AreSteps fed (text ∷ texts) later (step ∷ steps) = IsStep fed text (texts ++ later) step × AreSteps (text ∷ fed) texts later steps

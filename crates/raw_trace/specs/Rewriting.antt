@@ -1,10 +1,10 @@
 -- The whole: from the bytes of a raw log to the bytes that are written. `AreTexts` of `raw_logs` has its texts; each
 -- does a step (Places.antt), and the steps give the lines in their order (Order.antt). A log has one rewriting.
-use Rattle.std.specs.Prelude.{◌≡◌, ℕ, ◌+◌, List, [], ◌∷◌, ◌++◌, length, map, Bool, true, false, if◌then◌else◌, Option, Some, None, option_to_list}
+use Rattle.std.specs.Prelude.{◌≡◌, ℕ, ◌+◌, List, [], ◌∷◌, ◌++◌, map, Bool, true, false, if◌then◌else◌, Option, Some, None, option_to_list}
 use Rattle.raw_logs.specs.declared.counts.Counts.{Counts}
 use Rattle.raw_logs.specs.declared.counts.Sort.TheVariants.{Joined, Mended, Unreturned, Unread, Forms}
 use Rattle.raw_logs.specs.Counting.{one_more_of, within_32_bits}
-use Rattle.raw_logs.specs.Log.{Numbered}
+use Rattle.raw_logs.specs.Log.{Numbered, Each}
 use Rattle.raw_logs.specs.Reading.{AreTexts}
 use Rattle.raw_trace.specs.declared.calls.ReadCall.{ReadCall}
 use Rattle.raw_trace.specs.declared.fault.Cause.{Cause}
@@ -13,7 +13,7 @@ use Rattle.raw_trace.specs.declared.fault.Trouble.{Trouble}
 use Rattle.raw_trace.specs.declared.settling.Ending.{Ending}
 use Rattle.raw_trace.specs.declared.settling.Ending.TheVariants.{AsItIs, ByMends, AsUnreturned, AsUnread}
 use Rattle.raw_trace.specs.Order.{Entry, Step, frees_for, order}
-use Rattle.raw_trace.specs.Places.{AreSteps}
+use Rattle.raw_trace.specs.Places.{ReadText, IsReadText, AreSteps}
 
 -- lines as a text: each with its newline
 abbrev pub text_of : List (List ℕ) → List ℕ
@@ -74,8 +74,10 @@ pub record IsRewriting (process : Option ℕ) (bytes out : List ℕ) (counts : C
   pub chosen : List Numbered
   pub before : Counts
   pub texts : AreTexts process bytes chosen before
+  pub read : List ReadText
+  pub reads : Each IsReadText chosen read
   pub steps : List Step
-  pub are : AreSteps [] chosen [] steps
+  pub are : AreSteps [] read [] steps
   pub bytes_of : out ≡ text_of (lines_as (order frees_for [] steps))
   pub sum : counts ≡ counted_all before (order frees_for [] steps)
   pub number : calls ≡ calls_after 0 (order frees_for [] steps)

@@ -1,12 +1,13 @@
 -- What the private functions of this crate say of what they hold: what is found of halves, lines in their order, and
 -- what was written. It ties the code to the other definitions, which speak of texts and of entries.
-use Rattle.std.specs.Prelude.{◌≡◌, ◌⊎◌, ◌↔◌, ℕ, List, [], ◌∷◌, ◌++◌, length, map, take, drop, reverse, Option, Some, None, Bool, get_or, slice_get}
+use Rattle.std.specs.Prelude.{◌≡◌, ◌⊎◌, ℕ, List, [], ◌∷◌, ◌++◌, length, map, take, drop, reverse, Option, Some, None, Result, Ok, Bool, if◌then◌else◌, slice_get}
 use Rattle.std.specs.BTreeMap.{get}
 use Rattle.std.specs.Ordering.{nat_cmp}
-use Rattle.strace_reader.specs.Grammar.{Spells}
+use Rattle.strace_reader.specs.declared.item.Item.{Item}
 use Rattle.strace_reader.specs.declared.item.Item.TheVariants.{Unfinished, Resumed}
+use Rattle.strace_reader.specs.declared.item.Name.{Name}
 use Rattle.raw_logs.specs.declared.counts.Counts.{Counts}
-use Rattle.raw_logs.specs.Log.{Numbered, texts_of}
+use Rattle.raw_logs.specs.Log.{Numbered, Each}
 use Rattle.raw_trace.specs.declared.fault.Fault.{Fault}
 use Rattle.raw_trace.specs.declared.fault.Fault.TheVariants.{Memory}
 use Rattle.raw_trace.specs.declared.halves.Finder.{Finder}
@@ -17,58 +18,58 @@ use Rattle.raw_trace.specs.declared.order.Ordering.{Ordering}
 use Rattle.raw_trace.specs.declared.order.Piece.{Piece}
 use Rattle.raw_trace.specs.declared.writing.Written.{Written}
 use Rattle.raw_trace.specs.Faults.{IsEntryFault, IsFirstFault, Stops}
-use Rattle.raw_trace.specs.Order.{Entry, Step, Picked, Written as WrittenOf, frees_for, pick, turns, write_due, does, order}
-use Rattle.raw_trace.specs.Places.{IsFirst, IsSecond, IsPaired, IsQuiet, IsStep, AreSteps}
+use Rattle.raw_trace.specs.Order.{Entry, Step, Picked, Written as WrittenOf, frees_for, pick, turns, write_due, order}
+use Rattle.raw_trace.specs.Places.{ReadText, IsReadText, is_of, Whole, Front, Back, part, AreSteps}
 use Rattle.raw_trace.specs.Rewriting.{text_of, lines_as, counted_all, calls_after}
 
 -- ---- halves
 
--- what a text is to its other half, behind those that were fed and before later ones; a place counts texts from 0
-abbrev pub IsRole : List (List ℕ) → List ℕ → List (List ℕ) → Role → Type 0
-IsRole fed text later Alone = ¬ IsPaired (reverse fed) text later
-IsRole fed text later (First other to behind name) = (second : List ℕ) × (process from : ℕ)
-    × (slice_get (fed ++ (text ∷ later)) other ≡ Some second)
-    × Spells text (Unfinished process name from to) × Spells second (Resumed process name behind)
-    × IsFirst text later name (take to text ++ drop behind second)
-IsRole fed text later (Second other to behind name) = (first : List ℕ) × (process from : ℕ)
-    × (slice_get (fed ++ (text ∷ later)) other ≡ Some first)
-    × Spells first (Unfinished process name from to) × Spells text (Resumed process name behind)
-    × IsSecond (reverse fed) text name (take to first ++ drop behind text)
+-- what a text is to its other half, among all, behind those that were fed and before later ones; a place counts texts
+-- from 0
+abbrev pub IsRole : List ReadText → List ReadText → ReadText → List ReadText → Role → Type 0
+IsRole all fed text later Alone = part fed text later text.reading ≡ Whole
+IsRole all fed text later (First other to behind) = (second : ReadText) × (slice_get all other ≡ Some second)
+    × (process from : ℕ) × (name end : Name) × (text.reading ≡ Ok (Unfinished process name from to)) × (second.reading ≡ Ok (Resumed process end behind))
+    × (part fed text later text.reading ≡ Front (take to text.line.text ++ drop behind second.line.text))
+IsRole all fed text later (Second process) = part fed text later text.reading ≡ Back process
 
--- each text has its role, at its place
-pub record AreRoles (log : List (List ℕ)) (roles : List Role) : Type 0 where
-  pub count : length roles ≡ length log
-  pub at : (before : List (List ℕ)) (text : List ℕ) (after : List (List ℕ)) → log ≡ before ++ (text ∷ after)
-      → IsRole before text after (get_or roles (length before) Alone)
+-- each text has its role
+abbrev pub HaveRoles : List ReadText → List ReadText → List ReadText → List Role → Type 0
+HaveRoles all fed [] [] = Unit {0}
+HaveRoles all fed [] (role ∷ roles) = ⊥
+HaveRoles all fed (text ∷ texts) [] = ⊥
+HaveRoles all fed (text ∷ texts) (role ∷ roles) = IsRole all fed text texts role × HaveRoles all (text ∷ fed) texts roles
 
--- the text at this place of the log is this one, and has this role
-pub record IsRoleAt (log : List (List ℕ)) (place : ℕ) (text : List ℕ) (role : Role) : Type 0 where
-  pub before : List (List ℕ)
-  pub after : List (List ℕ)
-  pub parts : log ≡ before ++ (text ∷ after)
-  pub count : length before ≡ place
-  pub has : IsRole before text after role
+-- each line is read so and has its role
+pub record AreRoles (lines : List Numbered) (roles : List Role) : Type 0 where
+  pub texts : List ReadText
+  pub reads : Each IsReadText lines texts
+  pub have : HaveRoles texts [] texts roles
 
--- at this place of the texts a first half of the process waits for its second: nothing of the process stands behind it
-pub record IsWaiting (log : List (List ℕ)) (process : ℕ) (waiting : Waiting) : Type 0 where
-  pub before : List (List ℕ)
-  pub text : List ℕ
-  pub after : List (List ℕ)
-  pub parts : log ≡ before ++ (text ∷ after)
-  pub place : length before ≡ waiting.place
-  pub from : ℕ
-  pub half : Spells text (Unfinished process waiting.name from waiting.to)
-  pub quiet : IsQuiet process after
+-- the first half that waits behind a text at this place
+abbrev pub begun_by : ℕ → Result Item ℕ → Option Waiting
+begun_by place (Ok (Unfinished process name from to)) = Some (record { place = place; to = to; name = name })
+begun_by place reading = None
+
+-- the first half of the process that waits behind these texts, the last one first
+abbrev pub waiting_in : ℕ → List ReadText → Option Waiting
+waiting_in process [] = None
+waiting_in process (text ∷ fed) = if is_of process text.reading then begun_by (length fed) text.reading else waiting_in process fed
+
+-- texts behind others, the last one first
+abbrev pub fed_by : List ReadText → List ReadText → List ReadText
+fed_by fed [] = fed
+fed_by fed (text ∷ texts) = fed_by (text ∷ fed) texts
 
 -- these texts were looked at: what each is among them, and which first halves wait
-pub record Finds (finder : Finder) (log : List (List ℕ)) : Type 0 where
-  pub roles : AreRoles log finder.roles
-  pub waits : (process : ℕ) (waiting : Waiting) → get nat_cmp finder.waiting process ≡ Some waiting ↔ IsWaiting log process waiting
+pub record Finds (finder : Finder) (texts : List ReadText) : Type 0 where
+  pub roles : HaveRoles texts [] texts finder.roles
+  pub waits : (process : ℕ) → get nat_cmp finder.waiting process ≡ waiting_in process (fed_by [] texts)
 
 -- the texts before a further one were looked at: what it is among them, and which first halves wait behind it
-pub record FindsRole (finder : Finder) (log : List (List ℕ)) (text : List ℕ) (role : Role) : Type 0 where
-  pub roles : AreRoles (log ++ (text ∷ [])) (finder.roles ++ (role ∷ []))
-  pub waits : (process : ℕ) (waiting : Waiting) → get nat_cmp finder.waiting process ≡ Some waiting ↔ IsWaiting (log ++ (text ∷ [])) process waiting
+pub record FindsRole (finder : Finder) (texts : List ReadText) (role : Role) : Type 0 where
+  pub roles : HaveRoles texts [] texts (finder.roles ++ (role ∷ []))
+  pub waits : (process : ℕ) → get nat_cmp finder.waiting process ≡ waiting_in process (fed_by [] texts)
 
 -- ---- lines in their order
 
@@ -145,39 +146,30 @@ pub record DueSome (strict : Bool) (old : Ordering) (found : WrittenOf) (due : L
   pub more : found.lines ≡ lines ++ left.lines
   pub waits : found.waiting ≡ left.waiting
 
--- what a text does was done
-pub record TookText (strict : Bool) (fed : List (List ℕ)) (text : Numbered) (later : List (List ℕ)) (old new : Ordering) : Type 0 where
-  pub step : Step
-  pub is : IsStep fed text later step
-  pub did : WroteDue strict old (does frees_for step (entries old.waiting.items)) new
-
--- it ends so
-abbrev pub EndsText : Bool → List (List ℕ) → Numbered → List (List ℕ) → Ordering → Fault → Type 0
-EndsText strict fed text later old fault = (fault ≡ Memory)
-    ⊎ ((step : Step) × IsStep fed text later step × IsFirstFault strict (does frees_for step (entries old.waiting.items)).lines fault)
-
--- what all the texts do was done, and each line may be written
-pub record WroteAll (strict : Bool) (all : List Numbered) (counts : Counts) (found : Written) : Type 0 where
+-- what all the lines do was done, and each may be written
+pub record WroteAll (strict : Bool) (lines : List Numbered) (counts : Counts) (found : Written) : Type 0 where
+  pub texts : List ReadText
+  pub reads : Each IsReadText lines texts
   pub steps : List Step
-  pub are : AreSteps [] all [] steps
+  pub are : AreSteps [] texts [] steps
   pub out : found.out.items ≡ text_of (lines_as (order frees_for [] steps))
   pub sum : found.counts ≡ counted_all counts (order frees_for [] steps)
   pub calls : found.calls ≡ calls_after 0 (order frees_for [] steps)
   pub may : EachEntry (MayBeWritten strict) (order frees_for [] steps)
 
--- the writing of all the texts ends so
+-- the writing of all the lines ends so
 abbrev pub EndsAll : Bool → List Numbered → Fault → Type 0
-EndsAll strict all fault = (fault ≡ Memory) ⊎ Stops strict all fault
+EndsAll strict lines fault = (fault ≡ Memory) ⊎ Stops strict lines fault
 
--- Of the texts before this place all was done: the steps of the others follow theirs, and what these write is behind
+-- Of the lines before this place all was done: the steps of the others follow theirs, and what these write is behind
 -- what was written.
 pub record DidSome (strict : Bool) (lines : List Numbered) (place : ℕ) (counts : Counts) (now : Ordering) : Type 0 where
-  pub fed : List Numbered
-  pub later : List Numbered
-  pub parts : lines ≡ fed ++ later
+  pub fed : List ReadText
+  pub later : List ReadText
+  pub reads : Each IsReadText lines (fed ++ later)
   pub count : length fed ≡ place
   pub steps : List Step
-  pub are : AreSteps [] fed (texts_of later) steps
+  pub are : AreSteps [] fed later steps
   pub written : List Entry
   pub follows : (more : List Step) → order frees_for [] (steps ++ more) ≡ written ++ order frees_for (entries now.waiting.items) more
   pub out : now.written.out.items ≡ text_of (lines_as written)

@@ -1,13 +1,14 @@
 //! Which texts are the halves of one call. A first half waits for the second of its process and name; any other call or
-//! half of that process, and a line of it that is refused, ends the waiting. `IsFirst` and `IsSecond` in
-//! `specs/Places.antt` say it of the texts before and behind.
+//! half of that process, and a line of it that is refused, ends the waiting. `part` in `specs/Places.antt` says it of the
+//! texts before and behind.
 
 ghost use Rattle.std.specs.Prelude.{◌≡◌, ◌≤◌, ◌<◌, ◌-◌, ◌^◌, ℕ, [], length, IfOk};
 ghost use Rattle.std.specs.Prelude.{◌≢◌, ◌⊎◌, ◌+◌, ◌++◌, ◌∷◌, List, Some, None, OnOk, slice_set};
 ghost use Rattle.std.specs.BTreeMap.{get};
 ghost use Rattle.std.specs.Ordering.{nat_cmp};
+ghost use Rattle.raw_trace.specs.Places.{ReadText, IsReadText};
 ghost use Rattle.raw_trace.specs.Stages.{AreRoles};
-ghost use Rattle.raw_logs.specs.Log.{texts_of};
+ghost use Rattle.raw_logs.specs.Log.{line_of};
 ghost use Rattle.raw_logs.specs.Stages.{AreShort};
 
 use crate::roles::Roles;
@@ -29,19 +30,11 @@ pub(crate) enum Role {
         to: u32,
         /// The first byte of the second half that is kept, counted from 0.
         behind: u32,
-        /// The call's name.
-        name: Name,
     },
     /// A second half.
     Second {
-        /// The place of the first half.
-        other: u32,
-        /// How many bytes of the first half are kept.
-        to: u32,
-        /// The first byte of the second half that is kept, counted from 0.
-        behind: u32,
-        /// The call's name.
-        name: Name,
+        /// The process.
+        process: u32,
     },
 }
 
@@ -85,8 +78,7 @@ impl Finder {
         ensures found { IfOk result (λ role. (((first : WaitingOf) → get nat_cmp self.old.waiting pid ≡ Some first → first.name ≢ name)
             × (role ≡ Alone) × (self.new.roles ≡ self.old.roles))
             ⊎ ((first : WaitingOf) × (get nat_cmp self.old.waiting pid ≡ Some first) × (first.name ≡ name)
-            × (role ≡ Second first.place first.to behind name)
-            × (self.new.roles ≡ slice_set self.old.roles first.place (First place first.to behind name)))) }
+            × (role ≡ Second pid) × (self.new.roles ≡ slice_set self.old.roles first.place (First place first.to behind)))) }
         ensures gone { OnOk result (get nat_cmp self.new.waiting pid ≡ None) }
         ensures others { OnOk result ((q : ℕ) → q ≢ pid → get nat_cmp self.new.waiting q ≡ get nat_cmp self.old.waiting q) }
     {
@@ -96,24 +88,13 @@ impl Finder {
         if first.name != name {
             return Ok(Role::Alone);
         }
-        let Waiting {
-            place: other,
-            to,
-            ..
-        } = first;
         let half = Role::First {
             other: place,
-            to,
+            to: first.to,
             behind,
-            name,
         };
-        self.roles.set(other, half)?;
-        Ok(Role::Second {
-            other,
-            to,
-            behind,
-            name,
-        })
+        self.roles.set(first.place, half)?;
+        Ok(Role::Second { process: pid })
     }
 
     /// No first half of the process waits from here on.
@@ -129,8 +110,9 @@ impl Finder {
     fn role_of(&mut self, text: &[u8], place: u32) -> Result<Role, AllocError>
         requires short { length text.now ≤ 65535 }
         requires place { place ≡ length self.old.roles }
-        requires known { (before : List (List ℕ)) × Finds self.old before }
-        ensures { IfOk result (λ role. (before : List (List ℕ)) → Finds self.old before → FindsRole self.new before text.now role) }
+        requires known { (before : List ReadText) × Finds self.old before }
+        ensures { IfOk result (λ role. (before : List ReadText) (number : ℕ) → Finds self.old before
+            → (one : ReadText) × IsReadText (line_of number text.now) one × FindsRole self.new (before ++ (one ∷ [])) role) }
     {
         match read_line(text) {
             Ok(Item::Other) => Ok(Role::Alone),
@@ -160,8 +142,9 @@ impl Finder {
         requires short { length text.now ≤ 65535 }
         requires place { place ≡ length self.old.roles }
         requires few { place < 2 ^ 32 - 1 }
-        requires known { (before : List (List ℕ)) × Finds self.old before }
-        ensures finds { OnOk result ((before : List (List ℕ)) → Finds self.old before → Finds self.new (before ++ (text.now ∷ []))) }
+        requires known { (before : List ReadText) × Finds self.old before }
+        ensures finds { OnOk result ((before : List ReadText) (number : ℕ) → Finds self.old before
+            → (one : ReadText) × IsReadText (line_of number text.now) one × Finds self.new (before ++ (one ∷ []))) }
         ensures one { OnOk result (length self.new.roles ≡ length self.old.roles + 1) }
     {
         let role = self.role_of(text, place)?;
@@ -174,7 +157,7 @@ impl Finder {
 pub(crate) fn roles_of(alloc: Global, lines: &Lines) -> Result<Roles, AllocError>
     requires few { length lines.now < 2 ^ 32 }
     requires short { AreShort lines.now }
-    ensures { IfOk result (λ roles. AreRoles (texts_of lines.now) roles) }
+    ensures { IfOk result (λ roles. AreRoles lines.now roles) }
 {
     let mut finder = Finder {
         waiting: BTreeMap::new(alloc),

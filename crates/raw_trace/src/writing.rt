@@ -4,13 +4,14 @@
 ghost use Rattle.std.specs.Prelude.{◌≡◌, ◌≢◌, ◌⊎◌, ◌≤◌, ◌<◌, ◌+◌, ◌-◌, ◌^◌, ℕ, List, [], ◌∷◌, ◌++◌, length, take, drop, reverse, true, false, Some, slice_get, All};
 ghost use Rattle.std.specs.Prelude.{IfOk, IfErr, OnOk, IfSome, IsNone, if◌then◌else◌};
 ghost use Rattle.raw_logs.specs.Counting.{one_more_of};
-ghost use Rattle.raw_logs.specs.Log.{Numbered as NumberedOf, texts_of};
+ghost use Rattle.raw_logs.specs.declared.counts.Counts.{Counts as CountsOf};
+ghost use Rattle.raw_logs.specs.Log.{Numbered as NumberedOf, line_of};
 ghost use Rattle.raw_trace.specs.declared.fault.Fault.TheVariants.{Memory};
 ghost use Rattle.raw_trace.specs.Faults.{IsEntryFault};
 ghost use Rattle.std.specs.Bool.{Decides};
 ghost use Rattle.raw_trace.specs.Places.{Becomes, IsReadAs, Changes, IsOtherForm, IsCause, IsTrouble, other_form, IsEntry};
 ghost use Rattle.raw_trace.specs.Rewriting.{text_of, is_form, counted, counted_entry, counted_call};
-ghost use Rattle.raw_trace.specs.Stages.{entry, AreRoles, IsRoleAt, MayBeWritten, WroteLines, TookText, EndsText, WroteAll, EndsAll};
+ghost use Rattle.raw_trace.specs.Stages.{entry, AreRoles, MayBeWritten, WroteLines, DidSome, WroteAll, EndsAll};
 
 use crate::calls::{ReadCall, call_of};
 use crate::fault::{Cause, Fault, Trouble};
@@ -146,8 +147,7 @@ fn is_form(trouble: Option<Trouble>) -> bool
 /// The text at a place, with the number of its line.
 fn text_at(lines: &Lines, place: usize) -> (u32, &[u8])
     requires { place < length lines.now }
-    ensures number { (text : NumberedOf) → slice_get lines.now place ≡ Some text → result.0 ≡ text.number }
-    ensures text { (text : List ℕ) → slice_get (texts_of lines.now) place ≡ Some text → result.1.now ≡ text }
+    ensures { (line : NumberedOf) → slice_get lines.now place ≡ Some line → line_of result.0 result.1.now ≡ line }
 {
     lines.at(place)
 }
@@ -258,45 +258,37 @@ fn piece_of(alloc: Global, line: &[u8], number: u32, joined: bool) -> Result<Pie
     })
 }
 
-/// Does what the text at a place does.
+/// Does what the text at a place does, behind those before it.
 fn take_text(
     ordering: &mut Ordering,
     alloc: Global,
     lines: &Lines,
+    roles: &Roles,
     place: usize,
-    role: Role,
     strict: bool,
 ) -> Result<(), Fault>
+    requires few { length lines.now < 2 ^ 32 - 1 }
     requires place { place < length lines.now }
-    requires role { (text : List ℕ) × IsRoleAt (texts_of lines.now) place text role }
-    ensures took { OnOk result ((text : NumberedOf) (at : IsRoleAt (texts_of lines.now) place text.text role)
-        → slice_get lines.now place ≡ Some text
-        → TookText strict (reverse at.before) text at.after ordering.old ordering.new) }
-    ensures fault { IfErr result (λ fault. (text : NumberedOf) (at : IsRoleAt (texts_of lines.now) place text.text role)
-        → slice_get lines.now place ≡ Some text
-        → EndsText strict (reverse at.before) text at.after ordering.old fault) }
+    requires roles { AreRoles lines.now roles.now }
+    requires did { (counts : CountsOf) × DidSome strict lines.now place counts ordering.old }
+    ensures did { OnOk result ((counts : CountsOf) → DidSome strict lines.now place counts ordering.old
+        → DidSome strict lines.now (place + 1) counts ordering.new) }
+    ensures fault { IfErr result (EndsAll strict lines.now) }
 {
     let (number, text) = text_at(lines, place);
+    let role = roles.at(place as u32);
     match role {
         Role::Alone => {
             let piece = piece_of(alloc, text, number, false)?;
             ordering.write(alloc, piece, strict)
         }
-        Role::First {
-            other,
-            to,
-            behind,
-            ..
-        } => {
+        Role::First { other, to, behind } => {
             let (_, second) = text_at(lines, other as usize);
             let line = line_of_halves(alloc, text, second, to, behind)?;
             let piece = piece_of(alloc, line.as_slice(), number, true)?;
             ordering.begin(piece)
         }
-        Role::Second { .. } => {
-            let (process, _) = cut(text);
-            ordering.end(alloc, process, strict)
-        }
+        Role::Second { process } => ordering.end(alloc, process, strict),
     }
 }
 
@@ -309,7 +301,7 @@ pub(crate) fn write_lines(
     strict: bool,
 ) -> Result<Written, Fault>
     requires few { length lines.now < 2 ^ 32 - 1 }
-    requires roles { AreRoles (texts_of lines.now) roles.now }
+    requires roles { AreRoles lines.now roles.now }
     ensures wrote { IfOk result (WroteAll strict lines.now counts) }
     ensures fault { IfErr result (EndsAll strict lines.now) }
 {
@@ -322,8 +314,7 @@ pub(crate) fn write_lines(
         },
     };
     'places: for place in 0..lines.len() {
-        let role = roles.at(place as u32);
-        take_text(&mut ordering, alloc, lines, place, role, strict)?;
+        take_text(&mut ordering, alloc, lines, roles, place, strict)?;
     }
     Ok(ordering.written)
 }
