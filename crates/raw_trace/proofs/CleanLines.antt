@@ -68,7 +68,8 @@ abbrev pub AreCleanTexts : List ReadText → Type 0
 AreCleanTexts [] = Unit {0}
 AreCleanTexts (text ∷ texts) = IsClean text.line.text × AreCleanTexts texts
 
-pub clean_texts : (lines : List Numbered) (texts : List ReadText) → Each IsReadText lines texts → EachLine IsClean (texts_of lines) → AreCleanTexts (texts ++ [])
+pub clean_texts : (lines : List Numbered) (texts : List ReadText) → Each IsReadText lines texts → EachLine IsClean (texts_of lines)
+    → AreCleanTexts (texts ++ [])
 clean_texts [] [] h c = tt
 clean_texts [] (text ∷ texts) h c = absurd h
 clean_texts (line ∷ lines) [] h c = absurd h

@@ -3,7 +3,7 @@ use Rattle.std.proofs.Common.{◌≡◌, ℕ, ◌+◌, ◌-◌, List, [], ◌∷
 use Rattle.std.proofs.Common.{Bool, false, refl, sym, ap, subst, ◌∙◌, append_assoc, arith}
 use Rattle.std.specs.Prelude.{◌==◌, if◌then◌else◌}
 use Rattle.std.proofs.lemmas.List.{length-append}
-use Rattle.std.proofs.Math.Seq.{take-append_seam, drop-append_seam, take-append-add}
+use Rattle.std.proofs.Math.Seq.{take-append_seam, take-append-add}
 use Rattle.line_parts.specs.Parts.{starts}
 use Rattle.line_parts.specs.Leaves.{is, EachIs}
 use Rattle.line_parts.proofs.Leaves.{not_both, same_is}
@@ -53,23 +53,7 @@ half_named name body half named h =
     head_within is_head_byte (call_head name) named.0 half (h.spaces ++ unfinished) (head_bytes name) (ending_starts h.spaces h.only_spaces)
     (sym named.1 ∙ h.parts)
 
--- the parts of a first half
-pub record FirstParts (line : List ℕ) (process : ℕ) (name : Name) (from to : ℕ) : Type 0 where
-  -- the number with its spaces
-  pub front : List ℕ
-  -- its body
-  pub body : List ℕ
-  -- what is kept of the body
-  pub half : List ℕ
-  pub cut : IsCut line process body
-  pub parts : line ≡ front ++ body
-  pub is_half : IsHalf body half
-  pub named : BeginsWith (call_head name) half
-  -- both are kept of the line
-  pub kept : take to line ≡ front ++ half
-  -- and these bytes are what is kept of the body
-  pub bytes : take (to - from) (drop from line) ≡ half
-
+-- what is kept of a first half is its number and what is kept of its body
 kept_front : (line front body half tail : List ℕ) (from to : ℕ) → line ≡ front ++ body → body ≡ half ++ tail → from + length body ≡ length line
     → to ≡ from + length half → take to line ≡ front ++ half
 kept_front line front body half tail from to e k l t =
@@ -78,72 +62,21 @@ kept_front line front body half tail from to e k l t =
     ap (λ (x : ℕ). take x line) n ∙ ap (take (length front + length half)) e ∙ take-append-add front body (length half)
     ∙ ap (λ (x : List ℕ). front ++ take (length half) x) k ∙ ap (λ (x : List ℕ). front ++ x) (take-append_seam half tail)
 
-kept_bytes : (line front body half tail : List ℕ) (from to : ℕ) → line ≡ front ++ body → body ≡ half ++ tail → from + length body ≡ length line
-    → to ≡ from + length half → take (to - from) (drop from line) ≡ half
-kept_bytes line front body half tail from to e k l t =
-    let m = ap length e ∙ length-append front body in
-    let n : from ≡ length front = omega arith in
-    let o : to - from ≡ length half = omega arith in
-    ap (λ (x : ℕ). take x (drop from line)) o ∙ ap (λ (x : ℕ). take (length half) (drop x line)) n
-    ∙ ap (λ (x : List ℕ). take (length half) (drop (length front) x)) e
-    ∙ ap (take (length half)) (drop-append_seam front body ∙ k) ∙ take-append_seam half tail
-
--- each first half has them
-pub first_half_parts : (line : List ℕ) (process : ℕ) (name : Name) (from to : ℕ) → Spells line (Unfinished process name from to)
-    → FirstParts line process name from to
-unfolding Spells IsBody
-first_half_parts line process name from to h =
-    let c = cut_parts line process h.0 h.2 in
-    let b = h.3 in
-    let e : to ≡ from + length b.0 = h.5 ∙ ap (λ (x : ℕ). from + x) b.3 in
-    record {
-      front = c.0;
-      body = h.0;
-      half = b.0;
-      cut = h.2;
-      parts = c.1;
-      is_half = b.2;
-      named = half_named name h.0 b.0 b.1 b.2;
-      kept = kept_front line c.0 h.0 b.0 (b.2.spaces ++ unfinished) from to c.1 b.2.parts h.4 e;
-      bytes = kept_bytes line c.0 h.0 b.0 (b.2.spaces ++ unfinished) from to c.1 b.2.parts h.4 e;
-    }
-
 -- ---- the line of two halves
 
--- the body that two halves make, behind the first one's number
-pub record JoinedParts (process : ℕ) (name : Name) (first second joined : List ℕ) (from to behind : ℕ) : Type 0 where
-  pub front : List ℕ
-  pub first_body : List ℕ
-  pub body : List ℕ
-  pub first_cut : IsCut first process first_body
-  pub first_parts : first ≡ front ++ first_body
-  pub parts : joined ≡ front ++ body
-  pub joins : take (to - from) (drop from first) ++ drop behind second ≡ body
-  pub cut : IsCut joined process body
-  pub named : BeginsWith (call_head name) body
-
-joined_of : (process : ℕ) (name : Name) (first second joined : List ℕ) (from to behind : ℕ) → (p : FirstParts first process name from to)
-    → joined ≡ take to first ++ drop behind second → JoinedParts process name first second joined from to behind
-joined_of process name first second joined from to behind p e =
+-- the line of two halves is one of their process
+pub joined_cut : (process : ℕ) (name : Name) (first second joined : List ℕ) (from to behind : ℕ) → Spells first (Unfinished process name from to)
+    → joined ≡ take to first ++ drop behind second → (body : List ℕ) × IsCut joined process body
+unfolding Spells IsBody
+joined_cut process name first second joined from to behind h e =
+    let c = cut_parts first process h.0 h.2 in
+    let b = h.3 in
+    let half = b.0 in
     let rest = drop behind second in
-    let named : BeginsWith (call_head name) (p.half ++ rest) =
-    (p.named.0 ++ rest, ap (λ (x : List ℕ). x ++ rest) p.named.1 ∙ append_assoc (call_head name) p.named.0 rest) in
-    let k : joined ≡ p.front ++ (p.half ++ rest) = e ∙ ap (λ (x : List ℕ). x ++ rest) p.kept ∙ append_assoc p.front p.half rest in
-    record {
-      front = p.front;
-      first_body = p.body;
-      body = p.half ++ rest;
-      first_cut = p.cut;
-      first_parts = p.parts;
-      parts = k;
-      joins = ap (λ (x : List ℕ). x ++ rest) p.bytes;
-      cut = subst (λ (x : List ℕ). IsCut x process (p.half ++ rest)) (sym k)
-          (same_prefix first p.front p.body (p.half ++ rest) process name p.cut p.parts named);
-      named = named;
-    }
-
--- each line of two halves has it
-pub joined_parts : (process : ℕ) (name : Name) (first second joined : List ℕ) (from to behind : ℕ) → Spells first (Unfinished process name from to)
-    → joined ≡ take to first ++ drop behind second → JoinedParts process name first second joined from to behind
-joined_parts process name first second joined from to behind h e =
-    joined_of process name first second joined from to behind (first_half_parts first process name from to h) e
+    let t : to ≡ from + length half = h.5 ∙ ap (λ (x : ℕ). from + x) b.3 in
+    let kept = kept_front first c.0 h.0 half (b.2.spaces ++ unfinished) from to c.1 b.2.parts h.4 t in
+    let head = half_named name h.0 half b.1 b.2 in
+    let named : BeginsWith (call_head name) (half ++ rest) =
+    (head.0 ++ rest, ap (λ (x : List ℕ). x ++ rest) head.1 ∙ append_assoc (call_head name) head.0 rest) in
+    let k : joined ≡ c.0 ++ (half ++ rest) = e ∙ ap (λ (x : List ℕ). x ++ rest) kept ∙ append_assoc c.0 half rest in
+    (half ++ rest, subst (λ (x : List ℕ). IsCut x process (half ++ rest)) (sym k) (same_prefix first c.0 h.0 (half ++ rest) process name h.2 c.1 named))

@@ -17,10 +17,32 @@ abbrev pub NoneOf : ℕ → List Entry → Type 0
 NoneOf p [] = Unit {0}
 NoneOf p (entry ∷ entries) = (own p entry ≡ []) × NoneOf p entries
 
+-- the test holds for none of the entries
+abbrev pub NoneIn : (Entry → Bool) → List Entry → Type 0
+NoneIn test [] = Unit {0}
+NoneIn test (x ∷ xs) = (test x ≡ false) × NoneIn test xs
+
+-- of both lists
+pub none_both : (test : Entry → Bool) (a b : List Entry) → NoneIn test a → NoneIn test b → NoneIn test (a ++ b)
+none_both test [] b h g = g
+none_both test (x ∷ a) b h g = (h.0, none_both test a b h.1 g)
+
+-- none is picked then
+pub none_picked : (test : Entry → Bool) (a : List Entry) → NoneIn test a → pick test a ≡ None
+none_picked test [] h = refl
+none_picked test (x ∷ a) h =
+    rw h.0 (ap (option_map (λ (p : Picked). record { first = p.first; others = x ∷ p.others })) (none_picked test a h.1))
+
+-- the first that passes it is picked
+pub one_picked : (test : Entry → Bool) (a : List Entry) (x : Entry) (b : List Entry) → NoneIn test a → test x ≡ true
+    → pick test (a ++ (x ∷ b)) ≡ Some (record { first = x; others = a ++ b })
+one_picked test [] x b h t = rw t refl
+one_picked test (y ∷ a) x b h t =
+    rw h.0 (ap (option_map (λ (p : Picked). record { first = p.first; others = y ∷ p.others })) (one_picked test a x b h.1 t))
+
 -- no line is of the process
 abbrev pub Apart : ℕ → List Entry → Type 0
-Apart p [] = Unit {0}
-Apart p (entry ∷ entries) = ((entry.process == p) ≡ false) × Apart p entries
+Apart p entries = NoneIn (λ x. x.process == p) entries
 
 -- one of the lines is this one, and the others are of other processes
 pub record OneOf (p : ℕ) (entry : Entry) (entries : List Entry) : Type 0 where
@@ -50,8 +72,7 @@ pub own_apart : (p : ℕ) (x : Entry) → (x.process == p) ≡ false → own p x
 own_apart p x h = rw h refl
 
 pub apart_both : (p : ℕ) (a b : List Entry) → Apart p a → Apart p b → Apart p (a ++ b)
-apart_both p [] b h g = g
-apart_both p (x ∷ a) b h g = (h.0, apart_both p a b h.1 g)
+apart_both p a b h g = none_both (λ x. x.process == p) a b h g
 
 -- the parts of lines of other processes
 record ApartParts (p : ℕ) (a : List Entry) (x : Entry) (b : List Entry) : Type 0 where
@@ -130,19 +151,6 @@ picked_of p entry one (x ∷ a) b (y ∷ c) d e ha hb =
               (n, h.none_before);
           none_after = h.none_after;
         })
-
--- the process' line is found among lines of others
-pub pick_it : (p : ℕ) (entry : Entry) (a b : List Entry) → Apart p a → (entry.process == p) ≡ true
-    → pick (λ x. x.process == p) (a ++ (entry ∷ b)) ≡ Some (record { first = entry; others = a ++ b })
-pick_it p entry [] b h t = rw t refl
-pick_it p entry (x ∷ a) b h t =
-    rw h.0 (ap (option_map (λ (q : Picked). record { first = q.first; others = x ∷ q.others })) (pick_it p entry a b h.1 t))
-
--- and nothing is, where all are of others
-pub pick_apart : (p : ℕ) (a : List Entry) → Apart p a → pick (λ x. x.process == p) a ≡ None
-pick_apart p [] h = refl
-pick_apart p (x ∷ a) h =
-    rw h.0 (ap (option_map (λ (q : Picked). record { first = q.first; others = x ∷ q.others })) (pick_apart p a h.1))
 
 -- ---- what is written
 

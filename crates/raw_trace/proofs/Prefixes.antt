@@ -1,17 +1,13 @@
 -- The line of two halves has the number of the first: the same bytes stand before another body, and name the same
--- process. So what two halves make is read here, with that number, as the joiner of the reader reads it without.
-use Rattle.std.proofs.Common.{◌≡◌, ℕ, List, [], ◌++◌, codes, false, Option, refl, sym, ap, subst, ◌∙◌, append_assoc, inl, inr}
+-- process.
+use Rattle.std.proofs.Common.{◌≡◌, ℕ, List, [], ◌++◌, codes, false, refl, sym, ap, subst, ◌∙◌, append_assoc, inl, inr}
 use Rattle.std.proofs.lemmas.List.{append_cancel_right}
-use Rattle.page_types.specs.declared.calls.Call.{Call}
 use Rattle.line_parts.specs.Parts.{starts}
 use Rattle.line_parts.specs.Leaves.{is, EachIs}
-use Rattle.strace_reader.specs.declared.item.Item.TheVariants.{Played}
 use Rattle.strace_reader.specs.declared.item.Name.{Name}
 use Rattle.strace_reader.specs.declared.item.Name.TheVariants.{Mmap, Munmap, Mprotect, Fault, Mseal, Brk, Mremap}
-use Rattle.strace_reader.specs.declared.item.Recorded.{Recorded}
 use Rattle.strace_reader.specs.Words.{call_head}
-use Rattle.strace_reader.specs.Grammar.{BeginsWith, IsBehindSpaces, IsCut, Spells}
-use Rattle.strace_reader.proofs.FormFacts.{cut_same}
+use Rattle.strace_reader.specs.Grammar.{BeginsWith, IsBehindSpaces, IsCut}
 use Rattle.strace_reader.proofs.BodyAnswers.{call_cut}
 
 -- a call's name begins with no space
@@ -60,20 +56,3 @@ same_prefix first front b c p name (inr h) parts named =
     let whole : front ++ b ≡ [] ++ b = sym parts ∙ sym h.1 in
     let nothing : front ≡ [] = append_cancel_right front [] b whole in
     subst (λ (q : ℕ). IsCut (front ++ c) q c) (sym h.0) (subst (λ (x : List ℕ). IsCut (x ++ c) 0 c) (sym nothing) (call_cut name c named))
-
--- with that prefix a body that is a call is a call of that process
-pub prefixed_call : (first front b c : List ℕ) (p : ℕ) (name : Name) (done : Call) (recorded : Option Recorded) → IsCut first p b
-    → first ≡ front ++ b → BeginsWith (call_head name) c → Spells c (Played 0 done recorded) → Spells (front ++ c) (Played p done recorded)
-unfolding Spells
-prefixed_call first front b c p name done recorded cut parts named h =
-    let same : h.0 ≡ c = (cut_same c 0 0 h.0 c h.1 (call_cut name c named)).1 in
-    (h.0, subst (λ (x : List ℕ). IsCut (front ++ c) p x) (sym same) (same_prefix first front b c p name cut parts named), h.2)
-
--- and what is read with it is read of the body, as a call of that process
-pub prefixed_read : (first front b c : List ℕ) (p q : ℕ) (name : Name) (done : Call) (recorded : Option Recorded) → IsCut first p b
-    → first ≡ front ++ b → BeginsWith (call_head name) c → Spells (front ++ c) (Played q done recorded)
-    → (q ≡ p) × Spells c (Played 0 done recorded)
-unfolding Spells
-prefixed_read first front b c p q name done recorded cut parts named h =
-    let same = cut_same (front ++ c) q p h.0 c h.1 (same_prefix first front b c p name cut parts named) in
-    (same.0, (h.0, subst (λ (x : List ℕ). IsCut c 0 x) (sym same.1) (call_cut name c named), h.2))

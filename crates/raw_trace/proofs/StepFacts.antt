@@ -19,7 +19,7 @@ use Rattle.raw_trace.specs.Order.{Entry, Step, Begins, Ends, Comes}
 use Rattle.raw_trace.specs.Places.{HasReading, ReadText, IsReadText, is_of, cut_call, Part, Whole, Front, Back, part, Becomes, becomes_itself, becomes_mended, becomes_unreturned, becomes_unread}
 use Rattle.raw_trace.specs.Places.{IsReadAs, IsEntry, IsDone, AreSteps}
 use Rattle.raw_trace.specs.Laws.{KeepsOrders}
-use Rattle.raw_trace.proofs.JoinedLines.{joined_parts}
+use Rattle.raw_trace.proofs.JoinedLines.{joined_cut}
 use Rattle.raw_trace.proofs.LineCalls.{half_first, unread_passes}
 use Rattle.raw_trace.proofs.OwnCalls.{own, own_apart}
 use Rattle.raw_trace.proofs.ReadTexts.{
@@ -50,12 +50,6 @@ use Rattle.raw_trace.proofs.StepOrders.{
   order_fits,
 }
 
-is_test : (a p : ℕ) → (a == p) ≡ true → a ≡ p
-is_test a p t = eqb-true a p t
-
-test_is : (a p : ℕ) → a ≡ p → (a == p) ≡ true
-test_is a p e = eq-eqb a p e
-
 true_false : true ≡ false → ⊥
 true_false e = cc
 
@@ -82,11 +76,11 @@ quiet_own p number t r e h f is = elim (eqb_tells e.process p) [
         → Spells line (Played c.pid c.call c.recorded) → ⊥
     read same line ending (becomes_itself g) c s =
         let cut = played_cut t c.pid c.call c.recorded s in
-        quiet (Ok (Played c.pid c.call c.recorded)) s (test_is c.pid p ((cut_same t c.pid e.process cut.0 is.body cut.1 is.process_is).0 ∙ same))
-    read same line ending (becomes_mended bad r short m g) c s = quiet (Err e.process) (bad, is.body, r, is.process_is) (test_is e.process p same)
+        quiet (Ok (Played c.pid c.call c.recorded)) s (eq-eqb c.pid p ((cut_same t c.pid e.process cut.0 is.body cut.1 is.process_is).0 ∙ same))
+    read same line ending (becomes_mended bad r short m g) c s = quiet (Err e.process) (bad, is.body, r, is.process_is) (eq-eqb e.process p same)
     read same line ending (becomes_unreturned k) c s =
         let f = half_first t k.0 k.1 k.2 k.3 k.4 in
-        quiet (Ok (Unfinished k.0 k.1 k.2 k.3)) k.4 (test_is k.0 p ((cut_same t k.0 e.process f.0 is.body f.2 is.process_is).0 ∙ same))
+        quiet (Ok (Unfinished k.0 k.1 k.2 k.3)) k.4 (eq-eqb k.0 p ((cut_same t k.0 e.process f.0 is.body f.2 is.process_is).0 ∙ same))
     read same line ending (becomes_unread never half not) c s =
         let k = (one_outcome (unread_text t)).item (Played c.pid c.call c.recorded) Other s (unread_passes t) in absurd cc
 
@@ -134,8 +128,8 @@ begun_process : (fed : List ReadText) (x : ReadText) (later : List ReadText) (nu
     → (parts : FrontParts fed x later line) → IsEntry number true line e → e.process ≡ parts.process
 begun_process fed x later number line e h parts is =
     let s = subst (HasReading x.line.text) parts.is h in
-    let j = joined_parts parts.process parts.name x.line.text parts.second.line.text line parts.from parts.to parts.behind s parts.joins in
-    (cut_same line e.process parts.process is.body j.body is.process_is j.cut).0
+    let j = joined_cut parts.process parts.name x.line.text parts.second.line.text line parts.from parts.to parts.behind s parts.joins in
+    (cut_same line e.process parts.process is.body j.0 is.process_is j.1).0
 
 -- a call begins
 begins_fit : (p : ℕ) (fed : List ReadText) (x : ReadText) (later : List ReadText) (line : List ℕ) (e : Entry) (steps : List Step) (one : Option Entry)
@@ -145,15 +139,15 @@ begins_fit p fed x later line e steps one parts own behind state (inr f) =
     let r = behind one (past p fed x later one f state) in
     let n : (e.process == p) ≡ false = elim (bool_cases (e.process == p)) [
       | inl t ↦
-          let of : is_of e.process x.reading ≡ true = ap (is_of e.process) parts.is ∙ test_is parts.process e.process (sym own) in
-          absurd (true_false (sym of ∙ ap (λ (q : ℕ). is_of q x.reading) (is_test e.process p t) ∙ f))
+          let of : is_of e.process x.reading ≡ true = ap (is_of e.process) parts.is ∙ eq-eqb parts.process e.process (sym own) in
+          absurd (true_false (sym of ∙ ap (λ (q : ℕ). is_of q x.reading) (eqb-true e.process p t) ∙ f))
       | inr n ↦ n
     ] in
     (r.0, fits_other_begins n r.1)
 begins_fit p fed x later line e steps one parts own behind (closed n) (inl t) =
     let same : parts.process ≡ p =
     of_one parts.process p x.reading (ap (is_of parts.process) parts.is ∙ self_is parts.process) t in
-    let mine : (e.process == p) ≡ true = test_is e.process p (own ∙ same) in
+    let mine : (e.process == p) ≡ true = eq-eqb e.process p (own ∙ same) in
     let r = behind (Some e) (opened e mine line (subst (λ (q : ℕ). cut_call q (x ∷ fed) later ≡ Some line) same parts.cut)) in
     (r.0, fits_begins mine r.1)
 begins_fit p fed x later line e steps one parts own behind (opened y u other c) (inl t) =
@@ -166,7 +160,7 @@ ends_fit : (p : ℕ) (fed : List ReadText) (x : ReadText) (later : List ReadText
 ends_fit p fed x later q r steps one parts e behind state (inr f) =
     let k = behind one (past p fed x later one f state) in
     let n : (r == p) ≡ false = elim (bool_cases (r == p)) [
-      | inl t ↦ absurd (true_false (sym parts.of ∙ ap (λ (z : ℕ). is_of z x.reading) (sym e ∙ is_test r p t) ∙ f))
+      | inl t ↦ absurd (true_false (sym parts.of ∙ ap (λ (z : ℕ). is_of z x.reading) (sym e ∙ eqb-true r p t) ∙ f))
       | inr n ↦ n
     ] in
     (k.0, fits_other_ends n k.1)

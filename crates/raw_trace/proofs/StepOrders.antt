@@ -9,6 +9,8 @@ use Rattle.raw_trace.specs.Order.{Entry, Step, Begins, Ends, Comes, pick, turns,
 use Rattle.raw_trace.specs.Laws.{of_process}
 use Rattle.raw_trace.proofs.OwnCalls.{
   own,
+  none_picked,
+  one_picked,
   Apart,
   OneOf,
   of_both,
@@ -22,8 +24,6 @@ use Rattle.raw_trace.proofs.OwnCalls.{
   is_it,
   is_other,
   picked_of,
-  pick_it,
-  pick_apart,
   due_apart,
   WroteOne,
   waits_still,
@@ -150,14 +150,14 @@ order_fits p f one ws steps ahead calls (fits_begins {entry = e} {steps = ss} t 
 order_fits p f one ws steps ahead calls (fits_other_begins {one = x} {entry = e} {steps = ss} n more) h =
     order_fits p f x (ws ++ (e ∷ [])) ss ahead calls more (begun_holds p x ws ahead e n h)
 order_fits p f one ws steps ahead calls (fits_ends {entry = e} {steps = ss} {calls = k} more) (holds_gone h) =
-    rw (pick_apart p ws h) (ap (λ (z : List ReadCall). own p e ++ z) (order_fits p f None ws ss [] k more (holds_none h)))
+    rw (none_picked (λ x. x.process == p) ws h) (ap (λ (z : List ReadCall). own p e ++ z) (order_fits p f None ws ss [] k more (holds_none h)))
 order_fits p f one ws steps ahead calls (fits_ends {entry = e} {steps = ss} {calls = k} more) (holds_waiting t h) =
     let others = h.before ++ h.after in
     let apart = apart_both p h.before h.after h.none_before h.none_after in
     let r = due_apart p (turns (e ∷ []) others) f (e ∷ []) others (omega arith) apart in
     let w = write_entry f e others in
     let is : pick (λ x. x.process == p) ws ≡ Some (record { first = e; others = others }) =
-    ap (pick (λ x. x.process == p)) h.parts ∙ pick_it p e h.before h.after h.none_before t in
+    ap (pick (λ x. x.process == p)) h.parts ∙ one_picked (λ x. x.process == p) h.before e h.after h.none_before t in
     rw is (of_both p w.lines (order f w.waiting ss) ∙ ap (λ (z : List ReadCall). z ++ of_process p (order f w.waiting ss)) (r.calls ∙ append-nil (own p e))
     ∙ ap (λ (z : List ReadCall). own p e ++ z) (order_fits p f None w.waiting ss [] k more (holds_none r.waits)))
 order_fits p f one ws steps ahead calls (fits_other_ends {one = x} {q = q} {steps = ss} n more) h =

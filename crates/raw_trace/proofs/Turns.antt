@@ -1,7 +1,7 @@
 -- Which waiting entry is picked, and what a turn of an entry that is due comes to.
 use Rattle.std.proofs.Common.{◌≡◌, ℕ, zero, suc, ◌+◌, ◌*◌, ◌<◌, ◌≤◌, Bool, true, false, List, [], ◌∷◌, ◌++◌, length, take, get_or, Option, Some, None, refl, sym, ap, subst, ◌∙◌, append_assoc, inl, inr, arith}
 use Rattle.std.proofs.lemmas.Bool.Decides.{eqb_tells}
-use Rattle.std.specs.Prelude.{◌==◌, reverse, option_map, remove}
+use Rattle.std.specs.Prelude.{◌==◌, reverse, remove}
 use Rattle.std.proofs.lemmas.List.{append-nil, take_more, take_all, length-append, length-map, length-reverse, reverse-append}
 use Rattle.raw_logs.specs.declared.counts.Counts.{Counts}
 use Rattle.raw_logs.proofs.TextLists.{item_of}
@@ -15,29 +15,9 @@ use Rattle.raw_trace.specs.Rewriting.{text_of, lines_as, counted_entry, counted_
 use Rattle.raw_trace.specs.Stages.{entry, entries, due_of, IsPicked, MayBeWritten, WroteLines, WroteDue, EndsDue, TookTurn, wrote_one, made_due, EndsTurn, DueSome}
 use Rattle.raw_trace.proofs.EachEntries.{each_both}
 use Rattle.raw_trace.proofs.OneFault.{first_behind}
-use Rattle.raw_trace.proofs.OwnCalls.{Picks, picks_one, picks_none, picks}
+use Rattle.raw_trace.proofs.OwnCalls.{NoneIn, none_both, none_picked, one_picked, Picks, picks_one, picks_none, picks}
 
 -- ---- what is picked
-
--- the test holds for none of the entries
-abbrev pub NoneIn : (Entry → Bool) → List Entry → Type 0
-NoneIn test [] = Unit {0}
-NoneIn test (x ∷ xs) = (test x ≡ false) × NoneIn test xs
-
-none_both : (test : Entry → Bool) (a b : List Entry) → NoneIn test a → NoneIn test b → NoneIn test (a ++ b)
-none_both test [] b h g = g
-none_both test (x ∷ a) b h g = (h.0, none_both test a b h.1 g)
-
-pub none_picked : (test : Entry → Bool) (a : List Entry) → NoneIn test a → pick test a ≡ None
-none_picked test [] h = refl
-none_picked test (x ∷ a) h =
-    rw h.0 (ap (option_map (λ (p : Picked). record { first = p.first; others = x ∷ p.others })) (none_picked test a h.1))
-
-one_picked : (test : Entry → Bool) (a : List Entry) (x : Entry) (b : List Entry) → NoneIn test a → test x ≡ true
-    → pick test (a ++ (x ∷ b)) ≡ Some (record { first = x; others = a ++ b })
-one_picked test [] x b h t = rw t refl
-one_picked test (y ∷ a) x b h t =
-    rw h.0 (ap (option_map (λ (p : Picked). record { first = p.first; others = y ∷ p.others })) (one_picked test a x b h.1 t))
 
 -- a piece more was looked at
 pub none_turn : (test : Entry → Bool) (pieces : List Piece) (i : ℕ) (piece : Piece) → i < length pieces → piece ≡ get_or pieces i piece

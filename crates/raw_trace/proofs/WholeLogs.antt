@@ -10,7 +10,7 @@ use Rattle.raw_logs.specs.declared.fault.LogFault.{LogFault}
 use Rattle.raw_logs.specs.declared.fault.LogFault.TheVariants.{Memory as LogMemory}
 use Rattle.raw_logs.specs.Counting.{one_more_of}
 use Rattle.raw_logs.specs.declared.counts.Sort.TheVariants.{Joined, Forms}
-use Rattle.raw_logs.specs.Log.{Numbered, Each}
+use Rattle.raw_logs.specs.Log.{Numbered}
 use Rattle.raw_logs.specs.Reading.{AreTexts, IsFirstUnknown, IsLogFault}
 use Rattle.raw_logs.proofs.OneLog.{texts_one, unknown_one, texts_no_fault}
 use Rattle.raw_logs.proofs.UnreadLogs.{texts_unread}
@@ -23,7 +23,7 @@ use Rattle.raw_trace.specs.declared.settling.Ending.{Ending}
 use Rattle.raw_trace.specs.declared.settling.Ending.TheVariants.{AsItIs, ByMends, AsUnreturned, AsUnread}
 use Rattle.raw_trace.specs.declared.writing.Written.{Written}
 use Rattle.raw_trace.specs.Order.{Entry, Step, frees_for, order}
-use Rattle.raw_trace.specs.Places.{Becomes, becomes_itself, becomes_mended, becomes_unreturned, becomes_unread, IsTrouble, IsEntry, ReadText, IsReadText, part, AreSteps}
+use Rattle.raw_trace.specs.Places.{Becomes, becomes_itself, becomes_mended, becomes_unreturned, becomes_unread, IsTrouble, IsEntry, ReadText, part, AreSteps}
 use Rattle.raw_trace.specs.Rewriting.{text_of, lines_as, is_form, counted, counted_entry, counted_all, IsRewriting}
 use Rattle.raw_trace.specs.Faults.{of_log, Stops, IsCausedFault, IsFault}
 use Rattle.raw_trace.specs.Laws.{HasShortLines, HasOneRewriting, HasOneFault}
@@ -34,16 +34,15 @@ use Rattle.raw_trace.proofs.OneFault.{never_stops}
 -- ---- the whole
 
 -- what is written of its texts is the rewriting
-pub rewriting_is : (process : Option ℕ) (strict : Bool) (bytes : List ℕ) (chosen shown : List Numbered) (before : Counts) (found : Written)
-    → AreTexts process bytes chosen before → shown ≡ chosen → WroteAll strict shown before found
-    → IsRewriting process bytes found.out.items found.counts found.calls
-rewriting_is process strict bytes chosen shown before found are e w =
+pub rewriting_is : (process : Option ℕ) (strict : Bool) (bytes : List ℕ) (chosen : List Numbered) (before : Counts) (found : Written)
+    → AreTexts process bytes chosen before → WroteAll strict chosen before found → IsRewriting process bytes found.out.items found.counts found.calls
+rewriting_is process strict bytes chosen before found are w =
     record {
       chosen = chosen;
       before = before;
       texts = are;
       read = w.texts;
-      reads = subst (λ (x : List Numbered). Each IsReadText x w.texts) e w.reads;
+      reads = w.reads;
       steps = w.steps;
       are = w.are;
       bytes_of = w.out;
@@ -250,25 +249,3 @@ fault_comes process strict bytes (Err (LongLine number)) one h never fault g =
     inl (ap (λ (x : Fault). Err x) (one process strict bytes (LongLine number) fault h g))
 fault_comes process strict bytes (Err NoProcess) one h never fault g = inl (ap (λ (x : Fault). Err x) (one process strict bytes NoProcess fault h g))
 fault_comes process strict bytes (Err Memory) one h never fault g = inr refl
-
--- ---- the same of lines that are shown otherwise
-
-pub shown_unread : (process : Option ℕ) (strict : Bool) (bytes : List ℕ) (chosen shown : List Numbered) (before : Counts) (found : Written)
-    → AreTexts process bytes chosen before → shown ≡ chosen → WroteAll strict shown before found
-    → strict ≡ true → found.counts.unread ≡ 0
-shown_unread process strict bytes chosen shown before found are e w =
-    none_unread process strict bytes chosen before found are (subst (λ (x : List Numbered). WroteAll strict x before found) e w)
-
-pub shown_no_cause : (process : Option ℕ) (strict : Bool) (bytes : List ℕ) (chosen shown : List Numbered) (before : Counts) (unknown : Option ℕ)
-    (found : Written) → AreTexts process bytes chosen before → IsFirstUnknown process bytes unknown → (strict ≡ true → unknown ≡ None)
-    → shown ≡ chosen → WroteAll strict shown before found → (fault : Fault) → ¬ IsCausedFault process strict bytes fault
-shown_no_cause process strict bytes chosen shown before unknown found are u k e w =
-    no_cause process strict bytes chosen before unknown found are u k
-    (subst (λ (x : List Numbered). WroteAll strict x before found) e w)
-
-pub shown_fault : (process : Option ℕ) (strict : Bool) (bytes : List ℕ) (chosen shown : List Numbered) (before : Counts) (unknown : Option ℕ) (fault : Fault)
-    → AreTexts process bytes chosen before → IsFirstUnknown process bytes unknown → (strict ≡ true → unknown ≡ None)
-    → shown ≡ chosen → EndsAll strict shown fault → IsFault process strict bytes fault
-shown_fault process strict bytes chosen shown before unknown fault are u k e w =
-    written_fault process strict bytes chosen before unknown fault are u k
-    (subst (λ (x : List Numbered). EndsAll strict x fault) e w)

@@ -1,6 +1,6 @@
 //! Which texts are the halves of one call. A first half waits for the second of its process and name; any other call or
-//! half of that process, and a line of it that is refused, ends the waiting. `part` in `specs/Places.antt` says it of the
-//! texts before and behind.
+//! half of that process, and a line of it that is refused, ends the waiting. `part` in `specs/Places.antt` says it of
+//! the texts before and behind.
 
 ghost use Rattle.std.specs.Prelude.{◌≡◌, ◌≤◌, ◌<◌, ◌-◌, ◌^◌, ℕ, [], length, IfOk};
 ghost use Rattle.std.specs.Prelude.{◌≢◌, ◌⊎◌, ◌+◌, ◌++◌, ◌∷◌, List, Some, None, OnOk, slice_set};

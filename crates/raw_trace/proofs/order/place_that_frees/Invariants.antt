@@ -1,7 +1,7 @@
 use Rattle.std.proofs.Common.{◌≡◌, take}
 use Rattle.raw_trace.specs.Order.{Entry, frees_for}
 use Rattle.raw_trace.specs.Stages.{entry, entries}
-use Rattle.raw_trace.proofs.Turns.{NoneIn}
+use Rattle.raw_trace.proofs.OwnCalls.{NoneIn}
 use Rattle.raw_trace.proofs.order.place_that_frees.Given as goal
 
 -- the test holds for none so far

@@ -1,12 +1,11 @@
-use Rattle.std.proofs.Common.{refl}
 use Rattle.std.proofs.lemmas.Result.{err_from_is_err_and}
-use Rattle.raw_trace.proofs.WholeLogs.{rewriting_is, written_short, shown_unread, shown_no_cause, read_fault, unknown_fault, shown_fault}
+use Rattle.raw_trace.proofs.WholeLogs.{rewriting_is, written_short, none_unread, no_cause, read_fault, unknown_fault, written_fault}
 use Rattle.raw_trace.proofs.rewriting.rewritten.Goals as goal
 
 -- the stages one behind the other
 pub returns-clause-is : goal.returns-clause-is
 returns-clause-is c =
-    rewriting_is c.args.process c.args.strict c.args.text.now _ _ _ _ c.in_ok-texts.ensures.texts refl c.in_ok-written.ensures.wrote
+    rewriting_is c.args.process c.args.strict c.args.text.now _ _ _ c.in_ok-texts.ensures.texts c.in_ok-written.ensures.wrote
 
 -- each line may be read
 pub returns-clause-short : goal.returns-clause-short
@@ -15,14 +14,13 @@ returns-clause-short c = written_short c.args.strict _ _ _ c.in_ok-written.ensur
 -- no line is left unread
 pub returns-clause-read_all : goal.returns-clause-read_all
 returns-clause-read_all c =
-    shown_unread c.args.process c.args.strict c.args.text.now _ _ _ _ c.in_ok-texts.ensures.texts refl
-    c.in_ok-written.ensures.wrote
+    none_unread c.args.process c.args.strict c.args.text.now _ _ _ c.in_ok-texts.ensures.texts c.in_ok-written.ensures.wrote
 
 -- nothing is a fault
 pub returns-clause-never : goal.returns-clause-never
 returns-clause-never c =
-    shown_no_cause c.args.process c.args.strict c.args.text.now _ _ _ _ _ c.in_ok-texts.ensures.texts c.in_ok-texts.ensures.unknown
-    c.in_ok-keep_known.ensures.known refl c.in_ok-written.ensures.wrote
+    no_cause c.args.process c.args.strict c.args.text.now _ _ _ _ c.in_ok-texts.ensures.texts c.in_ok-texts.ensures.unknown
+    c.in_ok-keep_known.ensures.known c.in_ok-written.ensures.wrote
 
 -- the texts can't be had
 pub returns-in_err-texts-clause-fault : goal.returns-in_err-texts-clause-fault
@@ -40,5 +38,5 @@ returns-in_err-keep_known-clause-fault c =
 pub returns-in_err-written-clause-fault : goal.returns-in_err-written-clause-fault
 returns-in_err-written-clause-fault c =
     let p = err_from_is_err_and c.from_residual-in_err-written.result c.from_residual-in_err-written.ensures.1 in
-    rw (p.1, p.2) (shown_fault c.args.process c.args.strict c.args.text.now _ _ _ _ c.in_err-written.field-0.0 c.in_ok-texts.ensures.texts
-    c.in_ok-texts.ensures.unknown c.in_ok-keep_known.ensures.known refl c.in_err-written.ensures.fault)
+    rw (p.1, p.2) (written_fault c.args.process c.args.strict c.args.text.now _ _ _ c.in_err-written.field-0.0 c.in_ok-texts.ensures.texts
+    c.in_ok-texts.ensures.unknown c.in_ok-keep_known.ensures.known c.in_err-written.ensures.fault)
