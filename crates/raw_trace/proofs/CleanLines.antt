@@ -68,6 +68,7 @@ abbrev pub AreCleanTexts : List ReadText → Type 0
 AreCleanTexts [] = Unit {0}
 AreCleanTexts (text ∷ texts) = IsClean text.line.text × AreCleanTexts texts
 
+-- where their lines have none
 pub clean_texts : (lines : List Numbered) (texts : List ReadText) → Each IsReadText lines texts → EachLine IsClean (texts_of lines)
     → AreCleanTexts (texts ++ [])
 clean_texts [] [] h c = tt

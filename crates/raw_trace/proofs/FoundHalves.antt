@@ -24,10 +24,12 @@ use Rattle.raw_trace.proofs.ReadTexts.{name_one, self_is, near_of, near_past, ne
 
 -- ---- texts behind others
 
+-- those of two lists
 pub fed_both : (fed a b : List ReadText) → fed_by fed (a ++ b) ≡ fed_by (fed_by fed a) b
 fed_both fed [] b = refl
 fed_both fed (x ∷ a) b = fed_both (x ∷ fed) a b
 
+-- they are as many
 pub fed_length : (fed a : List ReadText) → length (fed_by fed a) ≡ length fed + length a
 fed_length fed [] = omega arith
 fed_length fed (x ∷ a) = let k = fed_length (x ∷ fed) a in omega arith
@@ -37,6 +39,7 @@ get_more [] ys k x e = absurd cc
 get_more (z ∷ xs) ys zero x e = e
 get_more (z ∷ xs) ys (suc k) x e = get_more xs ys k x e
 
+-- the text behind so many is there
 pub get_there : (xs ys : List ReadText) (x : ReadText) → slice_get (xs ++ (x ∷ ys)) (length xs) ≡ Some x
 get_there [] ys x = refl
 get_there (z ∷ xs) ys x = get_there xs ys x

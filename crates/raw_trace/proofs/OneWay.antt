@@ -138,6 +138,7 @@ done_one line (Back p) (Ends a) (Begins b) h g = absurd g
 done_one line (Back p) (Comes a) b h g = absurd h
 done_one line (Back p) (Begins a) b h g = absurd h
 
+-- and so do texts
 pub steps_one : (fed texts later : List ReadText) (a b : List Step) → AreSteps fed texts later a → AreSteps fed texts later b → a ≡ b
 steps_one fed [] later [] [] h g = refl
 steps_one fed [] later [] (y ∷ b) h g = absurd g

@@ -63,6 +63,7 @@ name_one n m e = sym (name_back n) ∙ ap name_at (eqb-true (name_number n) (nam
 
 -- ---- the nearest text of a process
 
+-- a process is itself
 pub self_is : (p : ℕ) → (p == p) ≡ true
 self_is p = eq-eqb p p refl
 

@@ -160,6 +160,7 @@ module _ (strict : Bool) (lines : List Numbered) (place : ℕ) (roles : List Rol
   here : (counts : Counts) → (d : DidSome strict lines place counts old) → RoleAt lines place d.fed d.later role
   here counts d = role_at lines place d.fed d.later roles role d.reads d.count have is within
 
+  -- a text alone came
   pub alone_did : (number : ℕ) (shown : List ℕ) (e : Entry) (new : Ordering) → role ≡ Alone → IsShown lines place number shown
       → IsEntry number false shown e → WroteDue strict old (write_entry frees_for e (entries old.waiting.items)) new
       → (counts : Counts) → DidSome strict lines place counts old → DidSome strict lines (place + 1) counts new
@@ -167,6 +168,7 @@ module _ (strict : Bool) (lines : List Numbered) (place : ℕ) (roles : List Rol
       let x = here counts d in
       did_more strict lines place counts old new d role x (Comes e) (alone_step lines place number d.fed d.later role shown e x r s en) w
 
+  -- the writing ended at it
   pub alone_ends : (number : ℕ) (shown : List ℕ) (e : Entry) (fault : Fault) → role ≡ Alone → IsShown lines place number shown
       → IsEntry number false shown e → EndsDue strict (write_entry frees_for e (entries old.waiting.items)).lines fault
       → (counts : Counts) × DidSome strict lines place counts old → EndsAll strict lines fault
@@ -174,6 +176,7 @@ module _ (strict : Bool) (lines : List Numbered) (place : ℕ) (roles : List Rol
       let x = here counts d in
       did_end strict lines place counts old d role x (Comes e) fault (alone_step lines place number d.fed d.later role shown e x r s en) w
 
+  -- a first half began its call
   pub first_did : (number other to behind n : ℕ) (shown second line : List ℕ) (e : Entry) (new : Ordering) → role ≡ First other to behind
       → IsShown lines place number shown → IsShown lines other n second → line ≡ take to shown ++ drop behind second
       → IsEntry number true line e → entries new.waiting.items ≡ entries old.waiting.items ++ (e ∷ []) → new.written ≡ old.written
@@ -184,12 +187,14 @@ module _ (strict : Bool) (lines : List Numbered) (place : ℕ) (roles : List Rol
       (first_step lines place number other to behind d.fed d.later role n shown second line e x r s t le en)
       (record { wrote = subst (λ (z : Written). WroteLines strict old.written [] z) (sym same) (wrote_none strict old.written); waits = w })
 
+  -- a second half ended it
   pub second_did : (p : ℕ) (new : Ordering) → role ≡ Second p → WroteDue strict old (does frees_for (Ends p) (entries old.waiting.items)) new
       → (counts : Counts) → DidSome strict lines place counts old → DidSome strict lines (place + 1) counts new
   second_did p new r w counts d =
       let x = here counts d in
       did_more strict lines place counts old new d role x (Ends p) (second_step lines place p d.fed d.later role x r) w
 
+  -- the writing ended at it
   pub second_ends : (p : ℕ) (fault : Fault) → role ≡ Second p → EndsDue strict (does frees_for (Ends p) (entries old.waiting.items)).lines fault
       → (counts : Counts) × DidSome strict lines place counts old → EndsAll strict lines fault
   second_ends p fault r w (counts, d) =

@@ -1,7 +1,7 @@
-use Rattle.std.proofs.Common.{refl, sym, subst, ◌∙◌, ap, ◌+◌, arith}
+use Rattle.std.proofs.Common.{refl, sym, subst, ap, ◌+◌, arith}
 use Rattle.std.specs.Prelude.{◌==◌}
 use Rattle.raw_trace.specs.Order.{Entry}
-use Rattle.raw_trace.specs.Stages.{entry, entries, IsPicked}
+use Rattle.raw_trace.specs.Stages.{entries, IsPicked}
 use Rattle.raw_trace.proofs.Turns.{none_turn, none_at_all, is_picked, is_equal, is_other}
 use Rattle.raw_trace.proofs.order.place_of.Goals as goal
 

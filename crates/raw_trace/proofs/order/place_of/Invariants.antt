@@ -1,7 +1,7 @@
 use Rattle.std.proofs.Common.{◌≡◌, take}
 use Rattle.std.specs.Prelude.{◌==◌}
 use Rattle.raw_trace.specs.Order.{Entry}
-use Rattle.raw_trace.specs.Stages.{entry, entries}
+use Rattle.raw_trace.specs.Stages.{entries}
 use Rattle.raw_trace.proofs.OwnCalls.{NoneIn}
 use Rattle.raw_trace.proofs.order.place_of.Given as goal
 

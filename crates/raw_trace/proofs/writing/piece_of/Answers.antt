@@ -1,4 +1,4 @@
-use Rattle.std.proofs.Common.{refl, sym, subst}
+use Rattle.std.proofs.Common.{refl, subst}
 use Rattle.raw_trace.specs.declared.order.Piece.{Piece}
 use Rattle.raw_trace.specs.Places.{IsTrouble, IsReadAs}
 use Rattle.raw_trace.proofs.TakenTexts.{entry_of}

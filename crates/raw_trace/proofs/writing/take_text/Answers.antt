@@ -1,4 +1,4 @@
-use Rattle.std.proofs.Common.{◌∙◌, length, arith}
+use Rattle.std.proofs.Common.{◌∙◌, arith}
 use Rattle.std.proofs.lemmas.Result.{IfErr-weaker, on_ok_weaker}
 use Rattle.raw_trace.proofs.TextPlaces.{roles_count}
 use Rattle.raw_trace.proofs.TakenTexts.{kept_halves, alone_did, alone_ends, first_did, second_did, second_ends}

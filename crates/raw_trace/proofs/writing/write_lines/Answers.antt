@@ -1,4 +1,4 @@
-use Rattle.std.proofs.Common.{length, refl, arith}
+use Rattle.std.proofs.Common.{refl, arith}
 use Rattle.std.proofs.lemmas.Result.{err_from_is_err_and}
 use Rattle.raw_trace.proofs.GivenSteps.{did_none, did_all}
 use Rattle.raw_trace.proofs.writing.write_lines.Goals as goal

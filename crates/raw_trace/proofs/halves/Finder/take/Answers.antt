@@ -1,4 +1,4 @@
-use Rattle.std.proofs.Common.{◌++◌, ◌∷◌, [], length, refl, sym, ap, ◌+◌, ◌∙◌}
+use Rattle.std.proofs.Common.{◌∷◌, [], length, refl, sym, ap, ◌+◌, ◌∙◌}
 use Rattle.std.proofs.lemmas.List.{length-append}
 use Rattle.raw_trace.proofs.FoundHalves.{found_count, finds_more}
 use Rattle.raw_trace.proofs.halves.Finder.take.Goals as goal

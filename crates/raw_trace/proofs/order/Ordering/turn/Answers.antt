@@ -1,4 +1,4 @@
-use Rattle.std.proofs.Common.{refl, sym, ◌∙◌, subst}
+use Rattle.std.proofs.Common.{refl, subst}
 use Rattle.raw_trace.specs.Order.{Entry, frees_for}
 use Rattle.raw_trace.specs.Stages.{entry, entries, IsPicked, made_due}
 use Rattle.raw_trace.proofs.Turns.{taken_out, due_two}
