@@ -15,7 +15,6 @@ pub mod PlainTexts
 pub mod ReadLogs
 pub mod SieveFacts
 pub mod SpaceFacts
-pub mod Splits
 pub mod TextLists
 pub mod ToldFacts
 pub mod UnreadLogs
