@@ -18,7 +18,8 @@ use Rattle.range_cli.specs.declared.status.Status.TheVariants.{Done, Usage, BadL
 use Rattle.range_cli.specs.declared.status.Which.{Which}
 use Rattle.range_cli.specs.declared.status.Which.TheVariants.{Input, Line, Lines, Rows}
 use Rattle.range_cli.specs.Clean.{held_by, free_in, HasRoomForLine, HasRoomForReports, CallForDone, EndsAsCalledFor, IsDoneOrMemory}
-use Rattle.range_cli.specs.ErrorLine.{error_line, what_text, which_text, bad_line_text, numbered}
+use Rattle.byte_ports.specs.Bytes.{numbered}
+use Rattle.range_cli.specs.ErrorLine.{error_line, what_text, which_text, bad_line_text}
 use Rattle.history_check.specs.declared.verdict.Verdict.{Verdict}
 use Rattle.history_check.specs.declared.verdict.Verdict.TheVariants.{Legal, Wrong as WrongVerdict}
 use Rattle.history_check.specs.declared.verdict.WrongLog.{WrongLog}

@@ -1,4 +1,3 @@
-pub mod Draining
 pub mod TraceLemmas
 pub mod PlayLemmas
 pub mod ReportPieces

@@ -4,7 +4,7 @@
 -- and this project's own profile: the lines one after another, then the rows.
 use Rattle.std.specs.Prelude.{◌≡◌, ◌⊎◌, ℕ, ◌+◌, ◌<◌, ◌≤◌, Bool, List, [], ◌∷◌, ◌++◌, Option, None, All, length, codes}
 use Rattle.std.specs.Io.KnownBytes.{Appends, Keeps}
-use Rattle.byte_ports.specs.Bytes.{AppendsPrefix}
+use Rattle.byte_ports.specs.Bytes.{AppendsPrefix, numbered}
 use Rattle.command_words.specs.Commands.{AskFor}
 use Rattle.command_words.specs.declared.commands.Command.TheVariants.{Check}
 use Rattle.page_types.specs.declared.TheConstants.{ROWS}
@@ -24,7 +24,6 @@ use Rattle.range_cli.specs.declared.status.Status.TheVariants.{Done, Usage, BadL
 use Rattle.range_cli.specs.declared.status.Which.{Which}
 use Rattle.range_cli.specs.declared.status.Which.TheVariants.{Input, Line as OfLine, Lines as OfLines, Rows}
 use Rattle.range_cli.specs.declared.trace.TheConstants.{LINE_LIMIT}
-use Rattle.range_cli.specs.ErrorLine.{numbered}
 use Rattle.range_cli.specs.Script.{IsInput, Begins}
 use Rattle.range_cli.specs.Endings.{EndsReading, EndsOpening, IsShort, IsTooLongLine}
 

@@ -1,6 +1,7 @@
 -- The line on standard error, for each way in which a run ends without its whole report. The texts are this project's
 -- own profile, and docs/FORMATS.md lists them too. A run that is done has no line.
-use Rattle.std.specs.Prelude.{ℕ, List, [], ◌++◌, codes, decimal}
+use Rattle.std.specs.Prelude.{ℕ, List, [], ◌++◌, codes}
+use Rattle.byte_ports.specs.Bytes.{numbered}
 use Rattle.line_parts.specs.declared.refusal.What.{What}
 use Rattle.line_parts.specs.declared.refusal.What.TheVariants.{Number, Wide, Word, Comma, Close, Result as AtResult, Form, Order}
 use Rattle.range_cli.specs.declared.status.Status.{Status}
@@ -25,10 +26,6 @@ which_text Input = codes "limit input: "
 which_text Line = codes "limit line: "
 which_text Lines = codes "limit lines: "
 which_text Rows = codes "limit rows: "
-
--- a number in decimal, with a text before it and one behind it
-abbrev pub numbered : List ℕ → ℕ → List ℕ → List ℕ
-numbered before number behind = before ++ (decimal number ++ behind)
 
 -- a refused line
 abbrev pub bad_line_text : ℕ → ℕ → What → List ℕ

@@ -6,6 +6,7 @@
 use Rattle.std.specs.Prelude.{◌≡◌, ℕ, ◌≤◌, List, [], length, Option, Some, IfSome, ◌≢◌, ◌+◌, ◌*◌, Bool, ◌∷◌, ◌++◌, ◌==◌, if◌then◌else◌}
 use Rattle.std.specs.Bool.{MatchBool}
 use Rattle.std.specs.List.{list_any, position_or_len}
+use Rattle.byte_ports.specs.Input.{Drains}
 use Rattle.command_words.specs.declared.commands.Options.{Options}
 use Rattle.line_parts.specs.Lines.{lines_of}
 use Rattle.page_types.specs.declared.TheConstants.{ROWS}
@@ -27,7 +28,7 @@ use Rattle.range_cli.specs.declared.trace.TheConstants.{LINE_LIMIT}
 -- these are the bytes of the input: it was read to its end, where it tells its bytes these are all of them and none is
 -- left, and they are no more than it may have
 abbrev pub IsInput : Option (List ℕ) → Option (List ℕ) → List ℕ → Type 0
-IsInput old new bytes = IfSome old (λ known. (known ≡ bytes) × (new ≡ Some [])) × (length bytes ≤ 67108864)
+IsInput old new bytes = Drains old new bytes × (length bytes ≤ 67108864)
 
 -- ---- the maps lines with which an input may begin
 

@@ -1,7 +1,6 @@
--- What the private functions that read an input say: that a source is drained, what a maps line adds, and what the
--- reader of a trace holds where the reading stands at some line: a joiner that was fed the texts before it, the index
--- of each process that was seen, and the played lines. It ties the code to the definitions of Script.antt, which speak
--- of texts alone.
+-- What the private functions that read an input say: what a maps line adds, and what the reader of a trace holds where
+-- the reading stands at some line: a joiner that was fed the texts before it, the index of each process that was seen,
+-- and the played lines. It ties the code to the definitions of Script.antt, which speak of texts alone.
 use Rattle.std.specs.Prelude.{◌≡◌, ℕ, ◌<◌, List, [], length, Option, Some, IfSome, ◌⊎◌, ◌+◌, ◌∷◌, ◌++◌, ◌==◌, if◌then◌else◌, None, Bool}
 use Rattle.std.specs.Bool.{MatchBool}
 use Rattle.std.specs.BTreeMap.{get}
@@ -22,10 +21,6 @@ use Rattle.range_cli.specs.declared.status.EarlyEnd.TheVariants.{NoMemory, Above
 use Rattle.range_cli.specs.declared.status.Which.TheVariants.{Lines}
 use Rattle.range_cli.specs.declared.trace.Line.{Line}
 use Rattle.range_cli.specs.declared.trace.TraceReader.{TraceReader}
-
--- the known bytes are all, and none of them is left
-abbrev pub Drains : Option (List ℕ) → Option (List ℕ) → List ℕ → Type 0
-Drains old new all = IfSome old (λ bytes. (bytes ≡ all) × (new ≡ Some []))
 
 -- an input whose lines are these texts begins so, as `Begins` has it
 abbrev pub Opens : Bool → List (List ℕ) → List Area → ℕ → ℕ → List (List ℕ) → Type 0

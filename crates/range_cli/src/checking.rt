@@ -13,12 +13,11 @@ ghost use Rattle.range_cli.specs.Judging.{HasNumbers};
 ghost use Rattle.range_cli.specs.Status.{OrMemory};
 ghost use Rattle.range_cli.specs.declared.input.TheConstants.{INPUT_LIMIT};
 
-use crate::error_line::write_numbered;
 use crate::input::read_input;
 use crate::opening::read_opening;
 use crate::status::{EarlyEnd, Status, Which};
 use crate::trace::{LINE_LIMIT, LINES_LIMIT};
-use byte_ports::{Failed, Sink, Source};
+use byte_ports::{Failed, Sink, Source, write_numbered};
 use history_check::{Verdict, WrongLog, check};
 use line_parts::{What, begins, next_line, skip_digits};
 use page_types::ROWS;

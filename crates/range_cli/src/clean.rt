@@ -5,7 +5,8 @@ ghost use Rattle.std.specs.Prelude.{◌≡◌, ◌≤◌, ◌∷◌, Some, codes
 ghost use Rattle.std.specs.Io.KnownBytes.{Appends};
 ghost use Rattle.std.specs.String.{string_bytes};
 ghost use Rattle.range_cli.specs.Clean.{left_in, held_by, HasRoomForLine, HasRoomForReports, CallForDone, EndsAsCalledFor, IsDoneOrMemory};
-ghost use Rattle.range_cli.specs.ErrorLine.{error_line, which_text, bad_line_text, numbered};
+ghost use Rattle.byte_ports.specs.Bytes.{numbered};
+ghost use Rattle.range_cli.specs.ErrorLine.{error_line, which_text, bad_line_text};
 ghost use Rattle.range_cli.specs.Checking.{ChecksAs};
 ghost use Rattle.range_cli.specs.Run.{Wrote};
 

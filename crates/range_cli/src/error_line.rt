@@ -1,15 +1,15 @@
 //! The line on standard error that says why a run did not write its whole report. It takes no memory, so that it can
 //! say that there is none. The texts are this project's own profile; a reader may rely on one line for each status but
 //! Done, which has none.
-ghost use Rattle.std.specs.Prelude.{◌≡◌, ◌≤◌, OnOk, OnErr, decimal};
+ghost use Rattle.std.specs.Prelude.{◌≡◌, OnOk, OnErr};
 ghost use Rattle.std.specs.Io.KnownBytes.{Appends};
 ghost use Rattle.byte_ports.specs.Bytes.{AppendsPrefix};
 ghost use Rattle.byte_ports.specs.Counts.{Rose};
 ghost use Rattle.range_cli.specs.Run.{IsDone};
-ghost use Rattle.range_cli.specs.ErrorLine.{error_line, what_text, which_text, bad_line_text, numbered};
+ghost use Rattle.range_cli.specs.ErrorLine.{error_line, what_text, which_text, bad_line_text};
 
 use crate::status::{Status, Which};
-use byte_ports::{Failed, Sink, write_all};
+use byte_ports::{Failed, Sink, write_all, write_numbered};
 use strace_reader::What;
 
 /// The line for wrong words, with its newline.
@@ -50,38 +50,6 @@ fn write_bad_line<K: Sink>(err: &mut K, line: u32, column: u32, what: What) -> R
 {
     write_numbered(err, b"line ", line as u64, b" column ")?;
     write_numbered(err, b"", column as u64, due(what))
-}
-
-/// Writes a number in decimal, with a text before it and one behind it.
-pub(crate) fn write_numbered<K: Sink>(
-    err: &mut K,
-    before: &[u8],
-    number: u64,
-    behind: &[u8],
-) -> Result<(), Failed>
-    ensures all { OnOk result
-        (Appends (K.contents err.old) (K.contents err.new) (numbered before.now number behind.now)) }
-    ensures failed_prefix { OnErr result
-        (AppendsPrefix (K.contents err.old) (K.contents err.new) (numbered before.now number behind.now)) }
-    ensures failed_rose { OnErr result (Rose (K.fault_count err.old) (K.fault_count err.new)) }
-    ensures never_falls { K.fault_count err.old ≤ K.fault_count err.new }
-{
-    write_all(err, before)?;
-    write_decimal(err, number)?;
-    write_all(err, behind)
-}
-
-/// Writes a number in decimal.
-fn write_decimal<K: Sink>(err: &mut K, number: u64) -> Result<(), Failed>
-    ensures all { OnOk result
-        (Appends (K.contents err.old) (K.contents err.new) (decimal number)) }
-    ensures failed_prefix { OnErr result
-        (AppendsPrefix (K.contents err.old) (K.contents err.new) (decimal number)) }
-    ensures failed_rose { OnErr result (Rose (K.fault_count err.old) (K.fault_count err.new)) }
-    ensures never_falls { K.fault_count err.old ≤ K.fault_count err.new }
-{
-    let mut buffer = itoa::Buffer::new();
-    write_all(err, buffer.format(number).as_bytes())
 }
 
 /// How the line says what was due, with the colon before it and the newline.

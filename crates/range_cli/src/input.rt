@@ -1,20 +1,16 @@
-//! Reading the whole input into memory, up to the program's limit. A read may give any number of bytes, as read(2)
-//! does; the bytes that come are joined until a read gives none. A reader may rely on the result being all that the
+//! Reading the whole input into memory, up to the program's limit. A reader may rely on the result being all that the
 //! source had left.
 ghost use Rattle.std.specs.Prelude.{◌≤◌, length, IfOk, IfErr};
-ghost use Rattle.range_cli.specs.TraceReader.{Drains};
+ghost use Rattle.byte_ports.specs.Input.{Drains};
 ghost use Rattle.range_cli.specs.Endings.{EndsReading};
 ghost use Rattle.range_cli.specs.Status.{OrMemory};
 
 use crate::status::{EarlyEnd, Which};
-use byte_ports::Source;
+use byte_ports::{Source, Unread, read_all};
 use std::alloc::Global;
 
 /// How many bytes an input may have: 64 MiB.
 pub const INPUT_LIMIT: usize = 67_108_864;
-
-/// How many bytes one read asks for.
-const PIECE: usize = 32_768;
 
 /// Reads the input to its end.
 ///
@@ -26,23 +22,13 @@ pub fn read_input<S: Source>(alloc: Global, input: &mut S) -> Result<Vec<u8>, Ea
     ensures stopped { IfErr result (OrMemory (EndsReading (S.remaining input.old)
         (S.fault_count input.old) (S.fault_count input.new))) }
 {
-    let mut bytes = Vec::new(alloc);
-    let mut piece = [0u8; PIECE];
-    'pieces: loop {
-        let Ok(count) = input.read(&mut piece) else {
-            return Err(EarlyEnd::Failed);
-        };
-        if count == 0 {
-            return Ok(bytes);
-        }
-        if count > INPUT_LIMIT - bytes.len() {
-            return Err(EarlyEnd::Above {
-                which: Which::Input,
-                value: INPUT_LIMIT as u64 + 1,
-            });
-        }
-        if bytes.extend_from_slice(&piece[..count]).is_err() {
-            return Err(EarlyEnd::NoMemory);
-        }
+    match read_all(alloc, input, INPUT_LIMIT) {
+        Ok(bytes) => Ok(bytes),
+        Err(Unread::Failed) => Err(EarlyEnd::Failed),
+        Err(Unread::Long) => Err(EarlyEnd::Above {
+            which: Which::Input,
+            value: INPUT_LIMIT as u64 + 1,
+        }),
+        Err(Unread::Memory) => Err(EarlyEnd::NoMemory),
     }
 }
