@@ -14,25 +14,11 @@ ghost use Rattle.range_cli.specs.declared.trace.TheConstants.{LINES_LIMIT};
 use crate::dealing::deal_lines;
 use crate::trace::Line;
 use area_rows::Closed;
-use list_cuts::Cut;
 use space_model::PlainSpace;
 use std::alloc::{AllocError, Global};
 use std::sync::Wait;
 use std::thread::Threads;
-use trace_threads::{Gate, play_touched_trace, play_trace};
-
-/// How the pages are cut for the lists of the lock where so many workers play: into seven regions in blocks of 65,536
-/// pages for four workers or more, and otherwise not. Which is quicker was measured, and `docs/DECISIONS.md` has it;
-/// what is answered doesn't depend on it.
-fn cut_for(workers: u32) -> Cut {
-    if workers < 4 {
-        return Cut::one();
-    }
-    let Ok(cut) = Cut::of(7, 16) else {
-        unreachable!()
-    };
-    cut
-}
+use trace_threads::{Gate, cut_for, play_touched_trace, play_trace};
 
 /// Plays the lines from these areas on by so many workers, each its own in their order, and gives the whole history and
 /// the areas that are left. All memory is taken before the first call is played and in the closing of the space.

@@ -19,5 +19,5 @@ pub use laws::plays_are_collected;
 pub use playing::play_all;
 pub use touched::play_touched_trace;
 pub use touching::{TouchWorker, play_touching};
-pub use trace::play_trace;
+pub use trace::{cut_for, play_trace};
 pub use worker::{Line, Worker, is_send_and_sync};

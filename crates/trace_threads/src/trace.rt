@@ -19,6 +19,22 @@ use std::alloc::{AllocError, Global};
 use std::sync::Wait;
 use std::thread::Threads;
 
+/// How the pages are cut for the lists of a space's lock where so many workers play: into seven regions in blocks of
+/// 65,536 pages for four workers or more, and otherwise not. Which is quicker was measured, and `docs/DECISIONS.md` has
+/// it; what is answered doesn't depend on it.
+pub fn cut_for(workers: u32) -> Cut
+    ensures one { workers < 4 → result ≡ record { count = 1; bits = 62 } }
+    ensures several { 4 ≤ workers → result ≡ record { count = 7; bits = 16 } }
+{
+    if workers < 4 {
+        return Cut::one();
+    }
+    let Ok(cut) = Cut::of(7, 16) else {
+        unreachable!()
+    };
+    cut
+}
+
 /// How many lines each list has.
 fn counts(alloc: Global, lines: &[Vec<Line>]) -> Result<Vec<u32>, AllocError>
     requires { All (λ list. vec_len list < 2 ^ 32) lines.now }
