@@ -28,6 +28,7 @@ END {
         else if (match(what, /^4 callers /)) threads = 4
         else if (match(what, /^callers [0-9]+ beside/)) threads = substr(what, 9) + 0
         key = order[i]
-        printf "| %s | %s | %s | %s | %s | %s to %s |\n", part[1], what, threads, least[key], compared[key], least[key], most[key]
+        range = least[key] == most[key] ? "" : least[key] " to " most[key]
+        printf "| %s | %s | %s | %s | %s | %s |\n", part[1], what, threads, least[key], compared[key], range
     }
 }
