@@ -13,6 +13,7 @@ pub mod HeapEnds
 pub mod Remapping
 pub mod Remapped
 pub mod Judgements
+pub mod Looks
 pub mod OneAnswer
 pub mod SomeAnswer
 pub mod TwiceOnce

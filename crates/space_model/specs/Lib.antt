@@ -5,6 +5,7 @@ pub mod Sorts
 pub mod Places
 pub mod Answers
 pub mod Judges
+pub mod Looking
 pub mod Held
 pub mod History
 pub mod Building

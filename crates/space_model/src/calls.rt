@@ -6,6 +6,7 @@
 ghost use Rattle.std.specs.Prelude.{None, ◌≡◌};
 ghost use Rattle.page_types.specs.PlainReply.{plain_reply};
 ghost use Rattle.space_model.specs.Judges.{IsJudged};
+ghost use Rattle.space_model.specs.Looking.{TakesLooks};
 
 use crate::heap::judge_brk;
 use crate::judged::Judged;
@@ -21,6 +22,8 @@ pub fn judge<P: Pages>(pages: &P, hand: &mut P::Hand, call: &Call) -> Judged
     requires undecided { plain_reply call.now ≡ None }
     ensures judged { IsJudged (P.kinds pages.now hand.old) call.now result }
     ensures looked { P.looked pages.now hand.old hand.new }
+    ensures looks { TakesLooks (P.kinds pages.now hand.old) (P.reach pages.now hand.old) call.now (P.looks pages.now hand.old)
+        (P.looks pages.now hand.new) }
 {
     match *call {
         Call::Map {

@@ -2,11 +2,12 @@
 //! moves its end. What Linux remembers of a heap, each call says here, so nothing is kept between calls. A reader may
 //! rely on `Breaks` in `specs/`: it has no refusal, and where it finds no room its reply is the end as it was.
 
-ghost use Rattle.std.specs.Prelude.{Some, ◌≡◌, ◌≤◌, ◌↔◌, IsTrue, None};
+ghost use Rattle.std.specs.Prelude.{Some, ◌≡◌, ◌+◌, ◌≤◌, ◌↔◌, IsTrue, None};
 ghost use Rattle.page_types.specs.declared.calls.Call.TheVariants.{Brk};
 ghost use Rattle.page_types.specs.PlainReply.{brk_reply};
 ghost use Rattle.space_model.specs.Effect.{heap_kind};
 ghost use Rattle.space_model.specs.Judges.{IsJudged};
+ghost use Rattle.space_model.specs.Looking.{TakesLooks};
 ghost use Rattle.space_model.specs.Places.{HasRoom};
 
 use crate::judged::{Change, Judged};
@@ -33,6 +34,7 @@ pub(crate) fn has_room<P: Pages>(pages: &P, hand: &mut P::Hand, lo: u64, hi: u64
     requires ordered { lo ≤ hi }
     ensures room { IsTrue result ↔ HasRoom (P.kinds pages.now hand.old) lo hi }
     ensures looked { P.looked pages.now hand.old hand.new }
+    ensures looks { P.looks pages.now hand.new ≤ P.looks pages.now hand.old + P.reach pages.now hand.old lo hi }
 {
     if hi > LIMIT {
         return false;
@@ -63,6 +65,8 @@ pub(crate) fn judge_brk<P: Pages>(pages: &P, hand: &mut P::Hand, base: u64, addr
     requires undecided { brk_reply base ≡ None }
     ensures judged { IsJudged (P.kinds pages.now hand.old) (Brk base addr) result }
     ensures looked { P.looked pages.now hand.old hand.new }
+    ensures looks { TakesLooks (P.kinds pages.now hand.old) (P.reach pages.now hand.old) (Brk base addr) (P.looks pages.now hand.old)
+        (P.looks pages.now hand.new) }
 {
     let heap = heap_kind();
     let end = pages.end_of(hand, Sort::Unlike(Some(heap)), base / PAGE, LIMIT);

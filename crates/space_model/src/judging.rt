@@ -1,7 +1,8 @@
 //! A call, judged on pages, whichever way their kinds are kept: by the areas of a `PlainSpace`, or by row words that
 //! were read. Here are mmap(2), munmap(2), mprotect(2) and mseal(2), with this project's own choice of the highest
 //! place in a window, and a fault, with the codes of sigaction(2). A reader may rely on `IsJudged`: the reply is the
-//! one of the model, and what is left to ask is how many rows a change makes.
+//! one of the model, and what is left to ask is how many rows a change makes; and on `TakesLooks`: how many looks it
+//! took.
 
 ghost use Rattle.std.specs.Prelude.{ℕ, Option, None, IsTrue, IsFalse, Some, ◌↔◌, ◌*◌, ◌+◌, ◌≡◌, ◌<◌, ◌≤◌, ◌^◌, MatchOption};
 ghost use Rattle.page_types.specs.declared.TheConstants.{LIMIT};
@@ -17,6 +18,7 @@ ghost use Rattle.space_model.specs.Effect.{mapped_kind};
 ghost use Rattle.space_model.specs.Sorts.{NoneOf, IsLowest, IsEnd};
 ghost use Rattle.space_model.specs.Places.{FitsAt, IsHighestFit, window_of};
 ghost use Rattle.space_model.specs.Judges.{IsJudged};
+ghost use Rattle.space_model.specs.Looking.{TakesLooks};
 
 use crate::judged::{Change, Judged};
 use crate::paint::{Paint, Patch};
@@ -50,12 +52,26 @@ pub trait Pages {
     ghost same_kinds: { (pages : Self) (one two : Self.Hand) → may_look pages one → looked pages one two
         → may_look pages two × (kinds pages two ≡ kinds pages one) };
 
+    /// How many looks were made with a hand; always 0 where nobody counts them.
+    ghost looks: { Self → Self.Hand → ℕ };
+
+    /// How many looks it takes at most to find a page and to go through the pages from there up to another.
+    ghost reach: { Self → Self.Hand → ℕ → ℕ → ℕ };
+
+    /// A look leaves that as it was.
+    ghost same_reach: { (pages : Self) (one two : Self.Hand) → may_look pages one → looked pages one two → reach pages two ≡ reach pages one };
+
+    /// Pages among others take no more looks than these.
+    ghost reach_within: { (pages : Self) (hand : Self.Hand) (lo hi from to : ℕ) → from ≤ lo → hi ≤ to
+        → reach pages hand lo hi ≤ reach pages hand from to };
+
     /// The kind of a page, or None where it isn't mapped.
     fn kind_of(&self, hand: &mut Self::Hand, page: u64) -> Option<Kind>
         requires may { may_look self.now hand.old }
         requires page { page < LIMIT }
         ensures kind { result ≡ kinds self.now hand.old page }
-        ensures looked { looked self.now hand.old hand.new };
+        ensures looked { looked self.now hand.old hand.new }
+        ensures looks { looks self.now hand.new ≤ looks self.now hand.old + reach self.now hand.old page page };
 
     /// The lowest page of a sort of those from `lo` up to `hi`, or `hi` where there is none.
     fn end_of(&self, hand: &mut Self::Hand, sort: Sort, lo: u64, hi: u64) -> u64
@@ -63,7 +79,8 @@ pub trait Pages {
         requires ordered { lo ≤ hi }
         requires limit { hi ≤ LIMIT }
         ensures end { IsEnd (kinds self.now hand.old) sort lo hi result }
-        ensures looked { looked self.now hand.old hand.new };
+        ensures looked { looked self.now hand.old hand.new }
+        ensures looks { looks self.now hand.new ≤ looks self.now hand.old + reach self.now hand.old lo result };
 
     /// The highest start of so many free pages, at or above `LOWEST` and with the end at or below the page where the
     /// window ends.
@@ -74,7 +91,9 @@ pub trait Pages {
         requires few { pages < 2 ^ 62 }
         ensures fit { MatchOption result ((start : ℕ) → ¬ FitsAt (kinds self.now hand.old) window pages start)
             (IsHighestFit (kinds self.now hand.old) window pages) }
-        ensures looked { looked self.now hand.old hand.new };
+        ensures looked { looked self.now hand.old hand.new }
+        ensures looks { MatchOption result (looks self.now hand.new ≤ looks self.now hand.old + reach self.now hand.old 0 window)
+            (λ start. looks self.now hand.new ≤ looks self.now hand.old + reach self.now hand.old start window) };
 }
 
 /// The kind that a Map gives its pages.
@@ -110,6 +129,7 @@ pub(crate) fn lowest<P: Pages>(
     requires limit { hi ≤ LIMIT }
     ensures lowest { MatchOption result (NoneOf (P.kinds pages.now hand.old) sort lo hi) (IsLowest (P.kinds pages.now hand.old) sort lo hi) }
     ensures looked { P.looked pages.now hand.old hand.new }
+    ensures looks { P.looks pages.now hand.new ≤ P.looks pages.now hand.old + P.reach pages.now hand.old lo hi }
 {
     let end = pages.end_of(hand, sort, lo, hi);
     if end < hi { Some(end) } else { None }
@@ -128,6 +148,7 @@ pub(crate) fn fits_at<P: Pages>(
     requires end { start + count < 2 ^ 64 }
     ensures fits { IsTrue result ↔ FitsAt (P.kinds pages.now hand.old) window count start }
     ensures looked { P.looked pages.now hand.old hand.new }
+    ensures looks { P.looks pages.now hand.new ≤ P.looks pages.now hand.old + P.reach pages.now hand.old start (start + count) }
 {
     if start < LOWEST || start + count > window {
         return false;
@@ -184,6 +205,8 @@ pub(crate) fn judge_fixed<P: Pages>(
     requires fixed { IsTrue (is_fixed flags) }
     ensures judged { IsJudged (P.kinds pages.now hand.old) (Map addr len prot flags) result }
     ensures looked { P.looked pages.now hand.old hand.new }
+    ensures looks { TakesLooks (P.kinds pages.now hand.old) (P.reach pages.now hand.old) (Map addr len prot flags) (P.looks pages.now hand.old)
+        (P.looks pages.now hand.new) }
 {
     let hint = addr / PAGE;
     let count = page_count(len);
@@ -218,6 +241,8 @@ pub(crate) fn judge_hinted<P: Pages>(
     requires hint { IsFalse (is_fixed flags) }
     ensures judged { IsJudged (P.kinds pages.now hand.old) (Map addr len prot flags) result }
     ensures looked { P.looked pages.now hand.old hand.new }
+    ensures looks { TakesLooks (P.kinds pages.now hand.old) (P.reach pages.now hand.old) (Map addr len prot flags) (P.looks pages.now hand.old)
+        (P.looks pages.now hand.new) }
 {
     let hint = addr / PAGE;
     let count = page_count(len);
@@ -237,6 +262,8 @@ pub(crate) fn judge_unmap<P: Pages>(pages: &P, hand: &mut P::Hand, addr: u64, le
     requires undecided { unmap_reply addr len ≡ None }
     ensures judged { IsJudged (P.kinds pages.now hand.old) (Unmap addr len) result }
     ensures looked { P.looked pages.now hand.old hand.new }
+    ensures looks { TakesLooks (P.kinds pages.now hand.old) (P.reach pages.now hand.old) (Unmap addr len) (P.looks pages.now hand.old)
+        (P.looks pages.now hand.new) }
 {
     let gone = Span::of_valid(addr, len);
     match lowest(pages, hand, Sort::Sealed, gone.lo, gone.hi) {
@@ -257,6 +284,8 @@ pub(crate) fn judge_protect<P: Pages>(
     requires undecided { protect_reply addr len ≡ None }
     ensures judged { IsJudged (P.kinds pages.now hand.old) (Protect addr len prot) result }
     ensures looked { P.looked pages.now hand.old hand.new }
+    ensures looks { TakesLooks (P.kinds pages.now hand.old) (P.reach pages.now hand.old) (Protect addr len prot) (P.looks pages.now hand.old)
+        (P.looks pages.now hand.new) }
 {
     let span = Span::of_valid(addr, len);
     if let Some(page) = lowest(pages, hand, Sort::Missing, span.lo, span.hi) {
@@ -280,6 +309,8 @@ pub(crate) fn judge_seal<P: Pages>(
     requires undecided { seal_reply addr len flags ≡ None }
     ensures judged { IsJudged (P.kinds pages.now hand.old) (Seal addr len flags) result }
     ensures looked { P.looked pages.now hand.old hand.new }
+    ensures looks { TakesLooks (P.kinds pages.now hand.old) (P.reach pages.now hand.old) (Seal addr len flags) (P.looks pages.now hand.old)
+        (P.looks pages.now hand.new) }
 {
     let span = Span::of_valid(addr, len);
     match lowest(pages, hand, Sort::Missing, span.lo, span.hi) {
@@ -315,6 +346,8 @@ pub(crate) fn judge_fault<P: Pages>(
     requires undecided { plain_reply (Fault addr access) ≡ None }
     ensures judged { IsJudged (P.kinds pages.now hand.old) (Fault addr access) result }
     ensures looked { P.looked pages.now hand.old hand.new }
+    ensures looks { TakesLooks (P.kinds pages.now hand.old) (P.reach pages.now hand.old) (Fault addr access) (P.looks pages.now hand.old)
+        (P.looks pages.now hand.new) }
 {
     let page = addr / PAGE;
     Judged::Keeps(access_reply(pages.kind_of(hand, page), page, access))

@@ -242,6 +242,7 @@ impl PlainSpace {
 
 impl Pages for PlainSpace {
     ghost use Rattle.std.specs.Prelude.{refl};
+    ghost use Rattle.space_model.specs.Looking.{none_at_most};
 
     type Hand = ();
 
@@ -256,6 +257,14 @@ impl Pages for PlainSpace {
     ghost looks_on = { λ _ _ _ _ _ _. tt };
 
     ghost same_kinds = { λ _ _ _ _ _. (tt, refl) };
+
+    ghost looks = { λ _ _. 0 };
+
+    ghost reach = { λ _ _ _ _. 0 };
+
+    ghost same_reach = { λ _ _ _ _ _. refl };
+
+    ghost reach_within = { λ _ _ _ _ _ _ _ _. none_at_most };
 
     fn kind_of(&self, _hand: &mut (), page: u64) -> Option<Kind> {
         kind_of(self.areas.as_slice(), page)

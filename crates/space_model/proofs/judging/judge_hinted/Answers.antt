@@ -1,8 +1,10 @@
-use Rattle.std.proofs.Common.{ℕ, Option, ◌∙◌, sym, subst}
+use Rattle.std.proofs.Common.{ℕ, Option, ◌+◌, ◌∙◌, sym, subst}
 use Rattle.std.proofs.lemmas.Bool.{true≢false}
 use Rattle.page_types.specs.declared.calls.Kind.{Kind}
+use Rattle.page_types.specs.Pages.{page_of}
 use Rattle.space_model.specs.Places.{FitsAt, IsHighestFit}
 use Rattle.space_model.proofs.Judgements.{hinted_refused, hinted_placed}
+use Rattle.space_model.proofs.Looks.{looks_first, looks_hinted}
 use Rattle.space_model.proofs.judging.judge_hinted.Goals as goal
 
 -- where the hint doesn't fit, the pages are put as high as a second look finds that they fit in its window
@@ -40,3 +42,25 @@ pub returns-in-None-clause-looked : goal.returns-in-None-clause-looked
 returns-in-None-clause-looked g c =
     g.P.Pages.looks_on c.args.pages.now c.args.hand.now c.fits_at.new.hand c.highest_fit.new.hand c.fits_at.ensures.looked
     c.highest_fit.ensures.looked
+
+-- the looks are those at the hint, and those from the window's end down
+pub returns-in-Some-clause-looks : goal.returns-in-Some-clause-looks
+returns-in-Some-clause-looks g c = λ at stop.
+    let p = c.args.pages.now in
+    let hint = page_of c.args.addr in
+    looks_hinted c.highest_fit.new.hand c.args.addr c.args.len c.args.prot c.args.flags c.window_of-window.result c.page_count-count.result at
+    c.highest_fit.result c.requires.hint c.window_of-window.ensures.window c.page_count-count.ensures
+    (looks_first g.P.Pages p c.args.hand.now c.fits_at.new.hand (g.P.Pages.reach p c.args.hand.now hint (hint + c.page_count-count.result))
+    c.requires.may c.fits_at.ensures.looked c.fits_at.ensures.looks)
+    c.highest_fit.ensures.fit c.highest_fit.ensures.looks stop
+
+-- down to page 0 where there is no place
+pub returns-in-None-clause-looks : goal.returns-in-None-clause-looks
+returns-in-None-clause-looks g c = λ at stop.
+    let p = c.args.pages.now in
+    let hint = page_of c.args.addr in
+    looks_hinted c.highest_fit.new.hand c.args.addr c.args.len c.args.prot c.args.flags c.window_of-window.result c.page_count-count.result at
+    c.highest_fit.result c.requires.hint c.window_of-window.ensures.window c.page_count-count.ensures
+    (looks_first g.P.Pages p c.args.hand.now c.fits_at.new.hand (g.P.Pages.reach p c.args.hand.now hint (hint + c.page_count-count.result))
+    c.requires.may c.fits_at.ensures.looked c.fits_at.ensures.looks)
+    c.highest_fit.ensures.fit c.highest_fit.ensures.looks stop

@@ -1,10 +1,15 @@
 -- Its looks find the same kinds, so what they find bars the Remap, or bars nothing.
-use Rattle.std.proofs.Common.{◌∙◌, sym, ap, subst, arith, ℕ, Option}
+use Rattle.std.proofs.Common.{◌≤◌, ◌<◌, ◌+◌, ◌∙◌, inl, refl, sym, ap, subst, arith, ℕ, Bool, if◌then◌else◌, Option}
+use Rattle.std.proofs.lemmas.Bool.{lt-ltb}
+use Rattle.page_types.specs.declared.TheConstants.{LOW}
 use Rattle.page_types.specs.declared.calls.Kind.{Kind}
 use Rattle.page_types.specs.declared.calls.Call.TheVariants.{Remap}
-use Rattle.page_types.specs.Pages.{page_of}
+use Rattle.page_types.specs.Pages.{page_of, page_count, end_page}
 use Rattle.space_model.specs.Answers.{bars}
-use Rattle.space_model.specs.Sorts.{IsClear}
+use Rattle.space_model.specs.declared.sorts.Sort.TheVariants.{Unlike}
+use Rattle.space_model.specs.Sorts.{IsClear, IsLowest}
+use Rattle.space_model.specs.Looking.{MayStop, longer_looks}
+use Rattle.space_model.proofs.Looks.{looks_first, looks_then, looks_on}
 use Rattle.space_model.proofs.Remapping.{fewer_judged, remap_clear, sealed_refuses}
 use Rattle.space_model.proofs.moving.judge_remap.Goals as goal
 
@@ -93,3 +98,44 @@ returns-clause-looked g c =
     (g.P.Pages.looks_on p c.kind_of-kind.new.hand c.lowest.new.hand c.judge_longer.new.hand c.lowest.ensures.looked
     (g.P.Pages.looks_on p c.lowest.new.hand c.lowest-2.new.hand c.judge_longer.new.hand c.lowest-2.ensures.looked
     c.judge_longer.ensures.looked))
+
+-- a page that isn't of the first one's kind refuses the Remap
+pub returns-in-Some-clause-judged : goal.returns-in-Some-clause-judged
+returns-in-Some-clause-judged g c =
+    let p = c.args.pages.now in
+    let one = g.P.Pages.same_kinds p c.args.hand.now c.kind_of-kind.new.hand c.requires.may c.kind_of-kind.ensures.looked in
+    inl (inl (
+      c.in-Some.page,
+      subst (λ (z : (ℕ → Option Kind) × Option Kind × ℕ). IsLowest z.0 (Unlike z.1) (page_of c.args.addr) z.2 c.in-Some.page)
+          (λ i. (one.1 i, c.kind_of-kind.ensures.kind i, c.end_page-end.ensures i)) c.in-Some.ensures.lowest,
+      refl,
+    ))
+
+-- after two looks the hand may look again
+pub lowest-requires-2-clause-may : goal.lowest-requires-2-clause-may
+lowest-requires-2-clause-may g c =
+    let p = c.args.pages.now in
+    let one = g.P.Pages.same_kinds p c.args.hand.now c.kind_of-kind.new.hand c.requires.may c.kind_of-kind.ensures.looked in
+    (g.P.Pages.same_kinds p c.kind_of-kind.new.hand c.lowest.new.hand one.0 c.lowest.ensures.looked).0
+
+-- the looks are those for the kind, two searches over the old pages, and those for pages that are to be more
+pub returns-clause-looks : goal.returns-clause-looks
+returns-clause-looks g c = λ at stop.
+    let p = c.args.pages.now in
+    let hand = c.args.hand.now in
+    let a = page_of c.args.addr in
+    let reach = g.P.Pages.reach p hand in
+    let end = c.end_page-end.result in
+    let one = looks_first g.P.Pages p hand c.kind_of-kind.new.hand (reach a a) c.requires.may c.kind_of-kind.ensures.looked c.kind_of-kind.ensures.looks in
+    let two = looks_on c.lowest.new.hand a end one c.lowest.ensures.looked c.lowest.ensures.looks in
+    let three = looks_on c.lowest-2.new.hand a end two c.lowest-2.ensures.looked c.lowest-2.ensures.looks in
+    let more : page_count c.args.old_len < page_count c.args.new_len =
+    omega (arith, c.if-count-page_count.false, c.page_count.ensures, c.page_count-count.ensures) in
+    let longer = λ (r : ℕ → ℕ → ℕ).
+    longer_looks r a (end_page c.args.addr c.args.old_len) (page_count c.args.new_len) c.args.may_move (page_of c.args.hint) at in
+    subst (λ (z : ℕ × Bool).
+    g.P.Pages.looks p c.judge_longer.new.hand ≤
+    g.P.Pages.looks p hand + (reach a a + reach a z.0 + reach a z.0 + (if z.1 then longer reach else 0)))
+    (λ i. (c.end_page-end.ensures i, sym (lt-ltb (page_count c.args.old_len) (page_count c.args.new_len) more) i))
+    (looks_then c.judge_longer.new.hand longer three
+    (c.judge_longer.ensures.looks at (subst (λ (k : ℕ → Option Kind). MayStop k LOW (page_count c.args.new_len) at) (sym three.same) stop)))

@@ -1,9 +1,11 @@
-use Rattle.std.proofs.Common.{◌+◌, ◌&&◌, ◌==◌, not, ◌∙◌, sym, subst, refl, inl, ℕ, Option, MatchOption}
+use Rattle.std.proofs.Common.{◌+◌, ◌≤◌, Bool, if◌then◌else◌, ◌&&◌, ◌==◌, not, ◌∙◌, sym, subst, refl, inl, ℕ, Option, MatchOption}
 use Rattle.std.proofs.lemmas.Bool.{true≢false}
 use Rattle.page_types.specs.declared.TheConstants.{LOW}
 use Rattle.page_types.specs.declared.calls.Kind.{Kind}
 use Rattle.page_types.specs.Pages.{page_of, is_aligned}
 use Rattle.space_model.specs.Places.{FitsAt, IsHighestFit, HasRoom}
+use Rattle.space_model.specs.Looking.{hint_looks}
+use Rattle.space_model.proofs.Looks.{looks_first, looks_on, looks_down_then}
 use Rattle.space_model.proofs.Remapping.{at_hint, past_hint, found_last}
 use Rattle.space_model.proofs.moving.remap_place.Goals as goal
 
@@ -64,3 +66,25 @@ pub returns-clause-looked : goal.returns-clause-looked
 returns-clause-looked g c =
     g.P.Pages.looks_on c.args.pages.now c.args.hand.now c.goes_to_hint.new.hand c.has_room.new.hand c.goes_to_hint.ensures.looked
     c.has_room.ensures.looked
+
+-- after two looks the hand may look again
+pub highest_fit-requires-clause-may : goal.highest_fit-requires-clause-may
+highest_fit-requires-clause-may g c =
+    let p = c.args.pages.now in
+    let one = g.P.Pages.same_kinds p c.args.hand.now c.goes_to_hint.new.hand c.requires.may c.goes_to_hint.ensures.looked in
+    (g.P.Pages.same_kinds p c.goes_to_hint.new.hand c.has_room.new.hand one.0 c.has_room.ensures.looked).0
+
+-- the looks are those at the hint, those behind the pages, and those from the low window's end down
+pub returns-then-may_move-clause-looks : goal.returns-then-may_move-clause-looks
+returns-then-may_move-clause-looks g c = λ at stop.
+    let p = c.args.pages.now in
+    let hand = c.args.hand.now in
+    let reach = g.P.Pages.reach p hand in
+    let at_hint = hint_looks reach c.args.count c.args.may_move (page_of c.args.hint) in
+    let one = looks_first g.P.Pages p hand c.goes_to_hint.new.hand at_hint c.requires.may c.goes_to_hint.ensures.looked c.goes_to_hint.ensures.looks in
+    let two = looks_on c.has_room.new.hand c.args.end (c.args.lo + c.args.count) one c.has_room.ensures.looked c.has_room.ensures.looks in
+    subst (λ (b : Bool).
+    g.P.Pages.looks p c.highest_fit.new.hand ≤
+    g.P.Pages.looks p hand + (at_hint + reach c.args.end (c.args.lo + c.args.count) + (if b then reach at LOW else 0)))
+    (sym c.if-may_move.true)
+    (looks_down_then c.highest_fit.new.hand LOW c.args.count at c.highest_fit.result two c.highest_fit.ensures.fit c.highest_fit.ensures.looks stop)
