@@ -1,6 +1,7 @@
 pub mod ReadBack
 pub mod RowLists
 pub mod RowPages
+pub mod RowsBetween
 pub mod OneList
 pub mod PutRows
 pub mod Splices

@@ -222,7 +222,8 @@ starts_rise page (w ∷ rest) kinds show zero (suc j) d l h =
 starts_rise page (w ∷ rest) kinds show (suc i) zero d l h = absurd (omega arith)
 starts_rise page (w ∷ rest) kinds show (suc i) (suc j) d l h = starts_rise (rows_start rest) rest kinds show.4 i j d (omega arith) (omega arith)
 
-starts_up : (rows : List ℕ) (kinds : ℕ → Option Kind) (i n : ℕ) → ShowFrom 0 rows kinds
+-- nor those of more rows before it
+pub starts_up : (rows : List ℕ) (kinds : ℕ → Option Kind) (i n : ℕ) → ShowFrom 0 rows kinds
     → rows_start (drop i rows) ≤ rows_start (drop (i + n) rows)
 starts_up rows kinds i zero show =
     let e : i + 0 ≡ i = omega arith in

@@ -2,3 +2,4 @@ pub mod RowWords
 pub mod RowLists
 pub mod Plans
 pub mod Planning
+pub mod Loads

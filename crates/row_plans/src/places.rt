@@ -12,6 +12,7 @@ ghost use Rattle.space_model.specs.Places.{FitsAt, IsHighestFit};
 ghost use Rattle.row_plans.specs.RowWords.{row_start, row_kind};
 ghost use Rattle.row_plans.specs.RowLists.{rows_start, areas_from};
 ghost use Rattle.row_plans.specs.Plans.{IsPlaceOf};
+ghost use Rattle.row_plans.specs.Loads.{search_loads, search_within};
 
 use crate::row_words::read_row;
 use crate::rows::Rows;
@@ -40,6 +41,14 @@ impl<'a, R: Rows> Pages for RowPages<'a, R> {
 
     ghost same_kinds = { λ pages one two may loaded.
         ((R.same_words pages.rows.now one two may loaded).0, λ i. kind_at (areas_from ((R.same_words pages.rows.now one two may loaded).1 i))) };
+
+    ghost looks = { λ pages hand. R.steps pages.rows.now hand };
+
+    ghost reach = { λ pages hand. search_loads (R.words pages.rows.now hand) };
+
+    ghost same_reach = { λ pages one two may loaded. λ i. search_loads ((R.same_words pages.rows.now one two may loaded).1 i) };
+
+    ghost reach_within = { λ pages hand. search_within (R.words pages.rows.now hand) };
 
     fn kind_of(&self, hand: &mut R::Hand, page: u64) -> Option<Kind> {
         let rows = self.rows;
@@ -71,6 +80,7 @@ pub(crate) fn row_behind<R: Rows>(rows: &R, hand: &mut R::Hand, at: R::Place) ->
     ensures next { IsPlaceOf (R.words rows.now hand.old) (R.number rows.now hand.old) (R.number rows.now hand.old at + 1) result.next }
     ensures end { result.end ≡ rows_start (drop (R.number rows.now hand.old at + 1) (R.words rows.now hand.old)) }
     ensures loaded { R.loaded rows.now hand.old hand.new }
+    ensures steps { R.steps rows.now hand.new ≤ R.steps rows.now hand.old + 4 }
 {
     let Some(next) = rows.next(hand, at) else {
         return Behind {
@@ -91,6 +101,7 @@ fn kind_of<R: Rows>(rows: &R, hand: &mut R::Hand, page: u64) -> Option<Kind>
     requires page { page < LIMIT }
     ensures kind { result ≡ kind_at (areas_from (R.words rows.now hand.old)) page }
     ensures loaded { R.loaded rows.now hand.old hand.new }
+    ensures steps { R.steps rows.now hand.new ≤ R.steps rows.now hand.old + 20 }
 {
     let row = rows.find(hand, page);
     let (_, kind) = read_row(row.word);
@@ -105,6 +116,7 @@ fn end_of<R: Rows>(rows: &R, hand: &mut R::Hand, sort: Sort, lo: u64, hi: u64) -
     requires limit { hi ≤ LIMIT }
     ensures end { IsEnd (kind_at (areas_from (R.words rows.now hand.old))) sort lo hi result }
     ensures loaded { R.loaded rows.now hand.old hand.new }
+    ensures steps { R.steps rows.now hand.new ≤ R.steps rows.now hand.old + search_loads (R.words rows.now hand.old) lo result }
 {
     if lo == hi {
         return hi;
@@ -155,6 +167,9 @@ fn highest_fit<R: Rows>(rows: &R, hand: &mut R::Hand, window: u64, pages: u64) -
     ensures fit { MatchOption result ((start : ℕ) → ¬ FitsAt (kind_at (areas_from (R.words rows.now hand.old))) window pages start)
         (IsHighestFit (kind_at (areas_from (R.words rows.now hand.old))) window pages) }
     ensures loaded { R.loaded rows.now hand.old hand.new }
+    ensures steps { MatchOption result
+        (R.steps rows.now hand.new ≤ R.steps rows.now hand.old + search_loads (R.words rows.now hand.old) 0 window)
+        (λ start. R.steps rows.now hand.new ≤ R.steps rows.now hand.old + search_loads (R.words rows.now hand.old) start window) }
 {
     if window == 0 {
         return None;

@@ -8,10 +8,12 @@ ghost use Rattle.page_types.specs.declared.calls.Reply.TheVariants.{Refused};
 ghost use Rattle.page_types.specs.declared.calls.Why.{Why};
 ghost use Rattle.page_types.specs.Named.{IsNamedCall};
 ghost use Rattle.space_model.specs.Effect.{AreRising};
+ghost use Rattle.space_model.specs.Cutting.{last_end};
 ghost use Rattle.space_model.specs.Judges.{IsNamedChange, patches_of};
 ghost use Rattle.row_plans.specs.RowLists.{areas_from};
 ghost use Rattle.row_plans.specs.Plans.{spliced, IsPlan, ChangesPages, LeavesRows};
 ghost use Rattle.row_plans.specs.Planning.{IsMade};
+ghost use Rattle.row_plans.specs.Loads.{TakesLoads, change_loads};
 
 use crate::places::RowPages;
 use crate::planning::{Cut, plan_change};
@@ -66,6 +68,8 @@ fn changed<R: Rows>(
     ensures changes { LeavesRows result.cut new.new.items ⊎ (result.reply ≡ change.reply) }
     ensures room { vec_capacity new.old ≤ vec_capacity new.new }
     ensures loaded { R.loaded old.now hand.old hand.new }
+    ensures steps { R.steps old.now hand.new ≤ R.steps old.now hand.old
+        + change_loads (R.words old.now hand.old) change.first.lo (last_end 0 (patches_of change)) }
 {
     let count = old.count();
     let cut = plan_change(old, hand, change, new);
@@ -104,6 +108,7 @@ pub fn plan_rows<R: Rows>(
     ensures refused { (why : Why) → result.reply ≡ Refused why → LeavesRows result.cut new.new.items }
     ensures room { vec_capacity new.old ≤ vec_capacity new.new }
     ensures loaded { R.loaded old.now hand.old hand.new }
+    ensures loads { TakesLoads (R.words old.now hand.old) call.now (R.steps old.now hand.old) (R.steps old.now hand.new) }
 {
     if let Some(reply) = plain(call) {
         return unchanged(old.first(), old.count(), reply, new);

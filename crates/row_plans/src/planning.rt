@@ -9,10 +9,12 @@ ghost use Rattle.page_types.specs.declared.TheConstants.{LIMIT};
 ghost use Rattle.page_types.specs.Named.{IsNamedOption};
 ghost use Rattle.space_model.specs.Starts.{same_option};
 ghost use Rattle.space_model.specs.Effect.{painted, patched, AreRising};
+ghost use Rattle.space_model.specs.Cutting.{last_end};
 ghost use Rattle.space_model.specs.Judges.{IsNamedPaint, AreNamedPaints, patches_of};
 ghost use Rattle.row_plans.specs.RowLists.{rows_start, ShowFrom, IsBareGap};
 ghost use Rattle.row_plans.specs.RowWords.{row_kind};
 ghost use Rattle.row_plans.specs.Plans.{spliced, IsPlaceOf};
+ghost use Rattle.row_plans.specs.Loads.{change_loads};
 ghost use Rattle.row_plans.specs.Planning.{ends_with, put, ShowTo, part_left, repainted, IsNamedRepaint, GoesOn, come_to, IsCome};
 
 use crate::places::row_behind;
@@ -155,6 +157,7 @@ fn begin<R: Rows>(rows: &mut Vec<u64>, old: &R, hand: &mut R::Hand, page: u64) -
     ensures items { rows.new.items ≡ take result.gone (drop (R.number old.now hand.old result.at) (R.words old.now hand.old)) }
     ensures room { vec_capacity rows.old ≤ vec_capacity rows.new }
     ensures loaded { R.loaded old.now hand.old hand.new }
+    ensures steps { R.steps old.now hand.new ≤ R.steps old.now hand.old + 22 * result.gone }
 {
     if page == 0 {
         let first = old.first();
@@ -190,6 +193,7 @@ fn go_on<R: Rows>(old: &R, hand: &mut R::Hand, come: Come<R::Place>) -> Come<R::
     ensures next { IsPlaceOf (R.words old.now hand.old) (R.number old.now hand.old) (come_to (R.number old.now hand.old) come + 1) result.next }
     ensures end { result.end ≡ rows_start (drop (come_to (R.number old.now hand.old) come + 1) (R.words old.now hand.old)) }
     ensures loaded { R.loaded old.now hand.old hand.new }
+    ensures steps { R.steps old.now hand.new ≤ R.steps old.now hand.old + 6 }
 {
     let Some(next) = come.next else {
         unreachable!()
@@ -231,6 +235,7 @@ fn put_to<R: Rows>(
         → ((p : ℕ) → pages.from ≤ p → p < pages.to → others p ≡ repainted pages.paint (kinds p))
         → ShowTo from rows.old.items pages.from others → ShowTo from rows.new.items pages.to others }
     ensures loaded { R.loaded old.now hand.old hand.new }
+    ensures steps { R.steps old.now hand.new + 6 * come.gone ≤ R.steps old.now hand.old + 6 * result.gone }
 {
     let end = come.end.min(pages.to);
     put_part(rows, pages.from, end, repainted(pages.paint, come.kind));
@@ -269,6 +274,7 @@ fn join_on<R: Rows>(
         → ShowTo from rows.new.items (rows_start (drop (R.number old.now hand.old come.at + result) (R.words old.now hand.old))) others }
     ensures differs { GoesOn rows.new.items (drop (R.number old.now hand.old come.at + result) (R.words old.now hand.old)) }
     ensures loaded { R.loaded old.now hand.old hand.new }
+    ensures steps { R.steps old.now hand.new ≤ R.steps old.now hand.old + 2 }
 {
     put_part(rows, to, come.end, come.kind);
     if let Some(next) = come.next {
@@ -299,6 +305,8 @@ pub(crate) fn plan_change<R: Rows>(
     ensures shows { (kinds : ℕ → Option Kind) → ShowFrom 0 (R.words old.now hand.old) kinds
         → ShowFrom 0 (spliced (R.number old.now hand.old) (R.words old.now hand.old) result rows.new.items) (patched (patches_of change) kinds) }
     ensures loaded { R.loaded old.now hand.old hand.new }
+    ensures steps { R.steps old.now hand.new ≤ R.steps old.now hand.old
+        + change_loads (R.words old.now hand.old) change.first.lo (last_end 0 (patches_of change)) }
 {
     rows.clear();
     let first = change.first;

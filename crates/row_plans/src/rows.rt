@@ -56,6 +56,9 @@ pub trait Rows {
     /// The words are a list of rows.
     ghost are_rows: { (rows : Self) (hand : Self.Hand) → may_load rows hand → IsRowList (words rows hand) };
 
+    /// How many words were loaded with a hand; always 0 where nobody counts them.
+    ghost steps: { Self → Self.Hand → ℕ };
+
     /// How many rows there are.
     fn count(&self) -> u32
         ensures { (hand : Self.Hand) → may_load self.now hand → result ≡ length (words self.now hand) };
@@ -73,21 +76,24 @@ pub trait Rows {
         ensures end { result.end ≡ rows_start (drop (number self.now hand.old result.at + 1) (words self.now hand.old)) }
         ensures from { row_start result.word ≤ page }
         ensures until { page < result.end }
-        ensures loaded { loaded self.now hand.old hand.new };
+        ensures loaded { loaded self.now hand.old hand.new }
+        ensures steps { steps self.now hand.new ≤ steps self.now hand.old + 20 };
 
     /// The word of the row at a place.
     fn load(&self, hand: &mut Self::Hand, at: Self::Place) -> u64
         requires may { may_load self.now hand.old }
         requires there { number self.now hand.old at < length (words self.now hand.old) }
         ensures word { result ≡ slice_index (words self.now hand.old) (number self.now hand.old at) }
-        ensures loaded { loaded self.now hand.old hand.new };
+        ensures loaded { loaded self.now hand.old hand.new }
+        ensures steps { steps self.now hand.new ≤ steps self.now hand.old + 2 };
 
     /// The place of the row behind, or None behind the last row.
     fn next(&self, hand: &mut Self::Hand, at: Self::Place) -> Option<Self::Place>
         requires may { may_load self.now hand.old }
         requires there { number self.now hand.old at < length (words self.now hand.old) }
         ensures next { IsPlaceOf (words self.now hand.old) (number self.now hand.old) (number self.now hand.old at + 1) result }
-        ensures loaded { loaded self.now hand.old hand.new };
+        ensures loaded { loaded self.now hand.old hand.new }
+        ensures steps { steps self.now hand.new ≤ steps self.now hand.old + 2 };
 
     /// The place of the row before, where there is one.
     fn previous(&self, hand: &mut Self::Hand, at: Self::Place) -> Self::Place
@@ -95,5 +101,6 @@ pub trait Rows {
         requires there { number self.now hand.old at < length (words self.now hand.old) }
         requires less { 0 < number self.now hand.old at }
         ensures previous { number self.now hand.old result + 1 ≡ number self.now hand.old at }
-        ensures loaded { loaded self.now hand.old hand.new };
+        ensures loaded { loaded self.now hand.old hand.new }
+        ensures steps { steps self.now hand.new ≤ steps self.now hand.old + 1 };
 }

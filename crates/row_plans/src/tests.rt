@@ -98,6 +98,8 @@ impl<'a> Rows for ReadRows<'a> {
 
     ghost are_rows = { λ _ _ may. may };
 
+    ghost steps = { λ _ _. 0 };
+
     fn count(&self) -> u32 {
         self.rows.len() as u32
     }

@@ -1,10 +1,12 @@
-use Rattle.std.proofs.Common.{rules, ℕ, ◌≡◌, ◌+◌, ◌<◌, ◌≤◌, drop, length, get_or, refl, sym, ap, subst, ◌∙◌, arith}
+use Rattle.std.proofs.Common.{rules, ℕ, ◌≡◌, ◌+◌, ◌*◌, ◌<◌, ◌≤◌, min, drop, length, get_or, refl, sym, ap, subst, ◌∙◌, arith}
 use Rattle.std.specs.Prelude.{Some, slice_index}
 use Rattle.space_model.specs.Areas.{kind_at}
 use Rattle.space_model.specs.Sorts.{NoneOf}
 use Rattle.row_plans.specs.RowWords.{row_start, row_kind}
 use Rattle.row_plans.specs.RowLists.{rows_start, areas_from}
 use Rattle.row_plans.specs.Plans.{IsPlaceOf}
+use Rattle.row_plans.specs.Loads.{rows_between, between_within}
+use Rattle.row_plans.proofs.RowsBetween.{more_up}
 use Rattle.row_plans.proofs.RowPages.{RowPages, row_pages, next_start, none_yet, none_more, end_here, end_passed}
 use Rattle.row_plans.proofs.Loading.{HasLoaded, loads_first, loads_on, as_before}
 use Rattle.row_plans.proofs.places.end_of.Given.{Over}
@@ -107,6 +109,7 @@ rows-init g c =
           none_more words kinds c.args.sort c.args.lo at (row_start c.find-row.result.word) c.find-row.result.end c.read_row-kind.result.1 (first g h)
           (search rules) (first_none g h);
       reach = subst (λ (x : ℕ). c.args.lo < x) found.end found.until;
+      few = let loads = found.steps in omega arith;
     }
 
 -- no page of the sort lies before that row, by what the turns before have found
@@ -121,6 +124,22 @@ none_here g c =
       subst (λ (n : ℕ). c.args.lo < rows_start (drop n words)) e inv.reach,
     )
 
+-- four loads for each row that was passed, and for this one
+loads_here : (g : Over) (c : After-read_row-start g) → let words = g.R.Rows.words c.args.rows.now c.args.hand.now in
+    let i = g.R.Rows.number c.args.rows.now c.args.hand.now c.in-Some.next in
+    g.R.Rows.steps c.args.rows.now c.load.new.hand ≤ g.R.Rows.steps c.args.rows.now c.args.hand.now + 24
+    + 4 * rows_between words c.args.lo (min c.args.hi (rows_start (drop i words)))
+loads_here g c =
+    let words = g.R.Rows.words c.args.rows.now c.args.hand.now in
+    let steps = g.R.Rows.steps c.args.rows.now in
+    let so_far : steps c.rows.hand ≤ steps c.args.hand.now + 20
+    + 4 * rows_between words c.args.lo (min c.args.hi (rows_start (drop (g.R.Rows.number c.args.rows.now c.args.hand.now c.in-Some.next) words))) =
+    subst (λ (n : ℕ). steps c.rows.hand ≤ steps c.args.hand.now + 20
+    + 4 * rows_between words c.args.lo (min c.args.hi (rows_start (drop n words)))) (row g c).0 c.rows.invariant.few in
+    let next = c.next.ensures.steps in
+    let load = c.load.ensures.steps in
+    omega arith
+
 -- where it starts at `hi` or behind it, the search ends there
 pub returns-then-start-hi-clause-end : goal.returns-then-start-hi-clause-end
 returns-then-start-hi-clause-end g c =
@@ -134,6 +153,15 @@ returns-then-start-hi-clause-end g c =
 -- by loads that are one
 pub returns-then-start-hi-clause-loaded : goal.returns-then-start-hi-clause-loaded
 returns-then-start-hi-clause-loaded g c = (row g (goal.at.returns-then-start-hi-clause-loaded g c).After-read_row-start).3.loaded
+
+-- no row more starts before `hi`
+pub returns-then-start-hi-clause-steps : goal.returns-then-start-hi-clause-steps
+returns-then-start-hi-clause-steps g c =
+    let words = g.R.Rows.words c.args.rows.now c.args.hand.now in
+    let start = rows_start (drop (g.R.Rows.number c.args.rows.now c.args.hand.now c.in-Some.next) words) in
+    let all = loads_here g (goal.at.returns-then-start-hi-clause-steps g c).After-read_row-start in
+    let within = between_within words c.args.lo (min c.args.hi start) c.args.lo c.args.hi (omega arith) (omega arith) in
+    omega arith
 
 -- where it is of the sort, its first page is the lowest one
 pub returns-then-is_sort-2-clause-end : goal.returns-then-is_sort-2-clause-end
@@ -154,6 +182,17 @@ returns-then-is_sort-2-clause-end g c =
 pub returns-then-is_sort-2-clause-loaded : goal.returns-then-is_sort-2-clause-loaded
 returns-then-is_sort-2-clause-loaded g c = (row g (goal.at.returns-then-is_sort-2-clause-loaded g c).After-read_row-start).3.loaded
 
+-- no row more starts before it
+pub returns-then-is_sort-2-clause-steps : goal.returns-then-is_sort-2-clause-steps
+returns-then-is_sort-2-clause-steps g c =
+    let h = (goal.at.returns-then-is_sort-2-clause-steps g c).After-read_row-start in
+    let words = g.R.Rows.words c.args.rows.now c.args.hand.now in
+    let start = rows_start (drop (g.R.Rows.number c.args.rows.now c.args.hand.now c.in-Some.next) words) in
+    let begins = (row g h).2.begins in
+    let all = loads_here g h in
+    let within = between_within words c.args.lo (min c.args.hi start) c.args.lo c.read_row-start.result.0 (omega arith) (omega arith) in
+    omega arith
+
 -- where it isn't, none lies before the row behind it
 pub rows-preserved : goal.rows-preserved
 rows-preserved g c =
@@ -172,4 +211,10 @@ rows-preserved g c =
           none_more words kinds c.args.sort c.args.lo i c.read_row-start.result.0 (rows_start (drop (i + 1) words)) c.read_row-start.result.1 r.2
           (search rules) (none_here g h).0;
       reach = omega arith;
+      few =
+          let begins = r.2.begins in
+          let some = r.2.some in
+          let below = c.if-start-hi.false in
+          let all = loads_here g h in
+          let more = more_up words i c.args.lo c.args.hi r.1 reach (omega arith) (omega arith) in omega arith;
     }

@@ -4,7 +4,9 @@ use Rattle.page_types.specs.declared.calls.Kind.{Kind}
 use Rattle.space_model.specs.Areas.{kind_at}
 use Rattle.row_plans.specs.RowWords.{row_start, row_kind}
 use Rattle.row_plans.specs.RowLists.{rows_start, ShowFrom, areas_from}
-use Rattle.row_plans.proofs.RowPages.{RowPages, row_pages, row_before, not_first, ends_before, ends_here, no_place}
+use Rattle.row_plans.proofs.RowPages.{RowPages, row_pages, row_before, rows_apart, not_first, ends_before, ends_here, no_place}
+use Rattle.row_plans.proofs.RowsBetween.{more_down}
+use Rattle.row_plans.specs.Loads.{between_within}
 use Rattle.row_plans.proofs.Loading.{loads_first, loads_on, as_before, as_behind}
 use Rattle.row_plans.proofs.places.highest_fit.Given.{Over}
 use Rattle.row_plans.proofs.places.highest_fit.Goals.{After-read_row-start}
@@ -44,6 +46,8 @@ rows-init g c =
       word_is = found.word;
       end_is = found.end;
       ended = λ s f. let h = f.high in omega arith;
+      low = let from = found.from in let some = c.if-window-eq0.false in omega arith;
+      few = let loads = found.steps in omega arith;
     }
 
 -- the row that was loaded starts at or below LIMIT
@@ -60,6 +64,18 @@ returns-then-fits_in-clause-fit g c =
     ends_here (kind_at (areas_from (g.R.Rows.words c.args.rows.now c.args.hand.now))) c.args.window c.args.pages c.read_row-start.result.0
     c.rows.end c.min-top.result c.read_row-start.result.1 r.0.all r.1 c.requires.some r.0.some c.min-top.ensures c.rows.invariant.ended fit.0 fit.1
 
+-- the rows that were passed start behind that place
+pub returns-then-fits_in-clause-steps : goal.returns-then-fits_in-clause-steps
+returns-then-fits_in-clause-steps g c =
+    let words = g.R.Rows.words c.args.rows.now c.args.hand.now in
+    let yes_fit : IsTrue c.fits_in.result = search rules in
+    let fits = (c.fits_in.ensures.fit yes_fit).1 in
+    let top = c.min-top.ensures in
+    let some = c.requires.some in
+    let all = c.rows.invariant.few in
+    let within = between_within words (c.rows.end - 1) c.args.window (c.min-top.result - c.args.pages) c.args.window (omega arith) (omega arith) in
+    omega arith
+
 -- where they don't, and the row is the first one, there is no place
 pub returns-then-start-eq0-clause-fit : goal.returns-then-start-eq0-clause-fit
 returns-then-start-eq0-clause-fit g c =
@@ -70,6 +86,14 @@ returns-then-start-eq0-clause-fit g c =
     no_place kinds c.args.window c.args.pages c.read_row-start.result.0 c.requires.some none
     (ends_before kinds c.args.window c.args.pages c.read_row-start.result.0 c.rows.end c.min-top.result c.read_row-start.result.1 r.0.all r.1
     c.requires.some r.0.some c.min-top.ensures c.rows.invariant.ended (c.fits_in.ensures.no_fit not_fit))
+
+-- and the rows that were passed start behind page 0
+pub returns-then-start-eq0-clause-steps : goal.returns-then-start-eq0-clause-steps
+returns-then-start-eq0-clause-steps g c =
+    let words = g.R.Rows.words c.args.rows.now c.args.hand.now in
+    let all = c.rows.invariant.few in
+    let within = between_within words (c.rows.end - 1) c.args.window 0 c.args.window (omega arith) (omega arith) in
+    omega arith
 
 -- a row that starts behind page 0 has one before it
 pub previous-at-requires-clause-less : goal.previous-at-requires-clause-less
@@ -101,12 +125,31 @@ rows-preserved g c =
     let at : number c.previous-at.result + 1 ≡ number c.rows.at = as_before (λ l n. n c.previous-at.result + 1 ≡ n c.rows.at) now
     c.previous-at.ensures.previous in
     let not_fit : IsFalse c.fits_in.result = search rules in
+    let show = (g.R.Rows.are_rows rows hand c.requires.may).show in
+    let word = as_before (λ l n. c.load-word.result ≡ slice_index l (n c.previous-at.result)) then c.load-word.ensures.word in
+    let start = c.read_row-start.ensures.start in
     record {
       loaded = (loads_on _ then c.load-word.ensures.loaded).loaded;
       there = omega arith;
-      word_is = as_before (λ l n. c.load-word.result ≡ slice_index l (n c.previous-at.result)) then c.load-word.ensures.word;
+      word_is = word;
       end_is = sym r.0.begins ∙ ap (λ n. rows_start (drop n words)) (sym at);
       ended =
           ends_before (kind_at (areas_from words)) c.args.window c.args.pages c.read_row-start.result.0 c.rows.end c.min-top.result
           c.read_row-start.result.1 r.0.all r.1 c.requires.some r.0.some c.min-top.ensures inv.ended (c.fits_in.ensures.no_fit not_fit);
+      low =
+          let own = ap row_start word in
+          let now_low = inv.low in
+          let here = ap row_start inv.word_is in
+          let apart = rows_apart words (kind_at (areas_from words)) (number c.previous-at.result) (number c.rows.at) show (omega arith) inv.there in
+          omega arith;
+      few =
+          let later = c.if-start-eq0.false in
+          let up = r.0.some in
+          let now_low = inv.low in
+          let before = inv.few in
+          let previous = c.previous-at.ensures.steps in
+          let load = c.load-word.ensures.steps in
+          let more = more_down words (number c.rows.at) c.read_row-start.result.0 c.rows.end c.args.window inv.there
+          (start ∙ ap row_start inv.word_is) (omega arith) up (omega arith) in
+          omega arith;
     }

@@ -1,10 +1,15 @@
-use Rattle.std.proofs.Common.{rules, ◌≡◌, ◌∙◌, length, sym, ap, arith}
+use Rattle.std.proofs.Common.{rules, ◌≡◌, ◌≤◌, ◌+◌, ◌∙◌, length, refl, sym, ap, arith}
 use Rattle.std.specs.Prelude.{None, Some, List, ℕ}
 use Rattle.page_types.specs.PlainReply.{plain_reply}
+use Rattle.space_model.specs.declared.judged.Judged.TheVariants.{Refused, Keeps, Changes}
 use Rattle.space_model.specs.Areas.{kind_at}
+use Rattle.space_model.specs.Cutting.{last_end}
+use Rattle.space_model.specs.Judges.{patches_of}
 use Rattle.row_plans.specs.RowLists.{areas_from}
 use Rattle.row_plans.specs.Plans.{spliced}
 use Rattle.row_plans.specs.Planning.{IsMade}
+use Rattle.row_plans.specs.Loads.{change_loads}
+use Rattle.row_plans.specs.Loads.TakesLoads.{by_arguments, by_pages}
 use Rattle.row_plans.proofs.PlanLeft.{judged_few, judged_named, change_made, change_refused, as_they_were, plan_plain, plan_refused, plan_kept, plan_made}
 use Rattle.row_plans.proofs.Loading.{loads_first, as_before}
 use Rattle.row_plans.proofs.plan.plan_rows.Goals as goal
@@ -119,3 +124,35 @@ pub returns-in-Changes-clause-refused : goal.returns-in-Changes-clause-refused
 returns-in-Changes-clause-refused g c =
     change_refused (kind_at (areas_from (g.R.Rows.words c.args.old.now c.args.hand.now))) c.args.call.now c.in-Changes.change c.changed.result.reply
     c.changed.result.cut c.changed.new.new.items c.in-Changes.ensures.judged c.changed.ensures.changes
+
+-- a call that its arguments decide takes no load
+pub returns-in-Some-clause-loads : goal.returns-in-Some-clause-loads
+returns-in-Some-clause-loads g c = by_arguments c.in-Some.reply (sym c.in-Some.ensures) refl
+
+-- one that is refused takes those of judging it
+pub returns-in-Refused-clause-loads : goal.returns-in-Refused-clause-loads
+returns-in-Refused-clause-loads g c =
+    let undecided : plain_reply c.args.call.now ≡ None = search rules in
+    by_pages (Refused c.in-Refused.why) undecided c.in-Refused.ensures.judged
+    (λ at stop. let looks = c.in-Refused.ensures.looks at stop in omega arith)
+
+-- so does one that changes nothing
+pub returns-in-Keeps-clause-loads : goal.returns-in-Keeps-clause-loads
+returns-in-Keeps-clause-loads g c =
+    let undecided : plain_reply c.args.call.now ≡ None = search rules in
+    by_pages (Keeps c.in-Keeps.reply) undecided c.in-Keeps.ensures.judged
+    (λ at stop. let looks = c.in-Keeps.ensures.looks at stop in omega arith)
+
+-- and a change takes its own beside them
+pub returns-in-Changes-clause-loads : goal.returns-in-Changes-clause-loads
+returns-in-Changes-clause-loads g c =
+    let old = c.args.old.now in
+    let hand = c.args.hand.now in
+    let change = c.in-Changes.change in
+    let steps = g.R.Rows.steps old in
+    let undecided : plain_reply c.args.call.now ≡ None = search rules in
+    let own : steps c.changed.new.hand ≤ steps c.judge.new.hand + change_loads (g.R.Rows.words old hand) change.first.lo (last_end 0 (patches_of change)) =
+    as_before (λ l n. steps c.changed.new.hand ≤ steps c.judge.new.hand + change_loads l change.first.lo (last_end 0 (patches_of change)))
+    (loads_first g.R.Rows old hand c.judge.new.hand c.requires.may c.in-Changes.ensures.looked) c.changed.ensures.steps in
+    by_pages (Changes change) undecided c.in-Changes.ensures.judged
+    (λ at stop. let looks = c.in-Changes.ensures.looks at stop in omega arith)

@@ -6,9 +6,13 @@ use Rattle.page_types.specs.declared.TheConstants.{LIMIT}
 use Rattle.page_types.specs.declared.calls.Kind.{Kind}
 use Rattle.space_model.specs.declared.paint.Patch.{Patch}
 use Rattle.space_model.specs.Effect.{patched, AreRising}
+use Rattle.space_model.specs.Areas.{kind_at}
+use Rattle.space_model.specs.Cutting.{last_end}
 use Rattle.space_model.specs.Judges.{second_of}
-use Rattle.row_plans.specs.RowLists.{rows_start, ShowFrom, IsBareGap}
-use Rattle.row_plans.specs.Planning.{ShowTo, StartBefore, IsCome, GoesOn}
+use Rattle.row_plans.specs.RowLists.{rows_start, ShowFrom, IsBareGap, areas_from}
+use Rattle.row_plans.specs.Planning.{ShowTo, StartBefore, IsCome, GoesOn, come_to}
+use Rattle.row_plans.specs.Loads.{change_loads}
+use Rattle.row_plans.proofs.RowsBetween.{come_between}
 use Rattle.row_plans.proofs.Loading.{HasLoaded, loads_first, loads_on, as_before, as_behind}
 use Rattle.row_plans.proofs.RowPatches.{first_kept, first_painted, last_kept, second_kept, second_painted, both_kept}
 use Rattle.row_plans.proofs.RowChanges.{take_few, splice_gaps, begun_shows, made_shows}
@@ -316,3 +320,54 @@ returns-in-Some-clause-shows g c = λ kinds show.
 pub returns-in-Some-clause-loaded : goal.returns-in-Some-clause-loaded
 returns-in-Some-clause-loaded g c =
     (loads_on _ (last g (goal.at.returns-in-Some-clause-loaded g c).After-put_to-last) c.join_on-in-Some.ensures.loaded).loaded
+
+-- one patch: six loads for each row of its pages, and those for the rows on both sides
+pub returns-in-None-clause-steps : goal.returns-in-None-clause-steps
+returns-in-None-clause-steps g c =
+    let h = goal.at.returns-in-None-clause-steps g c in
+    let words = g.R.Rows.words c.args.old.now c.args.hand.now in
+    let number = g.R.Rows.number c.args.old.now c.args.hand.now in
+    let steps = g.R.Rows.steps c.args.old.now in
+    let first = c.args.change.first in
+    let first_come = c.begin-begun.result in
+    let come = c.put_to-next.result in
+    let gone = as_before (λ l n. IsCome l n first.hi come) (begun g h.After-begin-begun) c.put_to-next.ensures.come in
+    let run = come_between words (kind_at (areas_from words)) first.lo first.hi (come_to number first_come) (come_to number come) (number first_come.at)
+    (g.R.Rows.are_rows c.args.old.now c.args.hand.now c.requires.may).show c.begin-begun.ensures.come.before gone.before c.begin-begun.ensures.before in
+    let at = ap number c.put_to-next.ensures.at in
+    let before = c.begin-begun.ensures.before in
+    let all : steps c.join_on.new.hand ≤ steps c.args.hand.now + change_loads words first.lo first.hi =
+    omega (arith, run, at, before, c.begin-begun.ensures.steps, c.put_to-next.ensures.steps, c.join_on.ensures.steps) in
+    subst (λ (o : Option Patch). steps c.join_on.new.hand ≤ steps c.args.hand.now + change_loads words first.lo (last_end 0 (first ∷ second_of o)))
+    (sym c.in-None.is) all
+
+-- two patches: six for each row up to the end of the second one
+pub returns-in-Some-clause-steps : goal.returns-in-Some-clause-steps
+returns-in-Some-clause-steps g c =
+    let h = goal.at.returns-in-Some-clause-steps g c in
+    let words = g.R.Rows.words c.args.old.now c.args.hand.now in
+    let number = g.R.Rows.number c.args.old.now c.args.hand.now in
+    let steps = g.R.Rows.steps c.args.old.now in
+    let first = c.args.change.first in
+    let second = c.in-Some.second in
+    let first_come = c.begin-begun.result in
+    let come = c.put_to-last.result in
+    let gone = as_before (λ l n. IsCome l n second.hi come) (again g h.After-put_to-again) c.put_to-last.ensures.come in
+    let run = come_between words (kind_at (areas_from words)) first.lo second.hi (come_to number first_come) (come_to number come) (number first_come.at)
+    (g.R.Rows.are_rows c.args.old.now c.args.hand.now c.requires.may).show c.begin-begun.ensures.come.before gone.before c.begin-begun.ensures.before in
+    let at = ap number (c.put_to-last.ensures.at ∙ (c.put_to-again.ensures.at ∙ c.put_to-next.ensures.at)) in
+    let before = c.begin-begun.ensures.before in
+    let all : steps c.join_on-in-Some.new.hand ≤ steps c.args.hand.now + change_loads words first.lo second.hi =
+    omega (
+      arith,
+      run,
+      at,
+      before,
+      c.begin-begun.ensures.steps,
+      c.put_to-next.ensures.steps,
+      c.put_to-again.ensures.steps,
+      c.put_to-last.ensures.steps,
+      c.join_on-in-Some.ensures.steps,
+    ) in
+    subst (λ (o : Option Patch). steps c.join_on-in-Some.new.hand ≤ steps c.args.hand.now
+    + change_loads words first.lo (last_end 0 (first ∷ second_of o))) (sym c.in-Some.is) all

@@ -99,6 +99,7 @@ rows-preserved g c =
           come_on words number (kind_at (areas_from words)) at to hi come next list.show inv.come starts below ends lt on.at on.gone kind on.named place end;
       first = on.at ∙ inv.first;
       few = omega (arith, inv.few, c.put_row.ensures.few, on.gone);
+      loads = omega (arith, inv.loads, on.steps, on.gone);
       above = omega arith;
       room = search rules;
       gaps = search rules;

@@ -1,4 +1,4 @@
-use Rattle.std.proofs.Common.{ℕ, ◌≡◌, ◌<◌, ◌≤◌, ◌+◌, ◌-◌, min, length, vec_capacity}
+use Rattle.std.proofs.Common.{ℕ, ◌≡◌, ◌<◌, ◌≤◌, ◌+◌, ◌*◌, ◌-◌, min, length, vec_capacity}
 use Rattle.std.specs.Prelude.{All, Option}
 use Rattle.page_types.specs.declared.calls.Kind.{Kind}
 use Rattle.row_plans.specs.RowLists.{ShowFrom, IsBareGap}
@@ -13,6 +13,7 @@ invariant-rows g l = record {
   come : IsCome (g.R.Rows.words l.old l.initial.hand) (g.R.Rows.number l.old l.initial.hand) l.at l.now;
   first : l.now.at ≡ l.fn.come.at;
   few : length l.rows.items + l.fn.come.gone ≤ length l.initial.rows.items + l.now.gone;
+  loads : g.R.Rows.steps l.old l.hand + 6 * l.fn.come.gone ≤ g.R.Rows.steps l.old l.initial.hand + 6 * l.now.gone;
   above : l.pages.from ≤ l.at;
   room : vec_capacity l.initial.rows ≤ vec_capacity l.rows;
   gaps : All IsBareGap l.rows.items;
