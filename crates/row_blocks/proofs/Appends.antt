@@ -1,14 +1,13 @@
 -- What stands where the rows of a block were appended to the one before it.
 use Rattle.std.proofs.Common.{◌≡◌, ◌≢◌, ℕ, ◌+◌, ◌*◌, ◌/◌, ◌%◌, ◌<◌, ◌≤◌, List, ◌∷◌, ◌++◌, length, take, drop}
-use Rattle.std.proofs.Common.{ap, ◌∙◌, subst, arith, inl, inr}
+use Rattle.std.proofs.Common.{ap, ◌∙◌, arith, inl, inr}
 use Rattle.std.specs.Prelude.{slice_index, slice_set}
-use Rattle.std.proofs.lemmas.Bool.{cases_lt}
 use Rattle.std.proofs.lemmas.List.{length-set, get_or-set_same, get_or-set_other}
-use Rattle.row_blocks.specs.Blocks.{blocks_of, body_of, rows_of, body_at, block, IsLaidOut}
+use Rattle.row_blocks.specs.Blocks.{blocks_of, rows_of, body_at, block, IsLaidOut}
 use Rattle.row_blocks.specs.Moves.{IsCopied}
-use Rattle.row_blocks.proofs.Puts.{OnlyBlock, same_run}
+use Rattle.row_blocks.proofs.Puts.{OnlyBlock, same_runs, elsewhere}
 use Rattle.row_blocks.proofs.OneBlock.{told_is, block_is, only_block}
-use Rattle.row_blocks.proofs.Splits.{cut_run, copied_run}
+use Rattle.row_blocks.proofs.Splits.{cut_run}
 
 -- the stores of an append, one after another, after what was read
 pub record IsAppended (nb : ℕ) (one started middle two : List ℕ) (i : ℕ) : Type 0 where
@@ -22,17 +21,21 @@ pub is_appended : {nb : ℕ} {one loaded started middle two : List ℕ} {i packe
     → started ≡ slice_set loaded (nb + 127 * (packed / 128) + packed % 128) first
     → IsCopied started middle (nb + 127 * (other / 128)) (nb + 127 * (packed / 128) + packed % 128 + 1) (other % 128)
     → two ≡ slice_set middle (128 * nb + 1 + i) (packed + (other % 128 + 1)) → IsAppended nb one started middle two i
-is_appended {nb} {one} {started} {middle} {i} {packed} {other} {first} same read behind was laid c stored = record {
-  head = laid
-      ∙ (ap (λ (l : List ℕ). slice_set l (nb + 127 * (packed / 128) + packed % 128) first) same
-      ∙ (ap (λ (x : ℕ). slice_set one (nb + 127 * (x / 128) + x % 128) first) read
-      ∙ ap (λ (w : ℕ). slice_set one (body_at nb one i + rows_of nb one i) w) was));
-  rest = subst (λ (x : ℕ). IsCopied started middle (body_at nb one (i + 1)) (nb + 127 * (x / 128) + x % 128 + 1) (rows_of nb one (i + 1))) read
-      (subst (λ (y : ℕ). IsCopied started middle (nb + 127 * (y / 128)) (nb + 127 * (packed / 128) + packed % 128 + 1) (y % 128)) behind c);
-  told = stored
-      ∙ (ap (λ (x : ℕ). slice_set middle (128 * nb + 1 + i) (x + (other % 128 + 1))) read
-      ∙ ap (λ (y : ℕ). slice_set middle (128 * nb + 1 + i) (slice_index one (128 * nb + 1 + i) + (y % 128 + 1))) behind);
+is_appended {nb} {started} {middle} {i} same read behind was laid c stored = record {
+  head = laid ∙ (λ j. slice_set (same j) (nb + 127 * (read j / 128) + read j % 128) (was j));
+  rest = coe 0 1 (j. IsCopied started middle (nb + 127 * (behind j / 128)) (nb + 127 * (read j / 128) + read j % 128 + 1) (behind j % 128)) c;
+  told = stored ∙ (λ j. slice_set middle (128 * nb + 1 + i) (read j + (behind j % 128 + 1)));
 }
+
+-- a row of the upper block doesn't stand where its head comes
+not_there : {nb : ℕ} {one : List ℕ} (i m : ℕ) → IsLaidOut nb one → i + 1 < blocks_of nb one → rows_of nb one i + 1 + rows_of nb one (i + 1) ≤ 127
+    → m < rows_of nb one (i + 1) → body_at nb one (i + 1) + m ≢ body_at nb one i + rows_of nb one i
+not_there i m laid there room lt e =
+    let spare = laid.spare in
+    elim (elsewhere (i + 1) i m laid (omega arith) (omega arith) (λ q. omega arith) (omega arith)) [
+      | inl less ↦ omega arith
+      | inr over ↦ omega arith
+    ]
 
 -- the rows of the upper block stand as they stood once its head stands behind those of the lower one
 pub started_stays : {nb : ℕ} {one loaded started : List ℕ} (i : ℕ) {packed other : ℕ} (first m : ℕ) → IsLaidOut nb one → i + 1 < blocks_of nb one
@@ -40,14 +43,9 @@ pub started_stays : {nb : ℕ} {one loaded started : List ℕ} (i : ℕ) {packed
     → other ≡ slice_index one (128 * nb + 1 + (i + 1)) → m < other % 128 → started ≡ slice_set loaded (nb + 127 * (packed / 128) + packed % 128) first
     → slice_index started (nb + 127 * (other / 128) + m) ≡ slice_index one (nb + 127 * (other / 128) + m)
 started_stays {nb} {one} {loaded} i {packed} {other} first m laid there room same read behind lt laid_first =
-    let spare = laid.spare in
-    let apart : body_of nb one i ≢ body_of nb one (i + 1) = λ e. let z = laid.apart i (i + 1) (omega arith) (omega arith) e in absurd (omega arith) in
     ap (λ (l : List ℕ). slice_index l (nb + 127 * (other / 128) + m)) laid_first
     ∙ (get_or-set_other loaded (nb + 127 * (packed / 128) + packed % 128) (nb + 127 * (other / 128) + m) first 0
-    (λ e. elim (cases_lt (body_of nb one i) (body_of nb one (i + 1))) [
-      | inl less ↦ absurd (omega arith)
-      | inr ge ↦ absurd (omega (arith, apart))
-    ])
+    (λ e. not_there i m laid there room (omega arith) (omega arith))
     ∙ ap (λ (l : List ℕ). slice_index l (nb + 127 * (other / 128) + m)) same)
 
 module _ {nb : ℕ} {one started middle two : List ℕ} {i : ℕ} (laid : IsLaidOut nb one) (there : i + 1 < blocks_of nb one)
@@ -57,9 +55,6 @@ module _ {nb : ℕ} {one started middle two : List ℕ} {i : ℕ} (laid : IsLaid
 
   long_middle : length middle ≡ length one
   long_middle = a.rest.long ∙ (ap length a.head ∙ length-set one (body_at nb one i + rows_of nb one i) (slice_index one (i + 1)))
-
-  bodies_apart : body_of nb one i ≢ body_of nb one (i + 1)
-  bodies_apart e = let s = laid.spare in let z = laid.apart i (i + 1) (omega arith) (omega arith) e in absurd (omega arith)
 
   -- only the lower block has changed
   pub append_only : OnlyBlock nb one two i
@@ -82,7 +77,6 @@ module _ {nb : ℕ} {one started middle two : List ℕ} {i : ℕ} (laid : IsLaid
       let spare = laid.spare in
       let p = laid.bodies i (omega arith) in
       let q = laid.bodies (i + 1) (omega arith) in
-      let apart = bodies_apart in
       let n : ℕ = rows_of nb one i in
       let m : ℕ = rows_of nb one (i + 1) in
       let at : ℕ = body_at nb one i in
@@ -95,21 +89,11 @@ module _ {nb : ℕ} {one started middle two : List ℕ} {i : ℕ} (laid : IsLaid
       let second : slice_index middle (at + n) ≡ head =
       a.rest.below (at + n) (omega arith)
       ∙ (ap (λ (l : List ℕ). slice_index l (at + n)) a.head ∙ get_or-set_same one (at + n) head 0 (omega arith)) in
-      let front : take n (drop at middle) ≡ take n (drop at one) = same_run one middle at n (omega arith) lm (λ k lt.
+      let front : take n (drop at middle) ≡ take n (drop at one) = same_runs middle one at at n (omega arith) (omega arith) (λ k lt.
       a.rest.below (at + k) (omega arith) ∙ started_other (at + k) (λ e. omega arith)) in
       let behind : take m (drop (at + (n + 1)) middle) ≡ take m (drop from one) =
-      copied_run one middle from (at + (n + 1)) m (omega arith) (omega arith) (λ k lt.
+      same_runs middle one (at + (n + 1)) from m (omega arith) (omega arith) (λ k lt.
       let place : at + (n + 1) + k ≡ at + n + 1 + k = omega arith in
-      ap (slice_index middle) place
-      ∙ (a.rest.copied k lt
-      ∙ started_other (from + k) (λ e. elim (cases_lt (body_of nb one i) (body_of nb one (i + 1))) [
-        | inl less ↦ absurd (omega arith)
-        | inr ge ↦ absurd (omega (arith, apart))
-      ]))) in
+      ap (slice_index middle) place ∙ (a.rest.copied k lt ∙ started_other (from + k) (not_there i k laid there room lt))) in
       let cut = cut_run middle at n m (omega arith) in
-      whole
-      ∙ (ap (λ (x : ℕ). x ∷ take (n + (1 + m)) (drop at middle)) first
-      ∙ (ap (λ (l : List ℕ). slice_index one i ∷ l) cut
-      ∙ (ap (λ (l : List ℕ). slice_index one i ∷ (l ++ (slice_index middle (at + n) ∷ take m (drop (at + (n + 1)) middle)))) front
-      ∙ (ap (λ (x : ℕ). slice_index one i ∷ (take n (drop at one) ++ (x ∷ take m (drop (at + (n + 1)) middle)))) second
-      ∙ ap (λ (l : List ℕ). slice_index one i ∷ (take n (drop at one) ++ (head ∷ l))) behind))))
+      whole ∙ ((λ j. first j ∷ cut j) ∙ (λ j. slice_index one i ∷ (front j ++ (second j ∷ behind j))))

@@ -4,14 +4,8 @@ use Rattle.std.proofs.Common.{sym, ap, ◌∙◌, subst, arith, inl, inr}
 use Rattle.std.proofs.lemmas.Bool.{cases_lt}
 use Rattle.std.specs.List.{splice}
 use Rattle.std.proofs.lemmas.List.{take_more, length-take-le}
-use Rattle.row_blocks.specs.Blocks.{rows_of, count_to, told}
+use Rattle.row_blocks.specs.Blocks.{rows_of, told}
 use Rattle.row_blocks.proofs.RowSplices.{splice_behind}
-use Rattle.row_blocks.proofs.Counts.{count_same}
-
--- rows before a block are as many while others come into it
-pub count_stays_before : (nb : ℕ) (one two : List ℕ) (i : ℕ) → i < nb → ((k : ℕ) → k < nb → k ≢ i → told nb two k ≡ told nb one k)
-    → count_to nb two i ≡ count_to nb one i
-count_stays_before nb one two i there others = count_same nb one two i (λ k lt. ap (λ (x : ℕ). x % 128) (others k (omega arith) (λ e. omega arith)))
 
 -- one row more
 pub comes_on : (R : List ℕ) {two three : List ℕ} (more : List ℕ) (r k : ℕ) {at w : ℕ} → r ≤ length R → k < length more → two ≡ splice R r r (take k more)
@@ -20,18 +14,14 @@ comes_on R more r k {at} {w} there some was comes place word =
     let u : List ℕ = take k more in
     let long : length u ≡ k = length-take-le k more (omega arith) in
     let here : at ≡ r + length u = omega arith in
-    let none : r + length u + 0 ≡ r + length u = omega arith in
+    let end : at ≡ r + length u + 0 = omega arith in
     let zero : r + 0 ≡ r = omega arith in
     let behind : splice (splice R r r u) (r + length u) (r + length u + 0) (w ∷ []) ≡ splice R r (r + 0) (u ++ (w ∷ [])) =
     splice_behind R u (w ∷ []) r r 0 there in
     let last : take (k + 1) more ≡ u ++ (get_or more k 0 ∷ []) = take_more more k 0 some in
     comes
-    ∙ (ap (λ (l : List ℕ). splice l at at (w ∷ [])) was
-    ∙ (ap (λ (n : ℕ). splice (splice R r r u) n n (w ∷ [])) here
-    ∙ (ap (λ (n : ℕ). splice (splice R r r u) (r + length u) n (w ∷ [])) (sym none)
-    ∙ (behind
-    ∙ (ap (λ (n : ℕ). splice R r n (u ++ (w ∷ []))) zero
-    ∙ (ap (λ (x : ℕ). splice R r r (u ++ (x ∷ []))) word ∙ ap (splice R r r) (sym last)))))))
+    ∙ ((λ j. splice (was j) (here j) (end j) (w ∷ []))
+    ∙ (behind ∙ ((λ j. splice R r (zero j) (u ++ (word j ∷ []))) ∙ ap (splice R r r) (sym last))))
 
 -- block 0 has at most 64 rows still
 pub stays_short : (nb : ℕ) (two three : List ℕ) (i m : ℕ) → 0 < nb → (i ≡ 0 → rows_of nb two 0 + m < 64) → rows_of nb two 0 < 64

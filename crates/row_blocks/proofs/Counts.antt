@@ -37,6 +37,11 @@ block_there {nb} {words} i laid le more = elim (cases_lt i (blocks_of nb words))
       absurd (omega arith)
 ]
 
+-- and where a row stands behind one block
+pub next_there : {nb : ℕ} {words : List ℕ} {b p : ℕ} → IsLaidOut nb words → b < blocks_of nb words → p ≤ rows_of nb words b + 1 → rows_of nb words b < p
+    → rank nb words b p < length (rows_in nb words) → b + 1 < blocks_of nb words
+next_there {nb} {words} {b} laid there place full more = let next = count_next nb words b in block_there (b + 1) laid (omega arith) (omega arith)
+
 -- a row that is laid at a slot changes that row alone
 pub set_there : {nb : ℕ} {words : List ℕ} {i j s : ℕ} (w : ℕ) → IsLaidOut nb words → IsSlot nb words i j s
     → rows_in nb (slice_set words s w) ≡ slice_set (rows_in nb words) (rank nb words i j) w

@@ -36,8 +36,7 @@ head_gone nb {one} {two} three i left there same cut others all =
     let before = count_told nb two three i (λ k lt. others k (omega arith) (λ e. omega arith)) in
     let was = ap (λ (l : List ℕ). count_to nb l i) same in
     omega arith in
-    subst (λ (l : List ℕ). rows_in nb three ≡ splice (rows_in nb l) (rank nb l i 0) (rank nb l i left) []) same cut
-    ∙ (ap (λ (n : ℕ). splice R n (rank nb one i left) []) begin ∙ ap (λ (n : ℕ). splice R (count_to nb three i) n []) all)
+    cut ∙ ((λ j. splice (rows_in nb (same j)) (rank nb (same j) i 0) (rank nb (same j) i left) []) ∙ (λ j. splice R (begin j) (all j) []))
 
 -- no rows are left to go
 pub none_left : (nb : ℕ) {one two : List ℕ} (i : ℕ) {left end : ℕ} → two ≡ one → left ≡ 0 → count_to nb one i + left ≡ end
@@ -58,8 +57,7 @@ blocks_gone {nb} {one} two three first end until laid ordered there before cut o
     let b : count_to nb two end ≡ count_to nb one end = count_told nb one two end before in
     let up = count_up nb two first end ordered in
     let below = count_below end laid there in
-    out
-    ∙ (ap (λ (l : List ℕ). splice l (count_to nb two first) (count_to nb two end) []) cut
+    out ∙ ((λ j. splice (cut j) (count_to nb two first) (count_to nb two end) [])
     ∙ (cut_before R (count_to nb two first) (count_to nb two end) until up (omega arith) ∙ ap (λ (n : ℕ). splice R n until []) a))
 
 -- the rows that are left to go where the rest of a block has gone
@@ -86,6 +84,4 @@ cut_whole R r gone (suc left) c there le first then next =
     let here : c ≡ r + 0 = let e = next (omega arith) in omega arith in
     let all : mid + d ≡ r + gone = omega arith in
     let behind : splice (splice R r mid []) (r + 0) (r + 0 + d) [] ≡ splice R r (mid + d) [] = splice_behind R [] [] r mid d there in
-    then
-    ∙ (ap (λ (l : List ℕ). splice l c (c + d) []) first
-    ∙ (ap (λ (n : ℕ). splice (splice R r mid []) n (n + d) []) here ∙ (behind ∙ ap (λ (n : ℕ). splice R r n []) all)))
+    then ∙ ((λ j. splice (first j) (here j) (here j + d) []) ∙ (behind ∙ ap (λ (n : ℕ). splice R r n []) all))

@@ -6,21 +6,11 @@ use Rattle.std.proofs.lemmas.Bool.{cases_lt}
 use Rattle.std.proofs.lemmas.List.{append_assoc, drop_more, take_more, length-append, length-drop, get_or-drop}
 use Rattle.std.proofs.Math.Seq.{take-add, take-length}
 use Rattle.std.proofs.Math.Nat.{mul-suc}
-use Rattle.std.proofs.lemmas.Grind.{same_number_lists}
 use mathlib.Core.Logic.{dite}
 use native.Mathlib.Decide.{ℕ_discrete}
 use Rattle.row_blocks.specs.Blocks.{pieces, blocks_of, body_of, rows_of, body_at, block, rows_in, IsLaidOut}
 use Rattle.row_blocks.proofs.Pieces.{same_pieces, piece_ends}
-use Rattle.row_blocks.proofs.Puts.{run_length, run_at, same_run, block_length}
-
--- words of two lists are the same where each is
-same_runs : (xs ys : List ℕ) (at from n : ℕ) → at + n ≤ length xs → from + n ≤ length ys
-    → ((k : ℕ) → k < n → get_or xs (at + k) 0 ≡ get_or ys (from + k) 0) → take n (drop at xs) ≡ take n (drop from ys)
-same_runs xs ys at from n wide long same =
-    let a = run_length xs at n wide in
-    let b = run_length ys from n long in
-    same_number_lists (take n (drop at xs)) (take n (drop from ys)) (omega arith)
-    (λ k lt. run_at xs at n k (omega arith) ∙ (same k (omega arith) ∙ sym (run_at ys from n k (omega arith))))
+use Rattle.row_blocks.proofs.Puts.{same_runs, same_block, block_length}
 
 -- so many rows of a list, from one on, are laid as a block
 pub record IsBlockLaid (nb : ℕ) (one two rows : List ℕ) (i from count : ℕ) : Type 0 where
@@ -77,14 +67,10 @@ module _ {nb : ℕ} {one two three rows : List ℕ} {i taken count : ℕ} (wide 
 
   old_block : (k : ℕ) → k < i → block nb three k ≡ block nb two k
   old_block k lt =
-      let word = told_same k (omega arith) (λ e. omega arith) in
       let b = before.body k (omega arith) in
       let was = before.long in
-      let head = laid.heads k (omega arith) (λ e. omega arith) in
-      let rest : take (rows_of nb two k) (drop (body_at nb two k) three) ≡ take (rows_of nb two k) (drop (body_at nb two k) two) =
-      same_run two three (body_at nb two k) (rows_of nb two k) (omega arith) laid.long
-      (λ m l. laid.below (body_at nb two k + m) (omega arith) (omega arith)) in
-      rw (word, head, rest) refl
+      same_block nb two three k k (omega arith) laid.long (told_same k (omega arith) (λ e. omega arith)) (laid.heads k (omega arith) (λ e. omega arith))
+      (λ m l. laid.below (body_at nb two k + m) (omega arith) (omega arith))
 
   this_block : block nb three i ≡ take count (drop taken rows)
   this_block =
@@ -98,16 +84,13 @@ module _ {nb : ℕ} {one two three rows : List ℕ} {i taken count : ℕ} (wide 
       let all : drop taken rows ≡ get_or rows taken 0 ∷ drop (taken + 1) rows = drop_more rows taken 0 (omega arith) in
       let r = rows_here in
       let h = laid.first in
-      (λ j. h j ∷ take (r j) (drop (at j) three))
-      ∙ (ap (λ (x : List ℕ). get_or rows taken 0 ∷ x) rest
-      ∙ (λ j. take (up j) (sym all j)))
+      (λ j. h j ∷ take (r j) (drop (at j) three)) ∙ ((λ j. get_or rows taken 0 ∷ rest j) ∙ (λ j. take (up j) (sym all j)))
 
   more_laid : pieces (block nb three) (i + 1) ≡ take (taken + count) rows
   more_laid =
       let e : i + 1 ≡ suc i = omega arith in
-      ap (pieces (block nb three)) e
-      ∙ (ap (λ (x : List ℕ). x ++ block nb three i) (same_pieces (block nb two) (block nb three) i (λ k lt. old_block k lt) ∙ before.laid)
-      ∙ (ap (λ (x : List ℕ). take taken rows ++ x) this_block ∙ sym (take-add taken count rows)))
+      let old = same_pieces (block nb two) (block nb three) i (λ k lt. old_block k lt) ∙ before.laid in
+      ap (pieces (block nb three)) e ∙ ((λ j. old j ++ this_block j) ∙ sym (take-add taken count rows))
 
   rest_same : (k j : ℕ) → k < nb → rows_of nb three k ≤ j → j < 127 → slice_index three (nb + 127 * k + j) ≡ slice_index one (nb + 127 * k + j)
   rest_same k j lt le few =
@@ -187,9 +170,9 @@ gathered_on words old at k is lt =
     let d = length-drop at words in
     let one : take (k + 1) (drop at words) ≡ take k (drop at words) ++ (get_or (drop at words) k 0 ∷ []) = take_more (drop at words) k 0 (omega arith) in
     let w = get_or-drop at words k 0 in
-    ap (λ (x : List ℕ). x ++ (slice_index words (at + k) ∷ [])) is
+    (λ j. is j ++ (slice_index words (at + k) ∷ []))
     ∙ (append_assoc old (take k (drop at words)) (slice_index words (at + k) ∷ [])
-    ∙ ap (λ (x : List ℕ). old ++ x) (ap (λ (x : ℕ). take k (drop at words) ++ (x ∷ [])) (sym w) ∙ sym one))
+    ∙ ap (λ (x : List ℕ). old ++ x) ((λ j. take k (drop at words) ++ (sym w j ∷ [])) ∙ sym one))
 
 -- a block that was read to its end
 pub gathered_block : (nb : ℕ) (words : List ℕ) {out : List ℕ} (old : List ℕ) {one : List ℕ} (i : ℕ) {at k : ℕ} → one ≡ old ++ (slice_index words i ∷ [])

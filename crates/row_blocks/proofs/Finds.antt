@@ -95,9 +95,3 @@ module _ {nb : ℕ} {words : List ℕ} (i : ℕ) (laid : IsLaidOut nb words) (th
                   m ∙ ap rows_start (sym (drop_all (rank nb words i j + 1) rows (omega arith)))
             ]
       ]
-
--- where the word behind the head that was found starts
-pub head_next : (nb : ℕ) (words : List ℕ) (i behind : ℕ) → (i + 1 < nb → behind ≡ row_start (slice_index words (0 + (i + 1))))
-    → i + 1 < nb → behind ≡ row_start (slice_index words (i + 1))
-head_next nb words i behind next lt =
-    let at : 0 + (i + 1) ≡ i + 1 = omega arith in next lt ∙ ap (λ (n : ℕ). row_start (slice_index words n)) at

@@ -35,12 +35,8 @@ lays_none nb one more r =
 pub laid_more : (nb : ℕ) (one two three more : List ℕ) (r k : ℕ) {at w : ℕ} → r + k < length (rows_in nb one) → k < length more
     → rows_in nb two ≡ splice (rows_in nb one) r (r + k) (take k more) → rows_in nb three ≡ slice_set (rows_in nb two) at w → at ≡ r + k → w ≡ get_or more k 0
     → rows_in nb three ≡ splice (rows_in nb one) r (r + (k + 1)) (take (k + 1) more)
-laid_more nb one two three more r k {at} {w} there some was laid place word =
-    laid
-    ∙ (ap (λ (l : List ℕ). slice_set l at w) was
-    ∙ (ap (λ (n : ℕ). slice_set (splice (rows_in nb one) r (r + k) (take k more)) n w) place
-    ∙ (ap (λ (x : ℕ). slice_set (splice (rows_in nb one) r (r + k) (take k more)) (r + k) x) word
-    ∙ lays_on (rows_in nb one) more r k there some)))
+laid_more nb one two three more r k there some was laid place word =
+    laid ∙ ((λ j. slice_set (was j) (place j) (word j)) ∙ lays_on (rows_in nb one) more r k there some)
 
 -- there are as many rows
 pub rows_long : {nb : ℕ} {one two : List ℕ} → IsLaidOut nb one → IsLaidOut nb two → SameLayout nb one two → length (rows_in nb two) ≡ length (rows_in nb one)

@@ -26,7 +26,7 @@ pieces_joined f g i (suc n) lt same both = elim (cases_lt (suc i) n) [
       let two = drop-append-le (length (pieces g (suc (suc i)))) (pieces g n) (g n) b in
       let apart : splice (pieces g n ++ g n) (length (pieces g (suc i))) (length (pieces g (suc (suc i)))) []
       ≡ splice (pieces g n) (length (pieces g (suc i))) (length (pieces g (suc (suc i)))) [] ++ g n = rw (one, two) (simp append_assoc) in
-      apart ∙ (ap (λ (l : List ℕ). l ++ g n) front ∙ ap (λ (l : List ℕ). pieces f n ++ l) last)
+      apart ∙ (λ j. front j ++ last j)
   | inr ge ↦
       let e : suc i ≡ n = omega arith in
       let front : pieces g i ≡ pieces f i = same_pieces f g i (λ k l. same k (omega arith) (λ q. omega arith)) in
@@ -35,11 +35,8 @@ pieces_joined f g i (suc n) lt same both = elim (cases_lt (suc i) n) [
       let none : drop (length (pieces g (suc (suc i)))) (pieces g (suc (suc i))) ≡ [] =
       drop_all (length (pieces g (suc (suc i)))) (pieces g (suc (suc i))) (omega arith) in
       let here : splice (pieces g (suc (suc i))) (length (pieces g (suc i))) (length (pieces g (suc (suc i)))) [] ≡ pieces f (suc (suc i)) =
-      ap (λ (l : List ℕ). take (length (pieces g (suc i))) (pieces g (suc (suc i))) ++ l) none
-      ∙ (append-nil (take (length (pieces g (suc i))) (pieces g (suc (suc i))))
-      ∙ (first
-      ∙ (ap (λ (l : List ℕ). l ++ g i) front
-      ∙ (ap (λ (l : List ℕ). pieces f i ++ l) both ∙ sym (append_assoc (pieces f i) (f i) (f (suc i))))))) in
+      (λ j. first j ++ none j)
+      ∙ (append-nil (pieces g (suc i)) ∙ ((λ j. front j ++ both j) ∙ sym (append_assoc (pieces f i) (f i) (f (suc i))))) in
       subst (λ (m : ℕ). splice (pieces g (suc m)) (length (pieces g (suc i))) (length (pieces g (suc (suc i)))) [] ≡ pieces f (suc m)) e here
 ]
 
@@ -58,11 +55,8 @@ merged {nb} {one} {middle} two i laid after there count joined others out =
     let y : count_to nb middle (i + 2) ≡ length (pieces g (suc (suc i))) =
     sym (count_is (i + 2) after (omega arith)) ∙ ap (λ (m : ℕ). length (pieces g m)) over in
     let both : g i ≡ block nb one i ++ block nb one (suc i) = joined ∙ ap (λ (m : ℕ). block nb one i ++ block nb one m) up in
-    out
-    ∙ (ap (λ (m : ℕ). splice (rows_in nb middle) m (count_to nb middle (i + 2)) []) x
-    ∙ (ap (λ (m : ℕ). splice (rows_in nb middle) (length (pieces g (suc i))) m []) y
-    ∙ (ap (λ (m : ℕ). splice (pieces g m) (length (pieces g (suc i))) (length (pieces g (suc (suc i)))) []) count
-    ∙ pieces_joined (block nb one) g i (blocks_of nb one) (omega arith) (λ k l d. others k (omega arith) d) both)))
+    out ∙ ((λ j. splice (pieces g (count j)) (x j) (y j) [])
+    ∙ pieces_joined (block nb one) g i (blocks_of nb one) (omega arith) (λ k l d. others k (omega arith) d) both)
 
 -- rows that stand twice are rows
 pub rows_appended : {nb : ℕ} {one : List ℕ} (middle : List ℕ) (i : ℕ) → IsLaidOut nb one → i + 1 < blocks_of nb one → (P Q : ℕ → Type 0)

@@ -2,22 +2,11 @@
 use Rattle.std.proofs.Common.{◌≡◌, ◌≢◌, ℕ, suc, ◌+◌, ◌-◌, ◌<◌, ◌≤◌, ◌⊎◌, List, [], ◌∷◌, length, get_or, take, drop}
 use Rattle.std.proofs.Common.{sym, refl, ap, ◌∙◌, subst, arith, inl, inr}
 use Rattle.std.proofs.lemmas.Bool.{cases_lt}
-use Rattle.std.proofs.lemmas.List.{length-set, get_or-set_same, get_or-set_other}
-use Rattle.std.proofs.lemmas.Grind.{same_number_lists}
+use Rattle.std.proofs.lemmas.List.{length-set, get_or-set_same, get_or-set_other, drop_more}
 use Rattle.std.specs.Prelude.{slice_index, slice_set}
 use Rattle.std.specs.List.{insert, splice}
-use mathlib.Core.Logic.{dite}
-use native.Mathlib.Decide.{ℕ_discrete}
 use Rattle.row_blocks.specs.Moves.{IsPushed, IsPushing, IsCopied, IsPutIn, IsCutOut}
-use Rattle.row_blocks.proofs.Puts.{same_run, body_put, body_cut, cut_head}
-
--- a word that stands there is laid: nothing changes
-pub set_stood : (xs : List ℕ) (p : ℕ) {w : ℕ} → p < length xs → slice_index xs p ≡ w → xs ≡ slice_set xs p w
-set_stood xs p {w} there stands =
-    let l = length-set xs p w in
-    same_number_lists xs (slice_set xs p w) (sym l) (λ k lt. dite (ℕ_discrete k p)
-    (λ e. subst (λ (n : ℕ). get_or xs n 0 ≡ get_or (slice_set xs p w) n 0) (sym e) (stands ∙ sym (get_or-set_same xs p w 0 there)))
-    (λ differ. sym (get_or-set_other xs p k w 0 differ)))
+use Rattle.row_blocks.proofs.Puts.{same_runs, body_spliced, cut_head}
 
 -- nothing has moved yet
 pub pushes_none : {one : List ℕ} {at word : ℕ} → IsPushing one one at at word word
@@ -108,18 +97,28 @@ copies_on {one} {two} {three} {from} {to} count {k} {row} lt wide apart p read l
       above = λ s le. stays s (λ e. omega arith) ∙ p.above s (omega arith);
     }
 
+-- the rows of a body, once those from one on have moved up and another one stands there
+body_put : (old new : List ℕ) (at n p : ℕ) {w : ℕ} → p ≤ n → at + n < length old → length new ≡ length old
+    → ((s : ℕ) → s < at + p → get_or new s 0 ≡ get_or old s 0) → get_or new (at + p) 0 ≡ w
+    → ((s : ℕ) → at + p ≤ s → s < at + n → get_or new (s + 1) 0 ≡ get_or old s 0) → take (n + 1) (drop at new) ≡ insert (take n (drop at old)) p w
+body_put old new at n p {w} there wide long below here moved =
+    let all : p + (1 + (n - p)) ≡ n + 1 = omega arith in
+    let was : p + (n - p) ≡ n = omega arith in
+    coe 0 1 (j. take (all j) (drop at new) ≡ insert (take (was j) (drop at old)) p w) (body_spliced old new (w ∷ []) at p p (n - p) (omega arith)
+    (omega arith) (omega arith) (λ k lt. below (at + k) (omega arith)) (ap (take 1) (drop_more new (at + p) 0 (omega arith)) ∙ ap (λ (x : ℕ). x ∷ []) here)
+    (λ k lt. let e : at + p + 1 + k ≡ at + p + k + 1 = omega arith in ap (slice_index new) e ∙ moved (at + p + k) (omega arith) (omega arith)))
+
 -- a row comes behind the head of a block
 pub put_behind : {one two : List ℕ} {head at n place word : ℕ} → 0 < place → place ≤ n + 1 → head < at → at + n < length one
     → IsPushed one two (at + (place - 1)) (at + n) word → IsPutIn one two head at n place word
 put_behind {one} {two} {head} {at} {n} {place} {word} some within low wide p =
     let up : suc (place - 1) ≡ place = omega arith in
     let first : slice_index two head ≡ slice_index one head = p.below head (omega arith) in
-    let put : take (n + 1) (drop at two) ≡ insert (take n (drop at one)) (place - 1) word =
-    body_put one two at n (place - 1) (omega arith) wide p.long p.below p.here p.moved in
+    let put = body_put one two at n (place - 1) (omega arith) wide p.long p.below p.here p.moved in
     record {
       long = p.long;
-      put = subst (λ (q : ℕ). slice_index two head ∷ take (n + 1) (drop at two) ≡ insert (slice_index one head ∷ take n (drop at one)) q word) up
-          (ap (λ (x : ℕ). x ∷ take (n + 1) (drop at two)) first ∙ ap (λ (l : List ℕ). slice_index one head ∷ l) put);
+      put = coe 0 1 (j. slice_index two head ∷ take (n + 1) (drop at two) ≡ insert (slice_index one head ∷ take n (drop at one)) (up j) word)
+          (λ j. first j ∷ put j);
       below = λ s differ lt. p.below s (omega arith);
       above = λ s lt. p.above s lt;
     }
@@ -134,14 +133,12 @@ put_front {one} {mid} {two} {head} {at} {n} {word} {first} low wide was laid p =
     let here : slice_index two head ≡ word =
     p.below head (omega arith) ∙ (ap (λ (l : List ℕ). slice_index l head) laid ∙ get_or-set_same one head word 0 (omega arith)) in
     let at_is : at + 0 ≡ at = omega arith in
-    let put : take (n + 1) (drop at two) ≡ insert (take n (drop at mid)) 0 first =
-    body_put mid two at n 0 (omega arith) (omega arith) p.long (λ s lt. p.below s (omega arith)) (ap (slice_index two) at_is ∙ p.here)
+    let put = body_put mid two at n 0 (omega arith) (omega arith) p.long (λ s lt. p.below s (omega arith)) (ap (slice_index two) at_is ∙ p.here)
     (λ s le lt. p.moved s (omega arith) lt) in
-    let rest : take n (drop at mid) ≡ take n (drop at one) = same_run one mid at n (omega arith) long_mid (λ k lt. stays (at + k) (λ e. omega arith)) in
+    let rest = same_runs mid one at at n (omega arith) (omega arith) (λ k lt. stays (at + k) (λ e. omega arith)) in
     record {
       long = p.long ∙ long_mid;
-      put = ap (λ (x : ℕ). x ∷ take (n + 1) (drop at two)) here
-          ∙ ap (λ (l : List ℕ). word ∷ l) (put ∙ (ap (λ (l : List ℕ). first ∷ l) rest ∙ ap (λ (x : ℕ). x ∷ take n (drop at one)) was));
+      put = (λ j. here j ∷ put j) ∙ (λ j. word ∷ (was j ∷ rest j));
       below = λ s differ lt. p.below s (omega arith) ∙ stays s differ;
       above = λ s lt. p.above s lt ∙ stays s (λ e. omega arith);
     }
@@ -152,22 +149,17 @@ pub cut_behind : {one two : List ℕ} {head at n from until : ℕ} → 0 < from 
 cut_behind {one} {two} {head} {at} {n} {from} {until} some ordered within low wide p =
     let up : suc (from - 1) ≡ from = omega arith in
     let over : suc (until - 1) ≡ until = omega arith in
-    let gap : until - 1 - (from - 1) ≡ until - from = omega arith in
+    let left : from - 1 + (0 + (n - (until - 1))) ≡ n - (until - from) = omega arith in
+    let all : until - 1 + (n - (until - 1)) ≡ n = omega arith in
+    let long = p.long in
     let first : slice_index two head ≡ slice_index one head = p.below head (omega arith) in
-    let cut : take (n - (until - 1 - (from - 1))) (drop at two) ≡ splice (take n (drop at one)) (from - 1) (until - 1) [] =
-    body_cut one two at n (from - 1) (until - 1) (omega arith) (omega arith) wide p.long p.below
-    (λ s a b. let e : at + (from - 1) + (s - (at + (from - 1))) ≡ s = omega arith in
-    let f : at + (until - 1) + (s - (at + (from - 1))) ≡ s + (until - 1 - (from - 1)) = omega arith in
-    ap (slice_index two) (sym e) ∙ (p.copied (s - (at + (from - 1))) (omega arith) ∙ ap (slice_index one) f)) in
-    let less : take (n - (until - from)) (drop at two) ≡ splice (take n (drop at one)) (from - 1) (until - 1) [] =
-    ap (λ (m : ℕ). take (n - m) (drop at two)) (sym gap) ∙ cut in
+    let cut = body_spliced one two [] at (from - 1) (until - 1) (n - (until - 1)) (omega arith) (omega arith) (omega arith)
+    (λ k lt. p.below (at + k) (omega arith)) refl
+    (λ k lt. let e : at + (from - 1) + 0 + k ≡ at + (from - 1) + k = omega arith in ap (slice_index two) e ∙ p.copied k lt) in
     record {
       long = p.long;
-      cut = subst (λ (x : ℕ). slice_index two head ∷ take (n - (until - from)) (drop at two)
-          ≡ splice (slice_index one head ∷ take n (drop at one)) x until []) up
-          (subst (λ (y : ℕ). slice_index two head ∷ take (n - (until - from)) (drop at two)
-          ≡ splice (slice_index one head ∷ take n (drop at one)) (suc (from - 1)) y []) over
-          (ap (λ (x : ℕ). x ∷ take (n - (until - from)) (drop at two)) first ∙ ap (λ (l : List ℕ). slice_index one head ∷ l) less));
+      cut = coe 0 1 (j. slice_index two head ∷ take (left j) (drop at two) ≡ splice (slice_index one head ∷ take (all j) (drop at one)) (up j) (over j) [])
+          (λ j. first j ∷ cut j);
       below = λ s differ lt. p.below s (omega arith);
       above = λ s le. p.above s (omega arith);
     }
@@ -183,18 +175,16 @@ cut_front {one} {mid} {two} {head} {at} {n} {until} {first} some within low wide
     λ (s : ℕ) (d : s ≢ head). ap (λ (l : List ℕ). slice_index l s) laid ∙ get_or-set_other mid head s first 0 d in
     let here : slice_index two head ≡ first =
     ap (λ (l : List ℕ). slice_index l head) laid ∙ get_or-set_same mid head first 0 (omega arith) in
-    let cut : take (n - (until - 0)) (drop at mid) ≡ splice (take n (drop at one)) 0 until [] =
-    body_cut one mid at n 0 until (omega arith) within wide p.long (λ s lt. p.below s (omega arith))
-    (λ s a b. let e : at + (s - at) ≡ s = omega arith in
-    let f : at + until + (s - at) ≡ s + (until - 0) = omega arith in
-    ap (slice_index mid) (sym e) ∙ (p.copied (s - at) (omega arith) ∙ ap (slice_index one) f)) in
-    let rest : take (n - (until - 0)) (drop at two) ≡ take (n - (until - 0)) (drop at mid) =
-    same_run mid two at (n - (until - 0)) (omega arith) long_two (λ k lt. stays (at + k) (λ e. omega arith)) in
+    let left : 0 + (0 + (n - until)) ≡ n - (until - 0) = omega arith in
+    let all : until + (n - until) ≡ n = omega arith in
+    let gone = body_spliced one mid [] at 0 until (n - until) (omega arith) (omega arith) (omega arith) (λ k lt. absurd (omega arith)) refl
+    (λ k lt. let e : at + 0 + 0 + k ≡ at + k = omega arith in ap (slice_index mid) e ∙ p.copied k lt) in
+    let rest = same_runs two mid at at (n - (until - 0)) (omega arith) (omega arith) (λ k lt. stays (at + k) (λ e. omega arith)) in
+    let back = here ∙ was in
+    let cut = rest ∙ coe 0 1 (j. take (left j) (drop at mid) ≡ splice (take (all j) (drop at one)) 0 until []) gone in
     record {
       long = long_two ∙ long_mid;
-      cut = ap (λ (x : ℕ). x ∷ take (n - (until - 0)) (drop at two)) (here ∙ was)
-          ∙ (ap (λ (l : List ℕ). slice_index one (at + (until - 1)) ∷ l) (rest ∙ cut)
-          ∙ cut_head one at n (slice_index one head) until some within wide);
+      cut = (λ j. back j ∷ cut j) ∙ cut_head one at n (slice_index one head) until some within wide;
       below = λ s differ lt. stays s differ ∙ p.below s lt;
       above = λ s le. stays s (λ e. omega arith) ∙ p.above s (omega arith);
     }

@@ -1,25 +1,20 @@
 -- A block that has one row more or some fewer, as the stores in its head, its body and its body word leave it.
 use Rattle.std.proofs.Common.{◌≡◌, ◌≢◌, ℕ, ◌+◌, ◌-◌, ◌*◌, ◌/◌, ◌%◌, ◌<◌, ◌≤◌, List, [], ◌∷◌, length, take, drop}
-use Rattle.std.proofs.Common.{sym, refl, ap, ◌∙◌, subst, arith}
+use Rattle.std.proofs.Common.{refl, ap, ◌∙◌, arith, inl, inr}
 use Rattle.std.specs.Prelude.{slice_index, slice_set}
 use Rattle.std.specs.List.{splice}
 use Rattle.std.proofs.lemmas.List.{length-set, get_or-set_same, get_or-set_other}
 use Rattle.row_blocks.specs.Blocks.{blocks_of, body_of, rows_of, body_at, block, rows_in, rank, told, IsLaidOut}
 use Rattle.row_blocks.specs.Moves.{IsPutIn, IsCutOut}
-use Rattle.row_blocks.proofs.Puts.{OnlyBlock, same_run, still_laid, rows_spliced, count_stays, body_word_stays}
+use Rattle.row_blocks.proofs.Puts.{OnlyBlock, same_runs, still_laid, rows_spliced, count_stays, body_word_stays}
 
--- what a caller has read of a block's body word says where its rows stand
-pub put_there : (nb : ℕ) {one loaded middle : List ℕ} {i place w packed : ℕ} → loaded ≡ one → packed ≡ slice_index one (128 * nb + 1 + i)
-    → IsPutIn loaded middle i (nb + 127 * (packed / 128)) (packed % 128) place w → IsPutIn one middle i (body_at nb one i) (rows_of nb one i) place w
-put_there nb {one} {middle} {i} {place} {w} {packed} same read p = subst (λ (x : ℕ). IsPutIn one middle i (nb + 127 * (x / 128)) (x % 128) place w) read
-    (subst (λ (l : List ℕ). IsPutIn l middle i (nb + 127 * (packed / 128)) (packed % 128) place w) same p)
-
--- the same where rows go
-pub cut_there : (nb : ℕ) {one loaded middle : List ℕ} {i from until packed : ℕ} → loaded ≡ one → packed ≡ slice_index one (128 * nb + 1 + i)
-    → IsCutOut loaded middle i (nb + 127 * (packed / 128)) (packed % 128) from until → IsCutOut one middle i (body_at nb one i) (rows_of nb one i) from until
-cut_there nb {one} {middle} {i} {from} {until} {packed} same read p =
-    subst (λ (x : ℕ). IsCutOut one middle i (nb + 127 * (x / 128)) (x % 128) from until) read
-    (subst (λ (l : List ℕ). IsCutOut l middle i (nb + 127 * (packed / 128)) (packed % 128) from until) same p)
+-- what a splice of the rows of one block leaves of all, and how many rows the block has then
+pub record IsSplicedBlock (nb : ℕ) (one two : List ℕ) (i from until : ℕ) (new : List ℕ) (rows : ℕ) : Type 0 where
+  pub laid : IsLaidOut nb two
+  pub spliced : rows_in nb two ≡ splice (rows_in nb one) (rank nb one i from) (rank nb one i until) new
+  pub count : blocks_of nb two ≡ blocks_of nb one
+  pub others : (k : ℕ) → k < nb → k ≢ i → told nb two k ≡ told nb one k
+  pub left : rows_of nb two i ≡ rows
 
 -- a block with its body word, once the body word tells another number of rows
 module _ {nb : ℕ} {one : List ℕ} (middle : List ℕ) {two : List ℕ} (i word more : ℕ) (laid : IsLaidOut nb one) (there : i < blocks_of nb one)
@@ -48,8 +43,9 @@ module _ {nb : ℕ} {one : List ℕ} (middle : List ℕ) {two : List ℕ} (i wor
       let same_body : body_of nb two i ≡ body_of nb one i = omega arith in
       let rows : slice_index two (128 * nb + 1 + i) % 128 ≡ more = omega arith in
       let head : slice_index two i ≡ slice_index middle i = other i (λ q. omega arith) in
+      let after = long_two in
       let rest : take more (drop (body_at nb one i) two) ≡ take more (drop (body_at nb one i) middle) =
-      same_run middle two (body_at nb one i) more (omega arith) (long_two ∙ sym long) (λ k l. other (body_at nb one i + k) (λ q. omega arith)) in
+      same_runs two middle (body_at nb one i) (body_at nb one i) more (omega arith) (omega arith) (λ k l. other (body_at nb one i + k) (λ q. omega arith)) in
       rw (same_body, rows, head, rest) refl
 
   -- and nothing else has changed
@@ -60,94 +56,44 @@ module _ {nb : ℕ} {one : List ℕ} (middle : List ℕ) {two : List ℕ} (i wor
       let e = told_is in
       record {
         long = long_two;
-        same = λ s differ apart. (
-          (λ low. other s apart ∙ below s differ low),
-          (λ high. other s apart ∙ above s high),
-        );
+        same = λ s differ apart away. other s apart ∙ elim away [ inl low ↦ below s differ low | inr high ↦ above s high ];
         body = omega arith;
       }
 
--- one row more
-module _ {nb : ℕ} {one middle two : List ℕ} {i place w : ℕ} (laid : IsLaidOut nb one) (there : i < blocks_of nb one) (room : rows_of nb one i < 127)
-    (put : IsPutIn one middle i (body_at nb one i) (rows_of nb one i) place w)
-    (stored : two ≡ slice_set middle (128 * nb + 1 + i) (slice_index one (128 * nb + 1 + i) + 1)) where
-  -- only this block has changed
-  pub put_only : OnlyBlock nb one two i
-  put_only = only_block middle i (slice_index one (128 * nb + 1 + i) + 1) 0 laid there put.long stored (omega arith) put.below
-      (λ s le. put.above s (omega arith))
-
-  -- its rows are a splice of those before
-  pub put_block : block nb two i ≡ splice (block nb one i) place place (w ∷ [])
-  put_block =
-      block_is middle i (slice_index one (128 * nb + 1 + i) + 1) (rows_of nb one i + 1) laid there put.long stored (omega arith) (omega arith) (omega arith)
-      ∙ put.put
-
-  -- and they are one more
-  pub put_more : rows_of nb two i ≡ rows_of nb one i + 1
-  put_more =
-      let e = told_is middle i (slice_index one (128 * nb + 1 + i) + 1) 0 laid there put.long stored in omega arith
-
--- or some fewer
-module _ {nb : ℕ} {one middle two : List ℕ} {i from until : ℕ} (laid : IsLaidOut nb one) (there : i < blocks_of nb one) (ordered : from < until)
-    (left : until ≤ rows_of nb one i + from) (cut : IsCutOut one middle i (body_at nb one i) (rows_of nb one i) from until)
-    (stored : two ≡ slice_set middle (128 * nb + 1 + i) (slice_index one (128 * nb + 1 + i) - (until - from))) where
-  -- only this block has changed
-  pub cut_only : OnlyBlock nb one two i
-  cut_only = only_block middle i (slice_index one (128 * nb + 1 + i) - (until - from)) 0 laid there cut.long stored (omega arith) cut.below
-      (λ s le. cut.above s (omega arith))
-
-  -- its rows are a splice of those before
-  pub block_cut : block nb two i ≡ splice (block nb one i) from until []
-  block_cut =
-      block_is middle i (slice_index one (128 * nb + 1 + i) - (until - from)) (rows_of nb one i - (until - from)) laid there cut.long stored (omega arith)
-      (omega arith) (omega arith)
-      ∙ cut.cut
-
-  -- and they are fewer
-  pub cut_less : rows_of nb two i + (until - from) ≡ rows_of nb one i
-  cut_less =
-      let e = told_is middle i (slice_index one (128 * nb + 1 + i) - (until - from)) 0 laid there cut.long stored in omega arith
-
--- what a splice of the rows of one block leaves of all, and how many rows the block has then
-pub record IsSplicedBlock (nb : ℕ) (one two : List ℕ) (i from until : ℕ) (new : List ℕ) (rows : ℕ) : Type 0 where
-  pub laid : IsLaidOut nb two
-  pub spliced : rows_in nb two ≡ splice (rows_in nb one) (rank nb one i from) (rank nb one i until) new
-  pub count : blocks_of nb two ≡ blocks_of nb one
-  pub others : (k : ℕ) → k < nb → k ≢ i → told nb two k ≡ told nb one k
-  pub left : rows_of nb two i ≡ rows
+  -- a splice of its rows is one of all
+  pub spliced_block : (from until : ℕ) (new : List ℕ) → from ≤ until → until ≤ rows_of nb one i + 1 → word / 128 ≡ body_of nb one i → word % 128 ≡ more
+      → more ≤ 127 → ((s : ℕ) → s ≢ i → s < body_at nb one i → slice_index middle s ≡ slice_index one s)
+      → ((s : ℕ) → body_at nb one i + 127 ≤ s → slice_index middle s ≡ slice_index one s)
+      → slice_index middle i ∷ take more (drop (body_at nb one i) middle) ≡ splice (block nb one i) from until new
+      → IsSplicedBlock nb one two i from until new more
+  spliced_block from until new ordered within body count few below above here =
+      let only = only_block body below above in
+      record {
+        laid = still_laid laid there only;
+        spliced = rows_spliced laid there only from until new ordered within (block_is body count few ∙ here);
+        count = count_stays laid there only;
+        others = body_word_stays laid there only;
+        left = ap (λ (x : ℕ). x % 128) told_is ∙ count;
+      }
 
 -- by what was read of the body word: one row more
 pub row_put : {nb : ℕ} {one loaded middle two : List ℕ} {i place w packed : ℕ} → IsLaidOut nb one → i < blocks_of nb one → rows_of nb one i < 127
     → place ≤ rows_of nb one i + 1 → loaded ≡ one → packed ≡ slice_index one (128 * nb + 1 + i)
     → IsPutIn loaded middle i (nb + 127 * (packed / 128)) (packed % 128) place w → two ≡ slice_set middle (128 * nb + 1 + i) (packed + 1)
     → IsSplicedBlock nb one two i place place (w ∷ []) (rows_of nb one i + 1)
-row_put {nb} {one} {middle} {two} {i} {place} {w} laid there room within same read put more =
-    let p = put_there nb same read put in
-    let stored : two ≡ slice_set middle (128 * nb + 1 + i) (slice_index one (128 * nb + 1 + i) + 1) =
-    more ∙ ap (λ (x : ℕ). slice_set middle (128 * nb + 1 + i) (x + 1)) read in
-    let only = put_only laid there room p stored in
-    record {
-      laid = still_laid laid there only;
-      spliced = rows_spliced laid there only place place (w ∷ []) (omega arith) within (put_block laid there room p stored);
-      count = count_stays laid there only;
-      others = body_word_stays laid there only;
-      left = put_more laid there room p stored;
-    }
+row_put {nb} {one} {middle} {i} {place} {w} laid there room within same read put more =
+    let p = coe 0 1 (j. IsPutIn (same j) middle i (nb + 127 * (read j / 128)) (read j % 128) place w) put in
+    spliced_block middle i (slice_index one (128 * nb + 1 + i) + 1) (rows_of nb one i + 1) laid there p.long
+    (more ∙ ap (λ (x : ℕ). slice_set middle (128 * nb + 1 + i) (x + 1)) read) place place (w ∷ []) (omega arith) within (omega arith) (omega arith)
+    (omega arith) p.below (λ s le. p.above s (omega arith)) p.put
 
 -- or some fewer
 pub rows_cut : {nb : ℕ} {one loaded middle two : List ℕ} {i from until packed : ℕ} → IsLaidOut nb one → i < blocks_of nb one → from < until
     → until ≤ rows_of nb one i + 1 → until ≤ rows_of nb one i + from → loaded ≡ one → packed ≡ slice_index one (128 * nb + 1 + i)
     → IsCutOut loaded middle i (nb + 127 * (packed / 128)) (packed % 128) from until → two ≡ slice_set middle (128 * nb + 1 + i) (packed - (until - from))
     → IsSplicedBlock nb one two i from until [] (rows_of nb one i - (until - from))
-rows_cut {nb} {one} {middle} {two} {i} {from} {until} laid there ordered within left same read cut less =
-    let p = cut_there nb same read cut in
-    let stored : two ≡ slice_set middle (128 * nb + 1 + i) (slice_index one (128 * nb + 1 + i) - (until - from)) =
-    less ∙ ap (λ (x : ℕ). slice_set middle (128 * nb + 1 + i) (x - (until - from))) read in
-    let only = cut_only laid there ordered left p stored in
-    record {
-      laid = still_laid laid there only;
-      spliced = rows_spliced laid there only from until [] (omega arith) within (block_cut laid there ordered left p stored);
-      count = count_stays laid there only;
-      others = body_word_stays laid there only;
-      left = let e = cut_less laid there ordered left p stored in omega arith;
-    }
+rows_cut {nb} {one} {middle} {i} {from} {until} laid there ordered within left same read cut less =
+    let p = coe 0 1 (j. IsCutOut (same j) middle i (nb + 127 * (read j / 128)) (read j % 128) from until) cut in
+    spliced_block middle i (slice_index one (128 * nb + 1 + i) - (until - from)) (rows_of nb one i - (until - from)) laid there p.long
+    (less ∙ ap (λ (x : ℕ). slice_set middle (128 * nb + 1 + i) (x - (until - from))) read) from until [] (omega arith) within (omega arith) (omega arith)
+    (omega arith) p.below (λ s le. p.above s (omega arith)) p.cut

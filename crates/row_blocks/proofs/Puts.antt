@@ -1,11 +1,12 @@
 -- What a row that comes into a block makes of the block, and of all rows.
-use Rattle.std.proofs.Common.{◌≡◌, ◌≢◌, ℕ, zero, suc, ◌+◌, ◌-◌, ◌*◌, ◌<◌, ◌≤◌, List, [], ◌∷◌, ◌++◌, length, get_or, take, drop}
+use Rattle.std.proofs.Common.{◌≡◌, ◌≢◌, ℕ, zero, suc, ◌+◌, ◌-◌, ◌*◌, ◌/◌, ◌%◌, ◌<◌, ◌≤◌, ◌⊎◌, List, [], ◌∷◌, ◌++◌, length, get_or, take, drop}
 use Rattle.std.proofs.Common.{sym, refl, ap, ◌∙◌, subst, arith, inl, inr}
 use Rattle.std.proofs.lemmas.Bool.{cases_lt}
 use Rattle.std.specs.Prelude.{slice_index}
-use Rattle.std.specs.List.{insert, splice}
+use Rattle.std.specs.List.{splice}
+use Rattle.std.proofs.Math.Seq.{take-add}
 use Rattle.std.proofs.lemmas.List.{append_assoc, length-append, length-take-le, length-drop, take-append-drop, take_at, drop_at}
-use Rattle.std.proofs.lemmas.List.{get_or_append_left, get_or-append_right, get_or-take, get_or-drop, get_or_at, drop_more}
+use Rattle.std.proofs.lemmas.List.{get_or-take, get_or-drop, take-take, drop-take, drop-drop, drop_more}
 use Rattle.std.proofs.lemmas.Grind.{same_number_lists}
 use mathlib.Core.Logic.{dite}
 use native.Mathlib.Decide.{ℕ_discrete}
@@ -20,60 +21,36 @@ run_length words at n wide = let d = length-drop at words in length-take-le n (d
 pub run_at : (words : List ℕ) (at n k : ℕ) → k < n → get_or (take n (drop at words)) k 0 ≡ get_or words (at + k) 0
 run_at words at n k lt = get_or-take n (drop at words) k 0 lt ∙ get_or-drop at words k 0
 
--- they are the same where each is
-pub same_run : (one two : List ℕ) (at n : ℕ) → at + n ≤ length one → length two ≡ length one
-    → ((k : ℕ) → k < n → get_or two (at + k) 0 ≡ get_or one (at + k) 0) → take n (drop at two) ≡ take n (drop at one)
-same_run one two at n wide long same =
-    let a = run_length one at n wide in
-    let b = run_length two at n (omega arith) in
-    same_number_lists (take n (drop at two)) (take n (drop at one)) (omega arith)
-    (λ k lt. run_at two at n k (omega arith) ∙ (same k (omega arith) ∙ sym (run_at one at n k (omega arith))))
+-- words of two lists are the same where each is
+pub same_runs : (xs ys : List ℕ) (at from n : ℕ) → at + n ≤ length xs → from + n ≤ length ys
+    → ((k : ℕ) → k < n → get_or xs (at + k) 0 ≡ get_or ys (from + k) 0) → take n (drop at xs) ≡ take n (drop from ys)
+same_runs xs ys at from n wide long same =
+    let a = run_length xs at n wide in
+    let b = run_length ys from n long in
+    same_number_lists (take n (drop at xs)) (take n (drop from ys)) (omega arith)
+    (λ k lt. run_at xs at n k (omega arith) ∙ (same k (omega arith) ∙ sym (run_at ys from n k (omega arith))))
 
--- where an item of a list stands once another one has come
-before_insert : (xs : List ℕ) (p w k : ℕ) → p ≤ length xs → k < p → get_or (insert xs p w) k 0 ≡ get_or xs k 0
-before_insert xs p w k there lt =
-    let l = length-take-le p xs there in get_or_append_left (take p xs) (w ∷ drop p xs) 0 k (omega arith) ∙ get_or-take p xs k 0 lt
+-- a block with the same body word, head and rows is the same, whatever its number
+pub same_block : (nb : ℕ) (one two : List ℕ) (k l : ℕ) → body_at nb one k + rows_of nb one k ≤ length one → length two ≡ length one
+    → slice_index two (128 * nb + 1 + l) ≡ slice_index one (128 * nb + 1 + k) → slice_index two l ≡ slice_index one k
+    → ((m : ℕ) → m < rows_of nb one k → slice_index two (body_at nb one k + m) ≡ slice_index one (body_at nb one k + m))
+    → block nb two l ≡ block nb one k
+same_block nb one two k l wide long word head rest =
+    (λ j. head j ∷ take (word j % 128) (drop (nb + 127 * (word j / 128)) two))
+    ∙ ap (λ (r : List ℕ). slice_index one k ∷ r) (same_runs two one (body_at nb one k) (body_at nb one k) (rows_of nb one k) (omega arith) wide rest)
 
-at_insert : (xs : List ℕ) (p w : ℕ) → p ≤ length xs → get_or (insert xs p w) p 0 ≡ w
-at_insert xs p w there = get_or_at (take p xs) w (drop p xs) 0 p (length-take-le p xs there)
-
-behind_insert : (xs : List ℕ) (p w k : ℕ) → p ≤ k → k < length xs → get_or (insert xs p w) (suc k) 0 ≡ get_or xs k 0
-behind_insert xs p w k le lt =
-    let l : length (take p xs) ≡ p = length-take-le p xs (omega arith) in
-    let at : suc k - p ≡ suc (k - p) = omega arith in
-    let all : p + (k - p) ≡ k = omega arith in
-    get_or-append_right (take p xs) (w ∷ drop p xs) p (suc k) 0 l (omega arith)
-    ∙ (ap (λ (n : ℕ). get_or (w ∷ drop p xs) n 0) at ∙ (get_or-drop p xs (k - p) 0 ∙ ap (λ (n : ℕ). get_or xs n 0) all))
-
-insert_length : (xs : List ℕ) (p w : ℕ) → p ≤ length xs → length (insert xs p w) ≡ length xs + 1
-insert_length xs p w there =
-    let l = length-append (take p xs) (w ∷ drop p xs) in let a = length-take-le p xs there in let b = length-drop p xs in omega arith
-
--- the rows of a body, once those from one on have moved up and another one stands there
-pub body_put : (old new : List ℕ) (at n p : ℕ) {w : ℕ} → p ≤ n → at + n < length old → length new ≡ length old
-    → ((s : ℕ) → s < at + p → get_or new s 0 ≡ get_or old s 0) → get_or new (at + p) 0 ≡ w
-    → ((s : ℕ) → at + p ≤ s → s < at + n → get_or new (s + 1) 0 ≡ get_or old s 0) → take (n + 1) (drop at new) ≡ insert (take n (drop at old)) p w
-body_put old new at n p {w} there wide long below here moved =
-    let a = run_length old at n (omega arith) in
-    let b = run_length new at (n + 1) (omega arith) in
-    let c = insert_length (take n (drop at old)) p w (omega arith) in
-    same_number_lists (take (n + 1) (drop at new)) (insert (take n (drop at old)) p w) (omega arith) (λ k lt.
-    run_at new at (n + 1) k (omega arith)
-    ∙ elim (cases_lt k p) [
-      | inl less ↦ below (at + k) (omega arith)
-          ∙ (sym (run_at old at n k (omega arith)) ∙ sym (before_insert (take n (drop at old)) p w k (omega arith) less))
-      | inr ge ↦ dite (ℕ_discrete k p)
-          (λ same. subst (λ (m : ℕ). get_or new (at + m) 0 ≡ get_or (insert (take n (drop at old)) p w) m 0) (sym same)
-          (here ∙ sym (at_insert (take n (drop at old)) p w (omega arith))))
-          (λ differ.
-          let up : suc (k - 1) ≡ k = omega (arith, differ) in
-          let one : at + (k - 1) + 1 ≡ at + k = omega (arith, differ) in
-          subst (λ (m : ℕ). get_or new m 0 ≡ get_or (insert (take n (drop at old)) p w) k 0) one
-          (moved (at + (k - 1)) (omega (arith, differ)) (omega (arith, differ))
-          ∙ (sym (run_at old at n (k - 1) (omega (arith, differ)))
-          ∙ (sym (behind_insert (take n (drop at old)) p w (k - 1) (omega (arith, differ)) (omega (arith, differ)))
-          ∙ ap (λ (m : ℕ). get_or (insert (take n (drop at old)) p w) m 0) up))))
-    ])
+-- the rows of a body, once some have gone, others stand there and those behind have moved
+pub body_spliced : (old new u : List ℕ) (at p q r : ℕ) → p ≤ q → at + (q + r) ≤ length old → at + (p + (length u + r)) ≤ length new
+    → ((k : ℕ) → k < p → get_or new (at + k) 0 ≡ get_or old (at + k) 0) → take (length u) (drop (at + p) new) ≡ u
+    → ((k : ℕ) → k < r → get_or new (at + p + length u + k) 0 ≡ get_or old (at + q + k) 0)
+    → take (p + (length u + r)) (drop at new) ≡ splice (take (q + r) (drop at old)) p q u
+body_spliced old new u at p q r ordered wide long below here moved =
+    let front = same_runs new old at at p (omega arith) (omega arith) below in
+    let back = same_runs new old (at + p + length u) (at + q) r (omega arith) (omega arith) moved in
+    let rest = ap (take (length u + r)) (drop-drop p at new) ∙ take-add (length u) r (drop (at + p) new) in
+    let tail = ap (take r) (drop-drop (length u) (at + p) new) ∙ (back ∙ sym (drop-take q r (drop at old) ∙ ap (take r) (drop-drop q at old))) in
+    let same = take-take p (q + r) (drop at old) (omega arith) in
+    take-add p (length u + r) (drop at new) ∙ ((λ j. front j ++ rest j) ∙ (λ j. sym same j ++ (here j ++ tail j)))
 
 -- a splice of one of three lists is one of the whole
 splice_in : (a b c : List ℕ) {r : ℕ} (j m : ℕ) (w : List ℕ) → length a ≡ r → j ≤ m → m ≤ length b
@@ -121,11 +98,35 @@ count_is {nb} {words} (suc n) laid le =
     let r = count_is n laid (omega arith) in
     omega arith
 
+-- a word of one body is none of another one
+pub elsewhere : {nb : ℕ} {words : List ℕ} (k i m : ℕ) → IsLaidOut nb words → k < nb → i < nb → k ≢ i → m < 127
+    → (body_at nb words k + m < body_at nb words i) ⊎ (body_at nb words i + 127 ≤ body_at nb words k + m)
+elsewhere {nb} {words} k i m laid lt there differ few =
+    let apart : body_of nb words k ≢ body_of nb words i = λ e. differ (laid.apart k i lt there e) in
+    elim (cases_lt (body_of nb words k) (body_of nb words i)) [
+      | inl less ↦ inl (omega arith)
+      | inr ge ↦ inr (omega (arith, apart))
+    ]
+
+-- words with the same block count and the same bodies are laid out as before
+pub still_laid_out : {nb : ℕ} {one two : List ℕ} → IsLaidOut nb one → length two ≡ length one → blocks_of nb two ≡ blocks_of nb one
+    → ((k : ℕ) → k < nb → body_of nb two k ≡ body_of nb one k) → IsLaidOut nb two
+still_laid_out laid long count same =
+    let wide = laid.wide in
+    let some = laid.some in
+    let spare = laid.spare in
+    record {
+      wide = omega arith;
+      some = omega arith;
+      spare = omega arith;
+      bodies = λ k lt. let e = same k lt in let b = laid.bodies k lt in omega arith;
+      apart = λ k l a b e. laid.apart k l a b (sym (same k a) ∙ (e ∙ same l b));
+    }
+
 -- only one block has changed: its head, its body and its body word
 pub record OnlyBlock (nb : ℕ) (one two : List ℕ) (i : ℕ) : Type 0 where
   pub long : length two ≡ length one
-  pub same : (s : ℕ) → s ≢ i → s ≢ 128 * nb + 1 + i → (s < body_at nb one i → slice_index two s ≡ slice_index one s)
-      × (body_at nb one i + 127 ≤ s → slice_index two s ≡ slice_index one s)
+  pub same : (s : ℕ) → s ≢ i → s ≢ 128 * nb + 1 + i → (s < body_at nb one i) ⊎ (body_at nb one i + 127 ≤ s) → slice_index two s ≡ slice_index one s
   pub body : body_of nb two i ≡ body_of nb one i
 
 module _ {nb : ℕ} {one two : List ℕ} {i : ℕ} (laid : IsLaidOut nb one) (there : i < blocks_of nb one) (only : OnlyBlock nb one two i) where
@@ -134,36 +135,23 @@ module _ {nb : ℕ} {one two : List ℕ} {i : ℕ} (laid : IsLaidOut nb one) (th
   count_stays =
       let s = laid.spare in
       let b = laid.bodies i (omega arith) in
-      (only.same (128 * nb) (λ e. omega arith) (λ e. omega arith)).1 (omega arith)
+      only.same (128 * nb) (λ e. omega arith) (λ e. omega arith) (inr (omega arith))
 
   -- the other body words stand as they stood
   pub body_word_stays : (k : ℕ) → k < nb → k ≢ i → slice_index two (128 * nb + 1 + k) ≡ slice_index one (128 * nb + 1 + k)
   body_word_stays k lt differ =
       let s = laid.spare in
       let b = laid.bodies i (omega arith) in
-      (only.same (128 * nb + 1 + k) (λ e. omega arith) (λ e. differ (omega arith))).1 (omega arith)
-
-  head_stays : (k : ℕ) → k < nb → k ≢ i → slice_index two k ≡ slice_index one k
-  head_stays k lt differ = (only.same k differ (λ e. omega arith)).0 (omega arith)
+      only.same (128 * nb + 1 + k) (λ e. omega arith) (λ e. differ (omega arith)) (inr (omega arith))
 
   -- and so do the other blocks
   pub other_block : (k : ℕ) → k < nb → k ≢ i → block nb two k ≡ block nb one k
   other_block k lt differ =
       let s = laid.spare in
       let w = laid.wide in
-      let b = laid.bodies i (omega arith) in
       let c = laid.bodies k lt in
-      let word = body_word_stays k lt differ in
-      let head = head_stays k lt differ in
-      let apart : body_of nb one k ≢ body_of nb one i = λ e. differ (laid.apart k i lt (omega arith) e) in
-      let rest : take (rows_of nb one k) (drop (body_at nb one k) two) ≡ take (rows_of nb one k) (drop (body_at nb one k) one) =
-      same_run one two (body_at nb one k) (rows_of nb one k) (omega arith) only.long (λ m l.
-      let p = only.same (body_at nb one k + m) (λ e. omega arith) (λ e. omega arith) in
-      elim (cases_lt (body_of nb one k) (body_of nb one i)) [
-        | inl less ↦ p.0 (omega arith)
-        | inr ge ↦ p.1 (omega (arith, apart))
-      ]) in
-      rw (word, head, rest) refl
+      same_block nb one two k k (omega arith) only.long (body_word_stays k lt differ) (only.same k differ (λ e. omega arith) (inl (omega arith)))
+      (λ m l. only.same (body_at nb one k + m) (λ e. omega arith) (λ e. omega arith) (elsewhere k i m laid lt (omega arith) differ (omega arith)))
 
   body_stays : (k : ℕ) → k < nb → body_of nb two k ≡ body_of nb one k
   body_stays k lt = dite (ℕ_discrete k i)
@@ -172,19 +160,7 @@ module _ {nb : ℕ} {one two : List ℕ} {i : ℕ} (laid : IsLaidOut nb one) (th
 
   -- the words are laid out
   pub still_laid : IsLaidOut nb two
-  still_laid =
-      let count = count_stays in
-      let long = only.long in
-      let w = laid.wide in
-      let m = laid.some in
-      let s = laid.spare in
-      record {
-        wide = omega arith;
-        some = omega arith;
-        spare = omega arith;
-        bodies = λ k lt. let e = body_stays k lt in let b = laid.bodies k lt in omega arith;
-        apart = λ k l a b e. laid.apart k l a b (sym (body_stays k a) ∙ (e ∙ body_stays l b));
-      }
+  still_laid = still_laid_out laid only.long count_stays body_stays
 
   -- and a splice of the rows of the block is one of all rows
   pub rows_spliced : (j m : ℕ) (w : List ℕ) → j ≤ m → m ≤ rows_of nb one i + 1 → block nb two i ≡ splice (block nb one i) j m w
@@ -196,34 +172,6 @@ module _ {nb : ℕ} {one two : List ℕ} {i : ℕ} (laid : IsLaidOut nb one) (th
       ∙ splice_in_piece (block nb one) (block nb two) i (blocks_of nb one) j m w there ordered (omega arith)
       (λ k lt d. other_block k (omega arith) d) here
       ∙ ap (λ (r : ℕ). splice (rows_in nb one) (r + j) (r + m) w) (count_is i laid (omega arith))
-
--- the rows of a body, once some have gone and those behind have moved down
-pub body_cut : (old new : List ℕ) (at n p q : ℕ) → p ≤ q → q ≤ n → at + n ≤ length old → length new ≡ length old
-    → ((s : ℕ) → s < at + p → get_or new s 0 ≡ get_or old s 0)
-    → ((s : ℕ) → at + p ≤ s → s < at + (n - (q - p)) → get_or new s 0 ≡ get_or old (s + (q - p)) 0)
-    → take (n - (q - p)) (drop at new) ≡ splice (take n (drop at old)) p q []
-body_cut old new at n p q ordered there wide long below moved =
-    let t : List ℕ = take n (drop at old) in
-    let a = run_length old at n (omega arith) in
-    let b = run_length new at (n - (q - p)) (omega arith) in
-    let f : length (take p t) ≡ p = length-take-le p t (omega arith) in
-    let d = length-drop q t in
-    let l = length-append (take p t) (drop q t) in
-    same_number_lists (take (n - (q - p)) (drop at new)) (splice t p q []) (omega arith) (λ k lt.
-    run_at new at (n - (q - p)) k (omega arith)
-    ∙ elim (cases_lt k p) [
-      | inl less ↦ below (at + k) (omega arith)
-          ∙ (sym (run_at old at n k (omega arith))
-          ∙ sym (get_or_append_left (take p t) (drop q t) 0 k (omega arith) ∙ get_or-take p t k 0 less))
-      | inr ge ↦
-          let up : q + (k - p) ≡ k + (q - p) = omega arith in
-          let place : at + k + (q - p) ≡ at + (k + (q - p)) = omega arith in
-          moved (at + k) (omega arith) (omega arith)
-          ∙ (ap (λ (s : ℕ). get_or old s 0) place
-          ∙ (sym (run_at old at n (k + (q - p)) (omega arith))
-          ∙ sym (get_or-append_right (take p t) (drop q t) p k 0 f ge
-          ∙ (get_or-drop q t (k - p) 0 ∙ ap (λ (s : ℕ). get_or t s 0) up))))
-    ])
 
 -- where the head goes, a row of the body takes its place
 pub cut_head : (old : List ℕ) (at n h until : ℕ) → 0 < until → until ≤ n → at + n ≤ length old

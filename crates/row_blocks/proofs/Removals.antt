@@ -1,5 +1,5 @@
 -- What is left where blocks go.
-use Rattle.std.proofs.Common.{◌≡◌, ◌≢◌, ℕ, zero, suc, ◌+◌, ◌-◌, ◌*◌, ◌/◌, ◌%◌, ◌<◌, ◌≤◌, List, [], ◌∷◌, ◌++◌, length, take, drop}
+use Rattle.std.proofs.Common.{◌≡◌, ◌≢◌, ℕ, zero, suc, ◌+◌, ◌-◌, ◌*◌, ◌/◌, ◌<◌, ◌≤◌, List, [], ◌++◌, length, take, drop}
 use Rattle.std.proofs.Common.{sym, refl, ap, ◌∙◌, subst, arith, inl, inr}
 use Rattle.std.proofs.lemmas.Bool.{cases_lt}
 use Rattle.std.proofs.lemmas.List.{append_assoc, append-nil, drop_all, take_all, take-append-le, drop-append-le}
@@ -9,9 +9,9 @@ use Rattle.std.specs.List.{splice}
 use mathlib.Core.Logic.{dite}
 use native.Mathlib.Decide.{ℕ_discrete}
 use Rattle.row_blocks.specs.Moves.{IsCopied, IsSwapped, IsRotated}
-use Rattle.row_blocks.specs.Blocks.{pieces, blocks_of, body_of, rows_of, body_at, block, rows_in, count_to, AreBodies, IsLaidOut}
+use Rattle.row_blocks.specs.Blocks.{pieces, blocks_of, body_of, body_at, block, rows_in, count_to, AreBodies, IsLaidOut}
 use Rattle.row_blocks.proofs.Pieces.{same_pieces, fewer_pieces}
-use Rattle.row_blocks.proofs.Puts.{same_run, count_is}
+use Rattle.row_blocks.proofs.Puts.{same_block, count_is}
 
 -- which of two that change places a number is after it
 record Swapped (a b k m : ℕ) : Type 0 where
@@ -29,73 +29,14 @@ swap_apart one two =
     let u = two.stays in
     grind arith
 
-module _ {nb : ℕ} {words : List ℕ} (a b : ℕ) (bodies : AreBodies nb words) (one : a < nb) (other : b < nb) (wide : 129 * nb + 1 ≤ length words) where
-  after : List ℕ
-  after = slice_set (slice_set words (128 * nb + 1 + a) (slice_index words (128 * nb + 1 + b))) (128 * nb + 1 + b) (slice_index words (128 * nb + 1 + a))
-
-  source : (k : ℕ) → k < nb → (m : ℕ) × (m < nb) × Swapped a b k m × (body_of nb after k ≡ body_of nb words m)
-  unfolding after
-  source k lt =
-      let middle : List ℕ = slice_set words (128 * nb + 1 + a) (slice_index words (128 * nb + 1 + b)) in
-      let l = length-set words (128 * nb + 1 + a) (slice_index words (128 * nb + 1 + b)) in
-      let two : List ℕ = slice_set middle (128 * nb + 1 + b) (slice_index words (128 * nb + 1 + a)) in
-      dite (ℕ_discrete k b)
-      (λ e. (
-        a,
-        one,
-        record { one = λ q. omega arith; other = λ q. refl; stays = λ p q. absurd (q e) },
-        subst (λ (n : ℕ). body_of nb two n ≡ body_of nb words a) (sym e)
-            (ap (λ (x : ℕ). x / 128) (get_or-set_same middle (128 * nb + 1 + b) (slice_index words (128 * nb + 1 + a)) 0 (omega arith))),
-      ))
-      (λ differ. let first : slice_index two (128 * nb + 1 + k) ≡ slice_index middle (128 * nb + 1 + k) =
-      get_or-set_other middle (128 * nb + 1 + b) (128 * nb + 1 + k) (slice_index words (128 * nb + 1 + a)) 0 (λ e. differ (omega arith)) in
-      dite (ℕ_discrete k a)
-      (λ e. (
-        b,
-        other,
-        record { one = λ q. refl; other = λ q. absurd (differ q); stays = λ p q. absurd (p e) },
-        ap (λ (x : ℕ). x / 128) (first ∙ subst (λ (n : ℕ). slice_index middle (128 * nb + 1 + n) ≡ slice_index words (128 * nb + 1 + b)) (sym e)
-            (get_or-set_same words (128 * nb + 1 + a) (slice_index words (128 * nb + 1 + b)) 0 (omega arith))),
-      ))
-      (λ apart. (
-        k,
-        lt,
-        record { one = λ q. absurd (apart q); other = λ q. absurd (differ q); stays = λ p q. refl },
-        ap (λ (x : ℕ). x / 128) (first ∙ get_or-set_other words (128 * nb + 1 + a) (128 * nb + 1 + k) (slice_index words (128 * nb + 1 + b)) 0
-            (λ e. apart (omega arith))),
-      )))
-
-  swapped_after : AreBodies nb after
-  swapped_after = record {
-    there = λ k lt. let s = source k lt in let t = bodies.there s.0 s.1 in let e = s.3 in omega arith;
-    apart = λ k l x y e.
-        let s = source k x in
-        let t = source l y in
-        let same : s.0 ≡ t.0 = bodies.apart s.0 t.0 s.1 t.1 (sym s.3 ∙ (e ∙ t.3)) in
-        swap_apart s.2 (subst (Swapped a b l) (sym same) t.2);
-  }
-
-  -- each body still is of one block
-  pub swapped : AreBodies nb (slice_set (slice_set words (128 * nb + 1 + a) (slice_index words (128 * nb + 1 + b))) (128 * nb + 1 + b)
-      (slice_index words (128 * nb + 1 + a)))
-  unfolding after
-  swapped = swapped_after
-
 -- two body words change places, each by a load and a store
 pub swap_done : {one loaded mid two : List ℕ} (a b : ℕ) {first second : ℕ} → a < length one → b < length one → loaded ≡ one → first ≡ slice_index one a
-    → second ≡ slice_index loaded b → mid ≡ slice_set loaded b first → two ≡ slice_set mid a second
-    → two ≡ slice_set (slice_set one b (slice_index one a)) a (slice_index one b)
-swap_done {one} {mid} a b {first} {second} low high same read found laid stored =
-    let value : second ≡ slice_index one b = found ∙ ap (λ (l : List ℕ). slice_index l b) same in
-    let middle : mid ≡ slice_set one b (slice_index one a) =
-    laid ∙ (ap (λ (l : List ℕ). slice_set l b first) same ∙ ap (λ (x : ℕ). slice_set one b x) read) in
-    stored ∙ (ap (λ (l : List ℕ). slice_set l a second) middle ∙ ap (λ (x : ℕ). slice_set (slice_set one b (slice_index one a)) a x) value)
-
--- so each stands where the other one stood
-pub is_swapped : {one two : List ℕ} {a b : ℕ} → a < length one → b < length one → two ≡ slice_set (slice_set one b (slice_index one a)) a (slice_index one b)
-    → IsSwapped one two a b
-is_swapped {one} {two} {a} {b} low high is =
+    → second ≡ slice_index loaded b → mid ≡ slice_set loaded b first → two ≡ slice_set mid a second → IsSwapped one two a b
+swap_done {one} {two} a b low high same read found laid stored =
     let mid : List ℕ = slice_set one b (slice_index one a) in
+    let value = found ∙ ap (λ (l : List ℕ). slice_index l b) same in
+    let middle = laid ∙ (λ j. slice_set (same j) b (read j)) in
+    let is : two ≡ slice_set mid a (slice_index one b) = stored ∙ (λ j. slice_set (middle j) a (value j)) in
     let long = length-set one b (slice_index one a) in
     let here : slice_index two a ≡ slice_index one b =
     ap (λ (l : List ℕ). slice_index l a) is ∙ get_or-set_same mid a (slice_index one b) 0 (omega arith) in
@@ -109,6 +50,41 @@ is_swapped {one} {two} {a} {b} low high is =
       others = λ s x y. ap (λ (l : List ℕ). slice_index l s) is
           ∙ (get_or-set_other mid a s (slice_index one b) 0 x ∙ get_or-set_other one b s (slice_index one a) 0 y);
     }
+
+module _ {nb : ℕ} {one two : List ℕ} (a b : ℕ) (bodies : AreBodies nb one) (low : a < nb) (high : b < nb)
+    (s : IsSwapped one two (128 * nb + 1 + a) (128 * nb + 1 + b)) where
+  source : (k : ℕ) → k < nb → (m : ℕ) × (m < nb) × Swapped a b k m × (body_of nb two k ≡ body_of nb one m)
+  source k lt = dite (ℕ_discrete k a)
+      (λ e. (
+        b,
+        high,
+        record { one = λ q. refl; other = λ q. omega arith; stays = λ p q. absurd (p e) },
+        subst (λ (n : ℕ). body_of nb two n ≡ body_of nb one b) (sym e) (ap (λ (x : ℕ). x / 128) s.first),
+      ))
+      (λ differ. dite (ℕ_discrete k b)
+      (λ e. (
+        a,
+        low,
+        record { one = λ q. absurd (differ q); other = λ q. refl; stays = λ p q. absurd (q e) },
+        subst (λ (n : ℕ). body_of nb two n ≡ body_of nb one a) (sym e) (ap (λ (x : ℕ). x / 128) s.second),
+      ))
+      (λ apart. (
+        k,
+        lt,
+        record { one = λ q. absurd (differ q); other = λ q. absurd (apart q); stays = λ p q. refl },
+        ap (λ (x : ℕ). x / 128) (s.others (128 * nb + 1 + k) (λ e. differ (omega arith)) (λ e. apart (omega arith))),
+      )))
+
+  -- each body still is of one block where two body words have changed places
+  pub swapped : AreBodies nb two
+  swapped = record {
+    there = λ k lt. let s = source k lt in let t = bodies.there s.0 s.1 in let e = s.3 in omega arith;
+    apart = λ k l x y e.
+        let s = source k x in
+        let t = source l y in
+        let same : s.0 ≡ t.0 = bodies.apart s.0 t.0 s.1 t.1 (sym s.3 ∙ (e ∙ t.3)) in
+        swap_apart s.2 (subst (Swapped a b l) (sym same) t.2);
+  }
 
 -- no body word has moved yet
 pub rotates_none : {nb : ℕ} {one : List ℕ} {to gap : ℕ} → IsRotated nb one one to gap 0
@@ -157,8 +133,7 @@ pieces_cut f g first gap zero before behind =
     (omega arith) in
     ap (pieces g) e ∙ (front ∙ sym
     (ap (λ (m : ℕ). splice (pieces f m) (length (pieces f first)) (length (pieces f (first + gap))) []) d
-    ∙ (ap (λ (l : List ℕ). take (length (pieces f first)) (pieces f (first + gap)) ++ l) none
-    ∙ (append-nil (take (length (pieces f first)) (pieces f (first + gap))) ∙ take_pieces f first gap))))
+    ∙ ((λ j. take_pieces f first gap j ++ none j) ∙ append-nil (pieces f first))))
 pieces_cut f g first gap (suc n) before behind =
     let e : first + suc n ≡ suc (first + n) = omega arith in
     let d : first + suc n + gap ≡ suc (first + n + gap) = omega arith in
@@ -168,13 +143,12 @@ pieces_cut f g first gap (suc n) before behind =
     let b = fewer_pieces f (first + gap) (first + n + gap) (omega arith) in
     let one = take-append-le (length (pieces f first)) (pieces f (first + n + gap)) (f (first + n + gap)) a in
     let two = drop-append-le (length (pieces f (first + gap))) (pieces f (first + n + gap)) (f (first + n + gap)) b in
-    ap (pieces g) e ∙ (ap (λ (l : List ℕ). l ++ g (first + n)) front
-    ∙ (ap (λ (l : List ℕ). splice (pieces f (first + n + gap)) (length (pieces f first)) (length (pieces f (first + gap))) [] ++ l) last
-    ∙ sym (ap (λ (m : ℕ). splice (pieces f m) (length (pieces f first)) (length (pieces f (first + gap))) []) d
-    ∙ rw (one, two) (simp append_assoc))))
+    ap (pieces g) e ∙ ((λ j. front j ++ last j) ∙ sym (ap (λ (m : ℕ). splice (pieces f m) (length (pieces f first)) (length (pieces f (first + gap))) []) d
+    ∙ rw (one, two) (simp append_assoc)))
 
 -- what stands once blocks have gone
 pub record IsTakenOut (nb : ℕ) (one two : List ℕ) (first gap n : ℕ) : Type 0 where
+  pub laid : IsLaidOut nb two
   pub long : length two ≡ length one
   pub before : blocks_of nb one ≡ first + n + gap
   pub count : blocks_of nb two ≡ first + n
@@ -186,51 +160,36 @@ pub record IsTakenOut (nb : ℕ) (one two : List ℕ) (first gap n : ℕ) : Type
 
 module _ {nb : ℕ} {one two : List ℕ} {first gap n : ℕ} (laid : IsLaidOut nb one) (out : IsTakenOut nb one two first gap n) where
   -- blocks with the same body word and the same head are the same
-  same_block : (k l : ℕ) → k < nb → slice_index two (128 * nb + 1 + l) ≡ slice_index one (128 * nb + 1 + k)
+  moved_block : (k l : ℕ) → k < nb → slice_index two (128 * nb + 1 + l) ≡ slice_index one (128 * nb + 1 + k)
       → slice_index two l ≡ slice_index one k → block nb two l ≡ block nb one k
-  same_block k l lt word head =
+  moved_block k l lt word head =
       let wide = laid.wide in
       let b = laid.bodies k lt in
-      let rest : take (rows_of nb one k) (drop (body_at nb one k) two) ≡ take (rows_of nb one k) (drop (body_at nb one k) one) =
-      same_run one two (body_at nb one k) (rows_of nb one k) (omega arith) out.long
-      (λ m lm. out.region (body_at nb one k + m) (omega arith) (omega arith)) in
-      ap (λ (x : ℕ). slice_index two l ∷ take (x % 128) (drop (nb + 127 * (x / 128)) two)) word
-      ∙ (ap (λ (x : ℕ). x ∷ take (rows_of nb one k) (drop (body_at nb one k) two)) head
-      ∙ ap (λ (r : List ℕ). slice_index one k ∷ r) rest)
+      same_block nb one two k l (omega arith) out.long word head (λ m lm. out.region (body_at nb one k + m) (omega arith) (omega arith))
 
   -- the rows of the blocks that went are gone
-  pub rows_out : rows_in nb two ≡ splice (rows_in nb one) (length (pieces (block nb one) first)) (length (pieces (block nb one) (first + gap))) []
-  rows_out =
-      let before = out.before in
-      let spare = laid.spare in
-      ap (pieces (block nb two)) out.count
-      ∙ (pieces_cut (block nb one) (block nb two) first gap n
-      (λ i l. same_block i i (omega arith) (out.told i l) (out.heads i l))
-      (λ i a b. same_block (i + gap) i (omega arith) (out.later i a b) (out.later_heads i a b))
-      ∙ ap (λ (m : ℕ). splice (pieces (block nb one) m) (length (pieces (block nb one) first)) (length (pieces (block nb one) (first + gap))) []) (sym before))
-
-  -- by how many rows the blocks have
   pub rows_taken : rows_in nb two ≡ splice (rows_in nb one) (count_to nb one first) (count_to nb one (first + gap)) []
   rows_taken =
       let before = out.before in
       let spare = laid.spare in
-      rows_out
-      ∙ (ap (λ (m : ℕ). splice (rows_in nb one) m (length (pieces (block nb one) (first + gap))) []) (count_is first laid (omega arith))
-      ∙ ap (λ (m : ℕ). splice (rows_in nb one) (count_to nb one first) m []) (count_is (first + gap) laid (omega arith)))
+      let from = count_is first laid (omega arith) in
+      let until = count_is (first + gap) laid (omega arith) in
+      ap (pieces (block nb two)) out.count
+      ∙ (pieces_cut (block nb one) (block nb two) first gap n
+      (λ i l. moved_block i i (omega arith) (out.told i l) (out.heads i l))
+      (λ i a b. moved_block (i + gap) i (omega arith) (out.later i a b) (out.later_heads i a b))
+      ∙ (λ j. splice (pieces (block nb one) (sym before j)) (from j) (until j) []))
 
 -- the stores of a removal, one after another
-module _ (nb : ℕ) (one loaded heads told two : List ℕ) (first end count : ℕ) (laid : IsLaidOut nb one) (some : first < end)
-    (there : end ≤ blocks_of nb one) (left : 0 < first) (same : loaded ≡ one) (count_told : count ≡ blocks_of nb one)
-    (c : IsCopied loaded heads end first (count - end)) (r : IsRotated nb heads told first (end - first) (count - end))
+module _ {nb : ℕ} {one heads told two : List ℕ} {first end count : ℕ} (laid : IsLaidOut nb one) (some : first < end)
+    (there : end ≤ blocks_of nb one) (left : 0 < first) (count_told : count ≡ blocks_of nb one)
+    (c : IsCopied one heads end first (count - end)) (r : IsRotated nb heads told first (end - first) (count - end))
     (bodies : AreBodies nb told) (stored : two ≡ slice_set told (128 * nb) (count - (end - first))) where
   other : (s : ℕ) → s ≢ 128 * nb → slice_index two s ≡ slice_index told s
   other s differ = ap (λ (l : List ℕ). slice_index l s) stored ∙ get_or-set_other told (128 * nb) s (count - (end - first)) 0 differ
 
-  was : (s : ℕ) → slice_index loaded s ≡ slice_index one s
-  was s = ap (λ (l : List ℕ). slice_index l s) same
-
   long_told : length told ≡ length one
-  long_told = r.long ∙ (c.long ∙ ap length same)
+  long_told = r.long ∙ c.long
 
   long_two : length two ≡ length one
   long_two = ap length stored ∙ (length-set told (128 * nb) (count - (end - first)) ∙ long_told)
@@ -242,32 +201,9 @@ module _ (nb : ℕ) (one loaded heads told two : List ℕ) (first end count : �
       ap (λ (l : List ℕ). slice_index l (128 * nb)) stored ∙ get_or-set_same told (128 * nb) (count - (end - first)) 0 (omega arith)
 
   past : (s : ℕ) → count ≤ s → s < 128 * nb + 1 + first → s ≢ 128 * nb → slice_index two s ≡ slice_index one s
-  past s le lt d = other s d ∙ (r.below s lt ∙ (c.above s (omega arith) ∙ was s))
+  past s le lt d = other s d ∙ (r.below s lt ∙ c.above s (omega arith))
 
-  -- what they come to
-  pub is_out : IsTakenOut nb one two first (end - first) (count - end)
-  is_out =
-      let spare = laid.spare in
-      let h = here in
-      record {
-        long = long_two;
-        before = omega arith;
-        count = omega arith;
-        region = λ s le lt. past s (omega arith) (omega arith) (λ e. omega arith);
-        heads = λ k lt. other k (λ e. omega arith) ∙ (r.below k (omega arith) ∙ (c.below k lt ∙ was k));
-        later_heads = λ k le lt.
-            let e : first + (k - first) ≡ k = omega arith in
-            let f : end + (k - first) ≡ k + (end - first) = omega arith in
-            other k (λ e. omega arith)
-            ∙ (r.below k (omega arith)
-            ∙ (ap (slice_index heads) (sym e) ∙ (c.copied (k - first) (omega arith) ∙ (ap (slice_index loaded) f ∙ was (k + (end - first))))));
-        told = λ k lt. past (128 * nb + 1 + k) (omega arith) (omega arith) (λ e. omega arith);
-        later = λ k le lt. other (128 * nb + 1 + k) (λ e. omega arith)
-            ∙ (r.moved k le lt ∙ (c.above (128 * nb + 1 + (k + (end - first))) (omega arith) ∙ was (128 * nb + 1 + (k + (end - first)))));
-      }
-
-  -- and the words are laid out
-  pub laid_out : IsLaidOut nb two
+  laid_out : IsLaidOut nb two
   laid_out =
       let spare = laid.spare in
       let wide = laid.wide in
@@ -281,4 +217,25 @@ module _ (nb : ℕ) (one loaded heads told two : List ℕ) (first end count : �
         spare = omega arith;
         bodies = λ k lt. let e = stays k in let b = bodies.there k lt in omega arith;
         apart = λ k l a b e. bodies.apart k l a b (sym (stays k) ∙ (e ∙ stays l));
+      }
+
+  -- what they come to
+  pub is_out : IsTakenOut nb one two first (end - first) (count - end)
+  is_out =
+      let spare = laid.spare in
+      let h = here in
+      record {
+        laid = laid_out;
+        long = long_two;
+        before = omega arith;
+        count = omega arith;
+        region = λ s le lt. past s (omega arith) (omega arith) (λ e. omega arith);
+        heads = λ k lt. other k (λ e. omega arith) ∙ (r.below k (omega arith) ∙ c.below k lt);
+        later_heads = λ k le lt.
+            let e : first + (k - first) ≡ k = omega arith in
+            let f : end + (k - first) ≡ k + (end - first) = omega arith in
+            other k (λ e. omega arith)
+            ∙ (r.below k (omega arith) ∙ (ap (slice_index heads) (sym e) ∙ (c.copied (k - first) (omega arith) ∙ ap (slice_index one) f)));
+        told = λ k lt. past (128 * nb + 1 + k) (omega arith) (omega arith) (λ e. omega arith);
+        later = λ k le lt. other (128 * nb + 1 + k) (λ e. omega arith) ∙ (r.moved k le lt ∙ c.above (128 * nb + 1 + (k + (end - first))) (omega arith));
       }

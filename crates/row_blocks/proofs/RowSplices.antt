@@ -35,9 +35,8 @@ splice_behind R u v p q d there =
     ap (drop (p + length u)) whole ∙ drop_at front back (p + length u) long in
     let two : drop (p + length u + d) (take p R ++ (u ++ back)) ≡ drop (q + d) R =
     sym (drop-drop d (p + length u) (take p R ++ (u ++ back))) ∙ (ap (drop d) rest ∙ drop-drop d q R) in
-    ap (λ (l : List ℕ). l ++ (v ++ drop (p + length u + d) (take p R ++ (u ++ back)))) one
-    ∙ (ap (λ (l : List ℕ). front ++ (v ++ l)) two
-    ∙ (append_assoc (take p R) u (v ++ drop (q + d) R) ∙ ap (λ (l : List ℕ). take p R ++ l) (sym (append_assoc u v (drop (q + d) R)))))
+    (λ j. one j ++ (v ++ two j))
+    ∙ (append_assoc (take p R) u (v ++ drop (q + d) R) ∙ ap (λ (l : List ℕ). take p R ++ l) (sym (append_assoc u v (drop (q + d) R))))
 
 -- rows that go, and then those right before them
 pub cut_before : (R : List ℕ) (a b c : ℕ) → a ≤ b → b ≤ length R → splice (splice R b c []) a b [] ≡ splice R a c []
@@ -48,7 +47,7 @@ cut_before R a b c ordered there =
     take-append-le a (take b R) (drop c R) (omega arith)
     ∙ (sym (take-append-le a (take b R) (drop b R) (omega arith)) ∙ ap (take a) split) in
     let two : drop b (take b R ++ drop c R) ≡ drop c R = drop_at (take b R) (drop c R) b long in
-    ap (λ (l : List ℕ). l ++ drop b (take b R ++ drop c R)) one ∙ ap (λ (l : List ℕ). take a R ++ l) two
+    λ j. one j ++ two j
 
 -- nothing goes and nothing comes
 pub splice_none : (R : List ℕ) (p : ℕ) → splice R p p [] ≡ R
@@ -76,5 +75,4 @@ lays_on R more r k there some =
     ap (λ (l : List ℕ). set l (r + k) w) whole
     ∙ (laid
     ∙ (append_assoc (take r R) (take k more) (w ∷ drop (r + (k + 1)) R)
-    ∙ ap (λ (l : List ℕ). take r R ++ l)
-    (sym (append_assoc (take k more) (w ∷ []) (drop (r + (k + 1)) R)) ∙ ap (λ (l : List ℕ). l ++ drop (r + (k + 1)) R) (sym last))))
+    ∙ ap (λ (l : List ℕ). take r R ++ l) (sym (append_assoc (take k more) (w ∷ []) (drop (r + (k + 1)) R)) ∙ (λ j. sym last j ++ drop (r + (k + 1)) R))))

@@ -11,7 +11,7 @@ use native.Mathlib.Decide.{ℕ_discrete}
 use Rattle.std.specs.Prelude.{slice_set}
 use Rattle.row_blocks.specs.Blocks.{pieces, run, blocks_of, body_of, rows_of, body_at, slots_of, block, slots_in, rows_in, count_to, IsLaidOut}
 use Rattle.row_blocks.proofs.Pieces.{at_piece, stands_at, same_pieces}
-use Rattle.row_blocks.proofs.Puts.{run_length, run_at}
+use Rattle.row_blocks.proofs.Puts.{run_length, run_at, still_laid_out}
 
 -- so many numbers, one behind the other
 pub length-run : (from n : ℕ) → length (run from n) ≡ n
@@ -43,7 +43,7 @@ map_pieces h f g zero same = refl
 map_pieces h f g (suc n) same =
     let front = map_pieces h f g n (λ i lt. same i (omega arith)) in
     let here = same n (omega arith) in
-    map-append h (pieces f n) (f n) ∙ (ap (λ (x : List ℕ). x ++ map h (f n)) front ∙ ap (λ (x : List ℕ). pieces g n ++ x) here)
+    map-append h (pieces f n) (f n) ∙ (λ j. front j ++ here j)
 
 map_run : (words : List ℕ) (at n : ℕ) → at + n ≤ length words → map (slice_index words) (run at n) ≡ take n (drop at words)
 map_run words at n wide =
@@ -181,21 +181,8 @@ module _ (nb : ℕ) (words : List ℕ) (i j s w : ℕ) (laid : IsLaidOut nb word
 
   -- the words are laid out
   pub laid_stored : IsLaidOut nb (slice_set words s w)
-  laid_stored =
-      let long = length-set words s w in
-      let wide = laid.wide in
-      let some = laid.some in
-      let spare = laid.spare in
-      let count = layout_stays (128 * nb) (omega arith) in
-      record {
-        wide = omega arith;
-        some = omega arith;
-        spare = omega arith;
-        bodies = λ k lt. let e = layout_stays (128 * nb + 1 + k) (omega arith) in let b = laid.bodies k lt in omega arith;
-        apart = λ k l a b e. laid.apart k l a b
-            (sym (ap (λ (x : ℕ). x / 128) (layout_stays (128 * nb + 1 + k) (omega arith)))
-            ∙ (e ∙ ap (λ (x : ℕ). x / 128) (layout_stays (128 * nb + 1 + l) (omega arith))));
-      }
+  laid_stored = still_laid_out laid (length-set words s w) (layout_stays (128 * nb) (omega arith))
+      (λ k lt. ap (λ (x : ℕ). x / 128) (layout_stays (128 * nb + 1 + k) (omega arith)))
 
   -- and the slots are the same
   pub slots_stay : slots_in nb (slice_set words s w) ≡ slots_in nb words

@@ -4,14 +4,13 @@ use Rattle.std.proofs.Common.{sym, refl, ap, ◌∙◌, subst, arith, inl, inr}
 use Rattle.std.proofs.Math.Seq.{take-add}
 use Rattle.std.proofs.lemmas.Bool.{cases_lt}
 use Rattle.std.proofs.lemmas.List.{append_assoc, drop-drop, drop_more, length-set, get_or-set_same, get_or-set_other}
-use Rattle.std.proofs.lemmas.Grind.{same_number_lists}
 use Rattle.std.specs.Prelude.{slice_index, slice_set}
 use mathlib.Core.Logic.{dite}
 use native.Mathlib.Decide.{ℕ_discrete}
 use Rattle.row_blocks.specs.Moves.{IsCopied, IsPushed}
 use Rattle.row_blocks.specs.Blocks.{pieces, blocks_of, body_of, rows_of, body_at, block, rows_in, IsLaidOut}
 use Rattle.row_blocks.proofs.Pieces.{same_pieces}
-use Rattle.row_blocks.proofs.Puts.{run_length, run_at, same_run}
+use Rattle.row_blocks.proofs.Puts.{same_runs, same_block, elsewhere}
 
 -- where one list is cut in two, the whole stays
 pub piece_splits : (f g : ℕ → List ℕ) (k n : ℕ) → k < n → ((i : ℕ) → i < k → g i ≡ f i) → f k ≡ g k ++ g (suc k)
@@ -21,23 +20,13 @@ piece_splits f g k (suc n) lt before here behind = elim (cases_lt k n) [
   | inl less ↦
       let front : pieces g (suc n) ≡ pieces f n = piece_splits f g k n less before here (λ i a b. behind i a (omega arith)) in
       let last : g (suc n) ≡ f n = behind n less (omega arith) in
-      ap (λ (l : List ℕ). l ++ g (suc n)) front ∙ ap (λ (l : List ℕ). pieces f n ++ l) last
+      λ j. front j ++ last j
   | inr ge ↦
       let e : k ≡ n = omega arith in
       let front : pieces g n ≡ pieces f n = same_pieces f g n (λ i l. before i (omega arith)) in
       let cut : f n ≡ g n ++ g (suc n) = subst (λ (m : ℕ). f m ≡ g m ++ g (suc m)) e here in
-      append_assoc (pieces g n) (g n) (g (suc n))
-      ∙ (ap (λ (l : List ℕ). l ++ (g n ++ g (suc n))) front ∙ ap (λ (l : List ℕ). pieces f n ++ l) (sym cut))
+      append_assoc (pieces g n) (g n) (g (suc n)) ∙ (λ j. front j ++ sym cut j)
 ]
-
--- words that are copied are the same
-pub copied_run : (one two : List ℕ) (from to n : ℕ) → from + n ≤ length one → to + n ≤ length two
-    → ((m : ℕ) → m < n → get_or two (to + m) 0 ≡ get_or one (from + m) 0) → take n (drop to two) ≡ take n (drop from one)
-copied_run one two from to n wide_one wide_two same =
-    let a = run_length one from n wide_one in
-    let b = run_length two to n wide_two in
-    same_number_lists (take n (drop to two)) (take n (drop from one)) (omega arith)
-    (λ k lt. run_at two to n k (omega arith) ∙ (same k (omega arith) ∙ sym (run_at one from n k (omega arith))))
 
 -- a row of a body, those before it and those behind
 pub cut_run : (words : List ℕ) (at before behind : ℕ) → at + before < length words
@@ -47,12 +36,10 @@ cut_run words at before behind wide =
     let d = drop-drop before at words in
     let m = drop_more words (at + before) 0 wide in
     let two : at + before + 1 ≡ at + (before + 1) = omega arith in
+    let up : 1 + behind ≡ suc behind = omega arith in
     take-add before (1 + behind) (drop at words)
     ∙ ap (λ (l : List ℕ). take before (drop at words) ++ l)
-    (ap (take (1 + behind)) (d ∙ m)
-    ∙ (let up : 1 + behind ≡ suc behind = omega arith in
-    ap (λ (n : ℕ). take n (get_or words (at + before) 0 ∷ drop (at + before + 1) words)) up
-    ∙ ap (λ (n : ℕ). get_or words (at + before) 0 ∷ take behind (drop n words)) two))
+    (ap (take (1 + behind)) (d ∙ m) ∙ (λ j. take (up j) (get_or words (at + before) 0 ∷ drop (two j) words)))
 
 -- what stands after a split of a block at a place
 pub record IsSplit (nb : ℕ) (one two : List ℕ) (i place : ℕ) : Type 0 where
@@ -151,27 +138,21 @@ module _ {nb : ℕ} {one two : List ℕ} {i place : ℕ} (laid : IsLaidOut nb on
       }
 
   -- the words of the bodies in use stand as they stood
-  body_same : (k : ℕ) → k < blocks_of nb one
-      → take (rows_of nb one k) (drop (body_at nb one k) two) ≡ take (rows_of nb one k) (drop (body_at nb one k) one)
-  body_same k lt =
-      let wide = laid.wide in
+  body_same : (k m : ℕ) → k < blocks_of nb one → m < rows_of nb one k → slice_index two (body_at nb one k + m) ≡ slice_index one (body_at nb one k + m)
+  body_same k m lt few =
       let b = laid.bodies k (omega arith) in
-      let f = laid.bodies (blocks_of nb one) spare in
-      let apart : body_of nb one k ≢ body_of nb one (blocks_of nb one) = λ e.
-      let same = laid.apart k (blocks_of nb one) (omega arith) spare e in absurd (omega arith) in
-      same_run one two (body_at nb one k) (rows_of nb one k) (omega arith) split.long (λ m l.
-      elim (cases_lt (body_of nb one k) (body_of nb one (blocks_of nb one))) [
-        | inl less ↦ split.low (body_at nb one k + m) (omega arith) (omega arith)
-        | inr ge ↦ split.high (body_at nb one k + m) (omega (arith, apart)) (omega arith)
-      ])
+      elim (elsewhere k (blocks_of nb one) m laid (omega arith) spare (λ e. omega arith) (omega arith)) [
+        | inl under ↦ split.low (body_at nb one k + m) (omega arith) under
+        | inr over ↦ split.high (body_at nb one k + m) (omega arith) (omega arith)
+      ]
 
   -- blocks with the same body word and the same head are the same
   moved_block : (k l : ℕ) → k < blocks_of nb one → slice_index two (128 * nb + 1 + l) ≡ slice_index one (128 * nb + 1 + k)
       → slice_index two l ≡ slice_index one k → block nb two l ≡ block nb one k
   moved_block k l lt word head =
-      ap (λ (x : ℕ). slice_index two l ∷ take (x % 128) (drop (nb + 127 * (x / 128)) two)) word
-      ∙ (ap (λ (x : ℕ). x ∷ take (rows_of nb one k) (drop (body_at nb one k) two)) head
-      ∙ ap (λ (r : List ℕ). slice_index one k ∷ r) (body_same k lt))
+      let wide = laid.wide in
+      let b = laid.bodies k (omega arith) in
+      same_block nb one two k l (omega arith) split.long word head (λ m few. body_same k m lt few)
 
   -- the rows of the block are those of its two halves
   halves : block nb one i ≡ block nb two i ++ block nb two (suc i)
@@ -190,35 +171,22 @@ module _ {nb : ℕ} {one two : List ℕ} {i place : ℕ} (laid : IsLaidOut nb on
       let low_body : slice_index two (128 * nb + 1 + i) / 128 ≡ body_of nb one i = omega arith in
       let high_word : slice_index two (128 * nb + 1 + (i + 1)) % 128 ≡ n - place = omega arith in
       let high_body : slice_index two (128 * nb + 1 + (i + 1)) / 128 ≡ body_of nb one (blocks_of nb one) = omega arith in
-      let short : take (place - 1) (drop at two) ≡ take (place - 1) (drop at one) =
-      same_run one two at (place - 1) (omega arith) split.long (λ m l.
-      let apart : body_of nb one i ≢ body_of nb one (blocks_of nb one) = λ e.
-      let same = laid.apart i (blocks_of nb one) (omega arith) spare e in absurd (omega arith) in
-      elim (cases_lt (body_of nb one i) (body_of nb one (blocks_of nb one))) [
-        | inl less ↦ split.low (at + m) (omega arith) (omega arith)
-        | inr ge ↦ split.high (at + m) (omega (arith, apart)) (omega arith)
-      ]) in
       let long_two = split.long in
+      let short : take (place - 1) (drop at two) ≡ take (place - 1) (drop at one) =
+      same_runs two one at at (place - 1) (omega arith) (omega arith) (λ m l. body_same i m there (omega arith)) in
       let rest : take (n - place) (drop (body_at nb one (blocks_of nb one)) two) ≡ take (n - place) (drop (at + place) one) =
-      copied_run one two (at + place) (body_at nb one (blocks_of nb one)) (n - place) (omega arith) (omega arith) split.copied in
+      same_runs two one (body_at nb one (blocks_of nb one)) (at + place) (n - place) (omega arith) (omega arith) split.copied in
+      let head = split.heads i (omega arith) in
       let first : block nb two i ≡ slice_index one i ∷ take (place - 1) (drop at one) =
-      ap (λ (x : ℕ). slice_index two i ∷ take x (drop (nb + 127 * (slice_index two (128 * nb + 1 + i) / 128)) two)) low_word
-      ∙ (ap (λ (x : ℕ). slice_index two i ∷ take (place - 1) (drop (nb + 127 * x) two)) low_body
-      ∙ (ap (λ (x : ℕ). x ∷ take (place - 1) (drop at two)) (split.heads i (omega arith))
-      ∙ ap (λ (r : List ℕ). slice_index one i ∷ r) short)) in
+      (λ j. head j ∷ take (low_word j) (drop (nb + 127 * low_body j) two)) ∙ ap (λ (r : List ℕ). slice_index one i ∷ r) short in
       let second : block nb two (i + 1) ≡ slice_index one (at + (place - 1)) ∷ take (n - place) (drop (at + place) one) =
-      ap (λ (x : ℕ). slice_index two (i + 1) ∷ take x (drop (nb + 127 * (slice_index two (128 * nb + 1 + (i + 1)) / 128)) two)) high_word
-      ∙ (ap (λ (x : ℕ). slice_index two (i + 1) ∷ take (n - place) (drop (nb + 127 * x) two)) high_body
-      ∙ (ap (λ (x : ℕ). x ∷ take (n - place) (drop (body_at nb one (blocks_of nb one)) two)) split.head
-      ∙ ap (λ (r : List ℕ). slice_index one (at + (place - 1)) ∷ r) rest)) in
+      (λ j. split.head j ∷ take (high_word j) (drop (nb + 127 * high_body j) two)) ∙ ap (λ (r : List ℕ). slice_index one (at + (place - 1)) ∷ r) rest in
       let cut : take n (drop at one) ≡ take (place - 1) (drop at one) ++ (slice_index one (at + (place - 1)) ∷ take (n - place) (drop (at + place) one)) =
       ap (λ (x : ℕ). take x (drop at one)) (sym all)
       ∙ (cut_run one at (place - 1) (n - place) (omega arith)
       ∙ ap (λ (x : ℕ). take (place - 1) (drop at one) ++ (slice_index one (at + (place - 1)) ∷ take (n - place) (drop x one))) from) in
       ap (λ (r : List ℕ). slice_index one i ∷ r) cut
-      ∙ (ap (λ (r : List ℕ). r ++ (slice_index one (at + (place - 1)) ∷ take (n - place) (drop (at + place) one))) (sym first)
-      ∙ (ap (λ (r : List ℕ). block nb two i ++ r) (sym second)
-      ∙ ap (λ (x : ℕ). block nb two i ++ block nb two x) next))
+      ∙ ((λ j. sym first j ++ sym second j) ∙ ap (λ (x : ℕ). block nb two i ++ block nb two x) next)
 
   -- and the rows are those that were
   pub rows_split : rows_in nb two ≡ rows_in nb one
@@ -233,15 +201,13 @@ module _ {nb : ℕ} {one two : List ℕ} {i place : ℕ} (laid : IsLaidOut nb on
       (moved_block k (k + 1) lt (split.later k over lt) (split.later_heads k over lt)))
 
 -- the rows that stay in their body stand as they stood
-pub lower_stays : {nb : ℕ} {one copy : List ℕ} (i place s : ℕ) → IsLaidOut nb one → i < blocks_of nb one → blocks_of nb one < nb → body_at nb one i ≤ s
-    → s < body_at nb one i + 127 → IsCopied one copy (body_at nb one i + place) (body_at nb one (blocks_of nb one)) (rows_of nb one i - place)
-    → slice_index copy s ≡ slice_index one s
-lower_stays {nb} {one} i place s laid there spare from until c =
-    let apart : body_of nb one i ≢ body_of nb one (blocks_of nb one) = λ e.
-    let q = laid.apart i (blocks_of nb one) (omega arith) spare e in absurd (omega arith) in
-    elim (cases_lt (body_of nb one i) (body_of nb one (blocks_of nb one))) [
-      | inl under ↦ c.below s (omega arith)
-      | inr ge ↦ c.above s (omega (arith, apart))
+pub lower_stays : {nb : ℕ} {one copy : List ℕ} (i place m : ℕ) → IsLaidOut nb one → i < blocks_of nb one → blocks_of nb one < nb → m < 127
+    → IsCopied one copy (body_at nb one i + place) (body_at nb one (blocks_of nb one)) (rows_of nb one i - place)
+    → slice_index copy (body_at nb one i + m) ≡ slice_index one (body_at nb one i + m)
+lower_stays {nb} {one} i place m laid there spare few c =
+    elim (elsewhere i (blocks_of nb one) m laid (omega arith) spare (λ e. omega arith) few) [
+      | inl under ↦ c.below (body_at nb one i + m) under
+      | inr over ↦ c.above (body_at nb one i + m) (omega arith)
     ]
 
 -- the five stores of a split, one after another
@@ -269,13 +235,16 @@ is_split {nb} {one} {copy} {heads} {told} {i} {place} lower laid there spare som
     let stays : (s : ℕ) → s ≢ 128 * nb + 1 + i → s ≢ 128 * nb → slice_index two s ≡ slice_index told s =
     λ (s : ℕ) (x : s ≢ 128 * nb + 1 + i) (y : s ≢ 128 * nb).
     get_or-set_other three (128 * nb) s (n + 1) 0 y ∙ get_or-set_other told (128 * nb + 1 + i) s lower 0 x in
-    let past : (s : ℕ) → 128 * nb ≤ s → slice_index copy s ≡ slice_index one s = λ (s : ℕ) (l : 128 * nb ≤ s). high s (omega arith) in
-    let front : (s : ℕ) → s < nb → slice_index copy s ≡ slice_index one s = λ (s : ℕ) (l : s < nb). low s (omega arith) in
+    let before : (s : ℕ) → s < 128 * nb → slice_index two s ≡ slice_index heads s =
+    λ (s : ℕ) (l : s < 128 * nb). stays s (λ e. omega arith) (λ e. omega arith) ∙ t.below s (omega arith) in
+    let region : (s : ℕ) → nb ≤ s → s < 128 * nb → slice_index two s ≡ slice_index copy s =
+    λ (s : ℕ) (from : nb ≤ s) (l : s < 128 * nb). before s l ∙ h.above s (omega arith) in
+    let was : (k : ℕ) → slice_index heads (128 * nb + 1 + k) ≡ slice_index one (128 * nb + 1 + k) =
+    λ (k : ℕ). h.above (128 * nb + 1 + k) (omega arith) ∙ high (128 * nb + 1 + k) (omega arith) in
     record {
       long = omega arith;
       count = get_or-set_same three (128 * nb) (n + 1) 0 (omega arith);
-      told = λ k l. stays (128 * nb + 1 + k) (λ e. omega arith) (λ e. omega arith)
-          ∙ (t.below (128 * nb + 1 + k) (omega arith) ∙ (h.above (128 * nb + 1 + k) (omega arith) ∙ past (128 * nb + 1 + k) (omega arith)));
+      told = λ k l. stays (128 * nb + 1 + k) (λ e. omega arith) (λ e. omega arith) ∙ (t.below (128 * nb + 1 + k) (omega arith) ∙ was k);
       lower =
           let e : slice_index two (128 * nb + 1 + i) ≡ lower = get_or-set_other three (128 * nb) (128 * nb + 1 + i) (n + 1) 0 (λ e. omega arith)
           ∙ get_or-set_same told (128 * nb + 1 + i) lower 0 (omega arith) in
@@ -284,24 +253,14 @@ is_split {nb} {one} {copy} {heads} {told} {i} {place} lower laid there spare som
       later = λ k over l.
           let at : 128 * nb + 1 + k + 1 ≡ 128 * nb + 1 + (k + 1) = omega arith in
           stays (128 * nb + 1 + (k + 1)) (λ e. omega arith) (λ e. omega arith)
-          ∙ (ap (slice_index told) (sym at)
-          ∙ (t.moved (128 * nb + 1 + k) (omega arith) (omega arith)
-          ∙ (h.above (128 * nb + 1 + k) (omega arith) ∙ past (128 * nb + 1 + k) (omega arith))));
-      free = λ k over l. stays (128 * nb + 1 + k) (λ e. omega arith) (λ e. omega arith)
-          ∙ (t.above (128 * nb + 1 + k) (omega arith) ∙ (h.above (128 * nb + 1 + k) (omega arith) ∙ past (128 * nb + 1 + k) (omega arith)));
-      heads = λ k l. stays k (λ e. omega arith) (λ e. omega arith)
-          ∙ (t.below k (omega arith) ∙ (h.below k (omega arith) ∙ front k (omega arith)));
-      head =
-          let first = lower_stays i place (body_at nb one i + (place - 1)) laid there spare (omega arith) (omega arith) c in
-          stays (i + 1) (λ e. omega arith) (λ e. omega arith) ∙ (t.below (i + 1) (omega arith) ∙ (h.here ∙ first));
-      later_heads = λ k over l. stays (k + 1) (λ e. omega arith) (λ e. omega arith)
-          ∙ (t.below (k + 1) (omega arith) ∙ (h.moved k (omega arith) l ∙ front k (omega arith)));
-      copied = λ m l. stays (body_at nb one n + m) (λ e. omega arith) (λ e. omega arith)
-          ∙ (t.below (body_at nb one n + m) (omega arith) ∙ (h.above (body_at nb one n + m) (omega arith) ∙ copied m l));
-      low = λ s from l. stays s (λ e. omega arith) (λ e. omega arith)
-          ∙ (t.below s (omega arith) ∙ (h.above s (omega arith) ∙ low s l));
-      high = λ s from l. stays s (λ e. omega arith) (λ e. omega arith)
-          ∙ (t.below s (omega arith) ∙ (h.above s (omega arith) ∙ high s from));
+          ∙ (ap (slice_index told) (sym at) ∙ (t.moved (128 * nb + 1 + k) (omega arith) (omega arith) ∙ was k));
+      free = λ k over l. stays (128 * nb + 1 + k) (λ e. omega arith) (λ e. omega arith) ∙ (t.above (128 * nb + 1 + k) (omega arith) ∙ was k);
+      heads = λ k l. before k (omega arith) ∙ (h.below k (omega arith) ∙ low k (omega arith));
+      head = before (i + 1) (omega arith) ∙ (h.here ∙ lower_stays i place (place - 1) laid there spare (omega arith) c);
+      later_heads = λ k over l. before (k + 1) (omega arith) ∙ (h.moved k (omega arith) l ∙ low k (omega arith));
+      copied = λ m l. region (body_at nb one n + m) (omega arith) (omega arith) ∙ copied m l;
+      low = λ s from l. region s from (omega arith) ∙ low s l;
+      high = λ s from l. region s (omega arith) l ∙ high s from;
     }
 
 -- what was read of the layout says from where and to where rows are copied
@@ -309,11 +268,9 @@ pub split_copied : (nb : ℕ) {one loaded copy : List ℕ} (i place : ℕ) {pack
     → count ≡ blocks_of nb one → free ≡ slice_index one (128 * nb + 1 + count)
     → IsCopied loaded copy (nb + 127 * (packed / 128) + place) (nb + 127 * (free / 128)) (packed % 128 - place)
     → IsCopied one copy (body_at nb one i + place) (body_at nb one (blocks_of nb one)) (rows_of nb one i - place)
-split_copied nb {one} {copy} i place {packed} {free} same read counted freed copied =
-    let body : free ≡ slice_index one (128 * nb + 1 + blocks_of nb one) = freed ∙ ap (λ (n : ℕ). slice_index one (128 * nb + 1 + n)) counted in
-    subst (λ (f : ℕ). IsCopied one copy (body_at nb one i + place) (nb + 127 * (f / 128)) (rows_of nb one i - place)) body
-    (subst (λ (x : ℕ). IsCopied one copy (nb + 127 * (x / 128) + place) (nb + 127 * (free / 128)) (x % 128 - place)) read
-    (subst (λ (l : List ℕ). IsCopied l copy (nb + 127 * (packed / 128) + place) (nb + 127 * (free / 128)) (packed % 128 - place)) same copied))
+split_copied nb {one} {copy} i place same read counted freed copied =
+    let body = freed ∙ ap (λ (n : ℕ). slice_index one (128 * nb + 1 + n)) counted in
+    coe 0 1 (j. IsCopied (same j) copy (nb + 127 * (read j / 128) + place) (nb + 127 * (body j / 128)) (read j % 128 - place)) copied
 
 -- the same by what was read of the layout
 pub split_done : {nb : ℕ} {one loaded copy again heads told three two : List ℕ} {i place packed count free head : ℕ} → IsLaidOut nb one → i < blocks_of nb one
@@ -324,29 +281,14 @@ pub split_done : {nb : ℕ} {one loaded copy again heads told three two : List �
     → IsPushed heads told (128 * nb + 1 + (i + 1)) (128 * nb + 1 + count) (128 * (free / 128) + (packed % 128 - place))
     → three ≡ slice_set told (128 * nb + 1 + i) (packed - (packed % 128 - place + 1)) → two ≡ slice_set three (128 * nb) (count + 1)
     → IsSplit nb one two i place
-split_done {nb} {one} {copy} {again} {heads} {told} {two} {i} {place} {packed} {count} {free} {head} laid there spare some within same read
-    counted freed copied as_copied first h t less more =
-    let body : free ≡ slice_index one (128 * nb + 1 + blocks_of nb one) = freed ∙ ap (λ (n : ℕ). slice_index one (128 * nb + 1 + n)) counted in
-    let c = split_copied nb i place same read counted freed copied in
-    let word : head ≡ slice_index copy (body_at nb one i + (place - 1)) =
-    first ∙ ap (λ (x : ℕ). slice_index copy (nb + 127 * (x / 128) + (place - 1))) read in
-    let p : IsPushed copy heads (i + 1) (blocks_of nb one) (slice_index copy (body_at nb one i + (place - 1))) =
-    subst (λ (l : List ℕ). IsPushed l heads (i + 1) (blocks_of nb one) (slice_index copy (body_at nb one i + (place - 1)))) as_copied
-    (subst (λ (n : ℕ). IsPushed again heads (i + 1) n (slice_index copy (body_at nb one i + (place - 1)))) counted
-    (subst (λ (x : ℕ). IsPushed again heads (i + 1) count x) word h)) in
-    let q : IsPushed heads told (128 * nb + 1 + (i + 1)) (128 * nb + 1 + blocks_of nb one)
-    (128 * body_of nb one (blocks_of nb one) + (rows_of nb one i - place)) =
-    subst (λ (x : ℕ). IsPushed heads told (128 * nb + 1 + (i + 1)) (128 * nb + 1 + blocks_of nb one)
-    (128 * body_of nb one (blocks_of nb one) + (x % 128 - place))) read
-    (subst (λ (f : ℕ). IsPushed heads told (128 * nb + 1 + (i + 1)) (128 * nb + 1 + blocks_of nb one) (128 * (f / 128) + (packed % 128 - place))) body
-    (subst (λ (n : ℕ). IsPushed heads told (128 * nb + 1 + (i + 1)) (128 * nb + 1 + n) (128 * (free / 128) + (packed % 128 - place))) counted t)) in
-    let lower : ℕ = packed - (packed % 128 - place + 1) in
-    let stored : two ≡ slice_set (slice_set told (128 * nb + 1 + i) lower) (128 * nb) (blocks_of nb one + 1) =
-    more ∙ (ap (λ (l : List ℕ). slice_set l (128 * nb) (count + 1)) less
-    ∙ ap (λ (n : ℕ). slice_set (slice_set told (128 * nb + 1 + i) lower) (128 * nb) (n + 1)) counted) in
-    let sum : lower + (rows_of nb one i - place + 1) ≡ slice_index one (128 * nb + 1 + i) = omega arith in
-    subst (λ (l : List ℕ). IsSplit nb one l i place) (sym stored)
-    (is_split lower laid there spare some within c p q sum)
+split_done {nb} {one} {copy} {heads} {told} {i} {place} {packed} laid there spare some within same read counted freed copied as_copied first h t less more =
+    let body = freed ∙ ap (λ (n : ℕ). slice_index one (128 * nb + 1 + n)) counted in
+    let word = first ∙ ap (λ (x : ℕ). slice_index copy (nb + 127 * (x / 128) + (place - 1))) read in
+    let p = coe 0 1 (j. IsPushed (as_copied j) heads (i + 1) (counted j) (word j)) h in
+    let q = coe 0 1 (j. IsPushed heads told (128 * nb + 1 + (i + 1)) (128 * nb + 1 + counted j) (128 * (body j / 128) + (read j % 128 - place))) t in
+    let stored = more ∙ (λ j. slice_set (less j) (128 * nb) (counted j + 1)) in
+    subst (λ (l : List ℕ). IsSplit nb one l i place) (sym stored) (is_split (packed - (packed % 128 - place + 1)) laid there spare some within
+    (split_copied nb i place same read counted freed copied) p q (omega arith))
 
 -- how many rows the two halves have
 pub split_lower : {nb : ℕ} {one two : List ℕ} {i place : ℕ} → 0 < place → place ≤ rows_of nb one i → IsSplit nb one two i place → rows_of nb two i + 1 ≡ place

@@ -1,6 +1,6 @@
 -- A splice that is written in two steps: rows are laid over those that go, and then some come or go right behind them.
 use Rattle.std.proofs.Common.{◌≡◌, ℕ, ◌+◌, ◌≤◌, List, ◌++◌, length}
-use Rattle.std.proofs.Common.{sym, ap, ◌∙◌, subst}
+use Rattle.std.proofs.Common.{sym, ◌∙◌, subst}
 use Rattle.std.specs.Prelude.{All}
 use Rattle.std.specs.List.{splice}
 use Rattle.std.proofs.lemmas.List.Elements.{All-weaker}
@@ -15,9 +15,5 @@ all_written P Q R more p q keep is rows new = subst (All Q) (sym is) (all_splice
 pub laid_then : (R : List ℕ) {two three : List ℕ} (u v : List ℕ) {more : List ℕ} (r d : ℕ) {at until end : ℕ} → r ≤ length R
     → two ≡ splice R r (r + length u) u → three ≡ splice two at until v → at ≡ r + length u → until ≡ r + length u + d → r + length u + d ≡ end
     → u ++ v ≡ more → three ≡ splice R r end more
-laid_then R u v r d {at} {until} {end} there laid then from to all whole =
-    then
-    ∙ (ap (λ (l : List ℕ). splice l at until v) laid
-    ∙ (ap (λ (n : ℕ). splice (splice R r (r + length u) u) n until v) from
-    ∙ (ap (λ (n : ℕ). splice (splice R r (r + length u) u) (r + length u) n v) to
-    ∙ (splice_behind R u v r (r + length u) d there ∙ (ap (λ (n : ℕ). splice R r n (u ++ v)) all ∙ ap (splice R r end) whole)))))
+laid_then R u v r d there laid then from to all whole =
+    then ∙ ((λ j. splice (laid j) (from j) (to j) v) ∙ (splice_behind R u v r (r + length u) d there ∙ (λ j. splice R r (all j) (whole j))))

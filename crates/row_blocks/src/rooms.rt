@@ -27,8 +27,27 @@ pub(crate) fn most_rows(blocks: usize, count: usize, block: usize) -> usize
     128
 }
 
-/// Splits a block in two halves, and gives where a position is then.
-fn split_half<W: Words>(
+/// How many rows of a block stay in it where it is split: those before the place where rows come, where that is in the
+/// first eighth of the block, and else half of them. Rows that come one before the other, as mmap(2) places areas from
+/// the top down, come at the same place again and again; split there, the block behind stays full and its rows don't
+/// move again.
+fn rows_below(rows: usize, place: usize) -> usize
+    requires some { 0 < rows }
+    requires few { rows < 128 }
+    requires place { place ≤ rows + 1 }
+    ensures some { 0 < result }
+    ensures most { result ≤ (rows + 1) / 2 }
+    ensures half { result < place → result ≡ (rows + 1) / 2 }
+{
+    if 8 * place <= rows {
+        place.max(1)
+    } else {
+        (rows + 1) / 2
+    }
+}
+
+/// Splits a block near a position or in half, and gives where the position is then.
+fn split_near<W: Words>(
     words: &W,
     hand: &mut W::Hand,
     blocks: usize,
@@ -54,20 +73,20 @@ fn split_half<W: Words>(
     ensures place { result.place ≤ rows_of blocks (W.words words.now hand.new) result.block + 1 }
     ensures rank { rank blocks (W.words words.now hand.new) result.block result.place ≡ rank blocks (W.words words.now hand.old) at.block at.place }
     ensures room { rows_of blocks (W.words words.now hand.new) result.block < 64 }
-    ensures half { result.block ≡ 0 → rows_of blocks (W.words words.now hand.new) 0 < 32 }
+    ensures first { result.block ≡ 0 → rows_of blocks (W.words words.now hand.new) 0 < 32 }
     ensures may { W.may_store words.now hand.new }
     ensures rows { (w : ℕ) → W.is_row words.now hand.old w → W.is_row words.now hand.new w }
     ensures kept { W.kept words.now hand.old hand.new }
     ensures steps { W.steps words.now hand.new ≤ W.steps words.now hand.old + (4 * blocks + 391) }
 {
-    let half = (rows + 1) / 2;
-    split(words, hand, blocks, at.block, half);
-    if at.place <= half {
+    let low = rows_below(rows, at.place);
+    split(words, hand, blocks, at.block, low);
+    if at.place <= low {
         return at;
     }
     Position {
         block: at.block + 1,
-        place: at.place - half,
+        place: at.place - low,
     }
 }
 
@@ -107,5 +126,5 @@ pub(crate) fn make_room<W: Words>(
     if body.rows + 1 + more <= most_rows(blocks, count, at.block) {
         return at;
     }
-    split_half(words, hand, blocks, at, body.rows)
+    split_near(words, hand, blocks, at, body.rows)
 }

@@ -1,6 +1,6 @@
 //! A block that becomes two: its upper rows are copied into a body that is free, which the body word behind the last
 //! block in use names, and then heads and body words behind the block move up. A reader may rely on the rows being the
-//! same, and on how many rows both halves have.
+//! same, and on how many rows both parts have.
 ghost use Rattle.std.specs.Prelude.{ℕ, All, ◌≡◌, ◌≢◌, ◌+◌, ◌-◌, ◌*◌, ◌<◌, ◌≤◌, length, slice_index};
 ghost use Rattle.row_blocks.specs.Blocks.{IsLaidOut, blocks_of, rows_of, rows_in, told};
 

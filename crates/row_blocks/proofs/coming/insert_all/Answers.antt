@@ -2,11 +2,13 @@ use Rattle.std.proofs.Common.{ℕ, [], ◌∷◌, ◌≡◌, ◌+◌, All, lengt
 use Rattle.std.specs.Prelude.{slice_index}
 use Rattle.std.specs.List.{splice}
 use Rattle.std.proofs.lemmas.List.{take_all}
-use Rattle.std.proofs.lemmas.List.Elements.{All-get_or, All-nil, All-cons, All-weaker}
+use Rattle.std.proofs.lemmas.List.Elements.{All-get_or, All-nil, All-cons}
 use Rattle.row_blocks.specs.Blocks.{blocks_of, rows_in, rank}
-use Rattle.row_blocks.proofs.RowSplices.{splice_none, all_spliced}
+use Rattle.row_blocks.proofs.RowSplices.{splice_none}
 use Rattle.row_blocks.proofs.Counts.{count_next, count_up}
-use Rattle.row_blocks.proofs.Comings.{count_stays_before, comes_on}
+use Rattle.row_blocks.proofs.Comings.{comes_on}
+use Rattle.row_blocks.proofs.Cuts.{count_told}
+use Rattle.row_blocks.proofs.Writes.{all_written}
 use Rattle.row_blocks.proofs.Slots.{length-rows_in}
 use Rattle.row_blocks.proofs.coming.insert_all.Goals as goal
 
@@ -51,7 +53,7 @@ rows-preserved g c =
     let place = c.requires.place in
     let spare = c.requires.laid.spare in
     let call = c.insert.ensures in
-    let before = count_stays_before nb one two i (omega arith) inv.others in
+    let before = count_told nb one two i (λ j less. inv.others j (omega arith) (λ e. omega arith)) in
     let at : rank nb two i (c.args.at.place + k) ≡ r + k = omega arith in
     let long = length-rows_in nb one c.requires.laid in
     let next = count_next nb one i in
@@ -62,18 +64,15 @@ rows-preserved g c =
     let step = call.steps in
     let room = c.requires.room in
     let is = All-get_or (g.W.Loads.is_row ws c.args.hand.now) c.args.more.now k 0 (omega arith) c.requires.new in
-    let row : g.W.Loads.is_row ws c.insert.new.hand w = call.rows w (inv.rows w is) in
+    let P = g.W.Loads.is_row ws c.rows.hand in
     record {
       laid = call.laid;
       spliced = comes_on (rows_in nb one) c.args.more.now r k (omega arith) (omega arith) inv.spliced call.spliced at refl;
       count = call.count ∙ inv.count;
       grown = omega arith;
       others = λ j less differ. call.others j less differ ∙ inv.others j less differ;
-      all = subst (All (g.W.Loads.is_row ws c.insert.new.hand)) (sym call.spliced)
-          (all_spliced (g.W.Loads.is_row ws c.insert.new.hand) (rows_in nb two) (w ∷ []) (rank nb two i (c.args.at.place + k))
-          (rank nb two i (c.args.at.place + k))
-          (All-weaker (g.W.Loads.is_row ws c.rows.hand) (g.W.Loads.is_row ws c.insert.new.hand) call.rows (rows_in nb two) inv.all)
-          (All-cons (g.W.Loads.is_row ws c.insert.new.hand) w [] row (All-nil (g.W.Loads.is_row ws c.insert.new.hand))));
+      all = all_written P (g.W.Loads.is_row ws c.insert.new.hand) (rows_in nb two) (w ∷ []) _ _ call.rows call.spliced inv.all
+          (All-cons P w [] (inv.rows w is) (All-nil P));
       high = omega arith;
       may = call.may;
       rows = λ x p. call.rows x (inv.rows x p);

@@ -1,10 +1,10 @@
-use Rattle.std.proofs.Common.{ℕ, ◌≡◌, ◌+◌, ◌-◌, ◌^◌, ◌<◌, ◌≤◌, List, drop, sym, ap, subst, ◌∙◌, arith}
+use Rattle.std.proofs.Common.{ℕ, ◌≡◌, ◌+◌, ◌-◌, ◌/◌, ◌^◌, ◌<◌, ◌≤◌, List, drop, sym, ap, subst, ◌∙◌, arith, rules}
 use Rattle.std.specs.Prelude.{slice_index, min}
 use Rattle.page_types.specs.declared.TheConstants.{LIMIT}
 use Rattle.row_plans.specs.RowLists.{rows_start}
 use Rattle.row_blocks.specs.Blocks.{blocks_of, body_at, rows_of, rows_in, rank}
 use Rattle.row_blocks.specs.Searches.{IsLast}
-use Rattle.row_blocks.proofs.Finds.{end_there, head_next}
+use Rattle.row_blocks.proofs.Finds.{end_there}
 use Rattle.row_blocks.proofs.Places.{head_there, row_there}
 use Rattle.row_blocks.proofs.finding.find.Given.{Over}
 use Rattle.row_blocks.proofs.finding.find.Goals.{After-halve-found}
@@ -15,10 +15,8 @@ head : (g : Over) (c : After-halve-found g) → IsLast (g.W.Loads.words c.args.w
     (blocks_of c.args.blocks (g.W.Loads.words c.args.words.now c.args.hand.now)) c.args.page c.halve-heads.result.place c.halve-heads.result.word
     c.halve-heads.result.end
 head g c =
-    let one = g.W.Loads.words c.args.words.now c.args.hand.now in
     let to = c.halve-heads.result in
-    subst (λ (n : ℕ). IsLast one 0 n c.args.page to.place to.word to.end) c.load-used.ensures.word
-    (subst (λ (l : List ℕ). IsLast l 0 c.load-used.result c.args.page to.place to.word to.end) c.load-used.ensures.words c.halve-heads.ensures.found)
+    coe 0 1 (j. IsLast (c.load-used.ensures.words j) 0 (c.load-used.ensures.word j) c.args.page to.place to.word to.end) c.halve-heads.ensures.found
 
 -- nothing was stored meanwhile
 same : (g : Over) (c : After-halve-found g) → g.W.Loads.words c.args.words.now c.body_of-body.new.hand
@@ -43,12 +41,8 @@ row : (g : Over) (c : After-halve-found g) → IsLast (g.W.Loads.words c.args.wo
     (rows_of c.args.blocks (g.W.Loads.words c.args.words.now c.args.hand.now) c.halve-heads.result.place + 1) c.args.page
     c.halve-found.result.place c.halve-found.result.word c.halve-found.result.end
 row g c =
-    let one = g.W.Loads.words c.args.words.now c.args.hand.now in
     let to = c.halve-found.result in
-    let body = c.body_of-body.result in
-    subst (λ (n : ℕ). IsLast one (n - 1) (rows_of c.args.blocks one c.halve-heads.result.place + 1) c.args.page to.place to.word to.end) (at g c)
-    (subst (λ (n : ℕ). IsLast one (body.at - 1) (n + 1) c.args.page to.place to.word to.end) (rows g c)
-    (subst (λ (l : List ℕ). IsLast l (body.at - 1) (body.rows + 1) c.args.page to.place to.word to.end) (same g c) c.halve-found.ensures.found))
+    coe 0 1 (j. IsLast (same g c j) (at g c j - 1) (rows g c j + 1) c.args.page to.place to.word to.end) c.halve-found.ensures.found
 
 -- where the row behind it starts
 end_is : (g : Over) (c : After-halve-found g)
@@ -65,7 +59,7 @@ end_is g c last =
     let count = rows g c in
     let used = c.load-used.ensures.word in
     end_there i c.requires.laid h.below c.halve-found.result.place c.halve-found.result.end c.halve-heads.result.end (omega arith) c.requires.low r.follows
-    (λ e. last (omega arith)) (head_next (blocks_of c.args.blocks one) one i c.halve-heads.result.end h.follows)
+    (λ e. last (omega arith)) (λ lt. let next : 0 + (i + 1) ≡ i + 1 = omega arith in h.follows lt ∙ ap (λ (n : ℕ). slice_index one n / 64) next)
     (λ e. let b = c.halve-heads.ensures.last (omega arith) in omega arith)
 
 -- its block is in use
@@ -96,54 +90,6 @@ returns-then-found-gt0-clause-end g c =
 pub returns-then-found-gt0-clause-from : goal.returns-then-found-gt0-clause-from
 returns-then-found-gt0-clause-from g c = let r = row g (goal.at.returns-then-found-gt0-clause-from g c).After-halve-found in r.before c.if-found-gt0.true
 
--- its block is in use
-pub returns-then-heads-gt0-clause-block : goal.returns-then-heads-gt0-clause-block
-returns-then-heads-gt0-clause-block g c = let h = head g (goal.at.returns-then-heads-gt0-clause-block g c).After-halve-found in h.below
-
--- and has so many rows
-pub returns-then-heads-gt0-clause-place : goal.returns-then-heads-gt0-clause-place
-returns-then-heads-gt0-clause-place g c = let r = row g (goal.at.returns-then-heads-gt0-clause-place g c).After-halve-found in let b = r.below in omega arith
-
--- a head that was loaded
-pub returns-then-heads-gt0-clause-word : goal.returns-then-heads-gt0-clause-word
-returns-then-heads-gt0-clause-word g c =
-    let one = g.W.Loads.words c.args.words.now c.args.hand.now in
-    let nb = c.args.blocks in
-    let h = head g (goal.at.returns-then-heads-gt0-clause-word g c).After-halve-found in
-    let i : ℕ = c.halve-heads.result.place in
-    let at : 0 + i ≡ i = omega arith in
-    let none : 0 ≡ c.halve-found.result.place = let z = c.if-found-gt0.false in omega arith in
-    h.here c.if-heads-gt0.true
-    ∙ (ap (slice_index one) at
-    ∙ (sym (head_there nb one i c.requires.laid h.below) ∙ ap (λ (j : ℕ). slice_index (rows_in nb one) (rank nb one i j)) none))
-
--- and the row behind it
-pub returns-then-heads-gt0-clause-end : goal.returns-then-heads-gt0-clause-end
-returns-then-heads-gt0-clause-end g c =
-    c.min-end.ensures ∙ end_is g (goal.at.returns-then-heads-gt0-clause-end g c).After-halve-found c.halve-found.ensures.last
-
--- it starts at or before the page
-pub returns-then-heads-gt0-clause-from : goal.returns-then-heads-gt0-clause-from
-returns-then-heads-gt0-clause-from g c = let h = head g (goal.at.returns-then-heads-gt0-clause-from g c).After-halve-found in h.before c.if-heads-gt0.true
-
--- the first row of all
-pub returns-clause-word : goal.returns-clause-word
-returns-clause-word g c =
-    let one = g.W.Loads.words c.args.words.now c.args.hand.now in
-    let nb = c.args.blocks in
-    let k = (goal.at.returns-clause-word g c).After-halve-found in
-    let none : 0 ≡ c.halve-found.result.place = let z = c.if-found-gt0.false in omega arith in
-    let zero : 0 ≡ c.halve-heads.result.place = let z = c.if-heads-gt0.false in omega arith in
-    c.load-word.ensures.word
-    ∙ (ap (λ (l : List ℕ). slice_index l 0) (c.halve-found.ensures.words ∙ same g k)
-    ∙ (sym (head_there nb one 0 c.requires.laid c.requires.laid.some)
-    ∙ (ap (λ (i : ℕ). slice_index (rows_in nb one) (rank nb one i 0)) zero
-    ∙ ap (λ (j : ℕ). slice_index (rows_in nb one) (rank nb one c.halve-heads.result.place j)) none)))
-
--- and the row behind it
-pub returns-clause-end : goal.returns-clause-end
-returns-clause-end g c = c.min-end.ensures ∙ end_is g (goal.at.returns-clause-end g c).After-halve-found c.halve-found.ensures.last
-
 -- so many steps are made up to the body
 steps_to : (g : Over) (c : After-halve-found g) → (m : ℕ) → blocks_of c.args.blocks (g.W.Loads.words c.args.words.now c.args.hand.now) ≤ 2 ^ m
     → g.W.Loads.steps c.args.words.now c.body_of-body.new.hand ≤ g.W.Loads.steps c.args.words.now c.args.hand.now + (m + 2)
@@ -154,18 +100,13 @@ steps_to g c m le =
     let three = c.body_of-body.ensures.step in
     omega arith
 
--- and in it
-steps_in : (g : Over) (c : After-halve-found g) → (m : ℕ)
-    → rows_of c.args.blocks (g.W.Loads.words c.args.words.now c.args.hand.now) c.halve-heads.result.place + 1 ≤ 2 ^ m
-    → g.W.Loads.steps c.args.words.now c.halve-found.new.hand ≤ g.W.Loads.steps c.args.words.now c.body_of-body.new.hand + m
-steps_in g c m le = let r = rows g c in c.halve-found.ensures.steps m (omega arith)
-
 -- any body takes seven
 steps_all : (g : Over) (c : After-halve-found g) → (m : ℕ) → blocks_of c.args.blocks (g.W.Loads.words c.args.words.now c.args.hand.now) ≤ 2 ^ m
     → g.W.Loads.steps c.args.words.now c.halve-found.new.hand ≤ g.W.Loads.steps c.args.words.now c.args.hand.now + (m + 9)
 steps_all g c m le =
     let to = steps_to g c m le in
-    let within = steps_in g c 7 (omega arith) in
+    let count = rows g c in
+    let within = c.halve-found.ensures.steps 7 (omega arith) in
     omega arith
 
 -- the first one, which has fewer rows, takes one less
@@ -177,7 +118,8 @@ steps_first g c first m le =
     let short : rows_of c.args.blocks one c.halve-heads.result.place < 64 =
     subst (λ (i : ℕ). rows_of c.args.blocks one i < 64) first c.requires.short in
     let to = steps_to g c m le in
-    let within = steps_in g c 6 (omega arith) in
+    let count = rows g c in
+    let within = c.halve-found.ensures.steps 6 (omega arith) in
     omega arith
 
 -- and the most blocks take eleven
@@ -195,34 +137,6 @@ returns-then-found-gt0-clause-steps g c =
     let all = steps_all g k 11 (eleven g k) in
     omega arith
 
--- to a head
-pub returns-then-heads-gt0-clause-fewer : goal.returns-then-heads-gt0-clause-fewer
-returns-then-heads-gt0-clause-fewer g c = steps_all g (goal.at.returns-then-heads-gt0-clause-fewer g c).After-halve-found
-
--- over the most blocks
-pub returns-then-heads-gt0-clause-steps : goal.returns-then-heads-gt0-clause-steps
-returns-then-heads-gt0-clause-steps g c =
-    let k = (goal.at.returns-then-heads-gt0-clause-steps g c).After-halve-found in
-    let all = steps_all g k 11 (eleven g k) in
-    omega arith
-
--- and to the first row of all, which is loaded then
-pub returns-clause-fewer : goal.returns-clause-fewer
-returns-clause-fewer g c = λ m le.
-    let z = c.if-heads-gt0.false in
-    let all = steps_first g (goal.at.returns-clause-fewer g c).After-halve-found (omega arith) m le in
-    let last = c.load-word.ensures.step in
-    omega arith
-
--- over the most blocks
-pub returns-clause-steps : goal.returns-clause-steps
-returns-clause-steps g c =
-    let k = (goal.at.returns-clause-steps g c).After-halve-found in
-    let z = c.if-heads-gt0.false in
-    let all = steps_first g k (omega arith) 11 (eleven g k) in
-    let last = c.load-word.ensures.step in
-    omega arith
-
 -- all loads are one step
 kept_to : (g : Over) (c : After-halve-found g) → g.W.Loads.kept c.args.words.now c.args.hand.now c.halve-found.new.hand
 kept_to g c = g.W.Loads.steps_on _ _ _ _
@@ -233,10 +147,66 @@ kept_to g c = g.W.Loads.steps_on _ _ _ _
 pub returns-then-found-gt0-clause-kept : goal.returns-then-found-gt0-clause-kept
 returns-then-found-gt0-clause-kept g c = kept_to g (goal.at.returns-then-found-gt0-clause-kept g c).After-halve-found
 
--- of a head
-pub returns-then-heads-gt0-clause-kept : goal.returns-then-heads-gt0-clause-kept
-returns-then-heads-gt0-clause-kept g c = kept_to g (goal.at.returns-then-heads-gt0-clause-kept g c).After-halve-found
+-- a head that was loaded
+pub returns-then-heads-gt0 : goal.returns-then-heads-gt0
+returns-then-heads-gt0 g c =
+    let one = g.W.Loads.words c.args.words.now c.args.hand.now in
+    let nb = c.args.blocks in
+    let k = (goal.at.returns-then-heads-gt0 g c).After-halve-found in
+    let h = head g k in
+    let r = row g k in
+    let within = r.below in
+    let behind = r.behind in
+    let end = c.min-end.ensures in
+    let all = steps_all g k 11 (eleven g k) in
+    let i : ℕ = c.halve-heads.result.place in
+    let at : 0 + i ≡ i = omega arith in
+    let none : 0 ≡ c.halve-found.result.place = let z = c.if-found-gt0.false in omega arith in
+    record {
+      block = h.below;
+      place = omega arith;
+      word = h.here c.if-heads-gt0.true ∙ (ap (slice_index one) at
+          ∙ (sym (head_there nb one i c.requires.laid h.below) ∙ ap (λ (j : ℕ). slice_index (rows_in nb one) (rank nb one i j)) none));
+      end = end ∙ end_is g k c.halve-found.ensures.last;
+      from = h.before c.if-heads-gt0.true;
+      until = omega arith;
+      words = c.halve-found.ensures.words ∙ same g k;
+      may = c.halve-found.ensures.may;
+      rows = search rules;
+      kept = kept_to g k;
+      steps = omega arith;
+      fewer = steps_all g k;
+    }
 
--- and with that of the first row
-pub returns-clause-kept : goal.returns-clause-kept
-returns-clause-kept g c = g.W.Loads.steps_on _ _ _ _ (kept_to g (goal.at.returns-clause-kept g c).After-halve-found) c.load-word.ensures.kept
+-- and the first row of all, which is loaded then
+pub returns : goal.returns
+returns g c =
+    let one = g.W.Loads.words c.args.words.now c.args.hand.now in
+    let nb = c.args.blocks in
+    let k = (goal.at.returns g c).After-halve-found in
+    let h = head g k in
+    let r = row g k in
+    let within = r.below in
+    let behind = r.behind in
+    let end = c.min-end.ensures in
+    let last = c.load-word.ensures.step in
+    let none : 0 ≡ c.halve-found.result.place = let z = c.if-found-gt0.false in omega arith in
+    let zero : 0 ≡ c.halve-heads.result.place = let z = c.if-heads-gt0.false in omega arith in
+    let same_1 = c.halve-found.ensures.words ∙ same g k in
+    let all = steps_first g k zero 11 (eleven g k) in
+    let start = c.load-word.ensures.word ∙ ap (λ (l : List ℕ). slice_index l 0) same_1 in
+    record {
+      block = h.below;
+      place = omega arith;
+      word = start ∙ (sym (head_there nb one 0 c.requires.laid c.requires.laid.some)
+          ∙ (λ j. slice_index (rows_in nb one) (rank nb one (zero j) (none j))));
+      end = end ∙ end_is g k c.halve-found.ensures.last;
+      from = let low = ap (λ (w : ℕ). w / 64) start ∙ c.requires.first in omega arith;
+      until = omega arith;
+      words = c.load-word.ensures.words ∙ same_1;
+      may = c.load-word.ensures.may;
+      rows = search rules;
+      kept = g.W.Loads.steps_on _ _ _ _ (kept_to g k) c.load-word.ensures.kept;
+      steps = omega arith;
+      fewer = λ m le. let some = steps_first g k zero m le in omega arith;
+    }

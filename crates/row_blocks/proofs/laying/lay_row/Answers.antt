@@ -17,34 +17,24 @@ is_slot g c = record {
   body = λ some. c.slot_of-slot.ensures.rest some ∙ ap (λ (x : ℕ). x + c.args.spot.at.place) c.requires.body;
 }
 
-pub exchange-requires-clause-slot : goal.exchange-requires-clause-slot
-exchange-requires-clause-slot g c =
-    let h = goal.at.exchange-requires-clause-slot g c in
-    let below = slot_below _ _ _ _ _ c.requires.laid (is_slot g h.After-slot_of-slot) in
+pub exchange-requires : goal.exchange-requires
+exchange-requires g c =
+    let below = slot_below _ _ _ _ _ c.requires.laid (is_slot g (goal.at.exchange-requires g c).After-slot_of-slot) in
     let same = c.requires.blocks in
-    omega arith
-
-pub exchange-requires-clause-there : goal.exchange-requires-clause-there
-exchange-requires-clause-there g c =
-    let h = goal.at.exchange-requires-clause-there g c in
-    let below = slot_below _ _ _ _ _ c.requires.laid (is_slot g h.After-slot_of-slot) in
     let wide = c.requires.laid.wide in
-    omega arith
+    record { may = c.requires.may; slot = omega arith; there = omega arith; row = c.requires.row }
 
-pub returns-clause-laid : goal.returns-clause-laid
-returns-clause-laid g c =
-    let h = goal.at.returns-clause-laid g c in
-    subst (IsLaidOut c.args.blocks) (sym c.exchange.ensures.words)
-    (laid_stored _ _ _ _ _ c.args.word c.requires.laid (is_slot g h.After-slot_of-slot))
-
-pub returns-clause-laid_row : goal.returns-clause-laid_row
-returns-clause-laid_row g c =
-    let h = goal.at.returns-clause-laid_row g c in
-    ap (rows_in c.args.blocks) c.exchange.ensures.words
-    ∙ set_there c.args.word c.requires.laid (is_slot g h.After-slot_of-slot)
-
-pub returns-clause-layout : goal.returns-clause-layout
-returns-clause-layout g c =
-    let h = goal.at.returns-clause-layout g c in
-    λ t le. ap (λ (l : List ℕ). slice_index l t) c.exchange.ensures.words
-    ∙ layout_stays _ _ _ _ _ c.args.word c.requires.laid (is_slot g h.After-slot_of-slot) t le
+pub returns : goal.returns
+returns g c =
+    let is = is_slot g (goal.at.returns g c).After-slot_of-slot in
+    let laid = c.requires.laid in
+    let call = c.exchange.ensures in
+    record {
+      laid = subst (IsLaidOut c.args.blocks) (sym call.words) (laid_stored _ _ _ _ _ c.args.word laid is);
+      laid_row = ap (rows_in c.args.blocks) call.words ∙ set_there c.args.word laid is;
+      layout = λ t le. ap (λ (l : List ℕ). slice_index l t) call.words ∙ layout_stays _ _ _ _ _ c.args.word laid is t le;
+      may = call.may;
+      rows = call.rows;
+      kept = call.kept;
+      steps = call.steps;
+    }

@@ -1,9 +1,9 @@
-use Rattle.std.proofs.Common.{ℕ, ◌≡◌, ◌+◌, ◌<◌, ◌≤◌, List, length, take, refl, sym, ap, subst, ◌∙◌, arith, rules}
-use Rattle.std.specs.Prelude.{slice_index, slice_set}
+use Rattle.std.proofs.Common.{ℕ, ◌≡◌, ◌+◌, ◌<◌, List, length, take, refl, ap, subst, ◌∙◌, arith, rules}
+use Rattle.std.specs.Prelude.{slice_index}
 use Rattle.std.specs.List.{splice}
 use Rattle.std.proofs.lemmas.List.{take_all}
 use Rattle.std.proofs.lemmas.List.Elements.{All-get_or}
-use Rattle.row_blocks.specs.Blocks.{IsLaidOut, blocks_of, body_at, rows_of, rows_in, rank}
+use Rattle.row_blocks.specs.Blocks.{rows_in, rank}
 use Rattle.row_blocks.proofs.Lays.{SameLayout, IsSpot, same_layout, spot_now, spot_on, spot_below, lays_none, laid_more, next_below, lay_steps}
 use Rattle.row_blocks.proofs.laying.lay_rows.Given.{Over}
 use Rattle.row_blocks.proofs.laying.lay_rows.Goals.{In-rows}
@@ -35,46 +35,35 @@ rows-init g c = record {
 }
 
 -- its block is there, its body stands there, and a row stands behind it
-pub go_on-here-requires-clause-there : goal.go_on-here-requires-clause-there
-go_on-here-requires-clause-there g c = let s = spot g (goal.at.go_on-here-requires-clause-there g c).In-rows in s.there
-
--- in or right behind the rows of the block
-pub go_on-here-requires-clause-place : goal.go_on-here-requires-clause-place
-go_on-here-requires-clause-place g c = let s = spot g (goal.at.go_on-here-requires-clause-place g c).In-rows in s.place
-
--- whose body it is
-pub go_on-here-requires-clause-body : goal.go_on-here-requires-clause-body
-go_on-here-requires-clause-body g c = let s = spot g (goal.at.go_on-here-requires-clause-body g c).In-rows in s.body
-
--- and which has so many
-pub go_on-here-requires-clause-count : goal.go_on-here-requires-clause-count
-go_on-here-requires-clause-count g c = let s = spot g (goal.at.go_on-here-requires-clause-count g c).In-rows in s.count
-
--- and a row is left
-pub go_on-here-requires-clause-more : goal.go_on-here-requires-clause-more
-go_on-here-requires-clause-more g c =
+pub go_on-here-requires : goal.go_on-here-requires
+go_on-here-requires g c =
     let ws = c.args.words.now in
-    let h = (goal.at.go_on-here-requires-clause-more g c).In-rows in
+    let h = (goal.at.go_on-here-requires g c).In-rows in
     let lt : c.rows.k < length c.args.more.now = search rules in
-    spot_below (rank c.args.blocks (g.W.Loads.words ws c.args.hand.now) c.args.from.at.block c.args.from.at.place) c.rows.k (length c.args.more.now)
-    c.requires.laid c.rows.invariant.laid (same g h) (spot g h) lt c.requires.fits
+    let s = spot g h in
+    record {
+      few = c.requires.few;
+      may = c.rows.invariant.may;
+      laid = c.rows.invariant.laid;
+      there = s.there;
+      place = s.place;
+      body = s.body;
+      count = s.count;
+      more = spot_below (rank c.args.blocks (g.W.Loads.words ws c.args.hand.now) c.args.from.at.block c.args.from.at.place) c.rows.k
+          (length c.args.more.now) c.requires.laid c.rows.invariant.laid (same g h) s lt c.requires.fits;
+    }
 
 pub lay_row-requires-clause-laid : goal.lay_row-requires-clause-laid
-lay_row-requires-clause-laid g c = subst (IsLaidOut c.args.blocks) (sym c.go_on-here.ensures.words) c.rows.invariant.laid
+lay_row-requires-clause-laid g c = rw c.go_on-here.ensures.words c.rows.invariant.laid
 
 pub lay_row-requires-clause-there : goal.lay_row-requires-clause-there
-lay_row-requires-clause-there g c =
-    subst (λ (l : List ℕ). c.go_on-here.result.at.block < blocks_of c.args.blocks l) (sym c.go_on-here.ensures.words) c.go_on-here.ensures.there
+lay_row-requires-clause-there g c = rw c.go_on-here.ensures.words c.go_on-here.ensures.there
 
 pub lay_row-requires-clause-place : goal.lay_row-requires-clause-place
-lay_row-requires-clause-place g c =
-    subst (λ (l : List ℕ). c.go_on-here.result.at.place ≤ rows_of c.args.blocks l c.go_on-here.result.at.block) (sym c.go_on-here.ensures.words)
-    c.go_on-here.ensures.place
+lay_row-requires-clause-place g c = rw c.go_on-here.ensures.words c.go_on-here.ensures.place
 
 pub lay_row-requires-clause-body : goal.lay_row-requires-clause-body
-lay_row-requires-clause-body g c =
-    subst (λ (l : List ℕ). c.go_on-here.result.body.at ≡ body_at c.args.blocks l c.go_on-here.result.at.block) (sym c.go_on-here.ensures.words)
-    c.go_on-here.ensures.body
+lay_row-requires-clause-body g c = rw c.go_on-here.ensures.words c.go_on-here.ensures.body
 
 pub lay_row-requires-clause-row : goal.lay_row-requires-clause-row
 lay_row-requires-clause-row g c =
@@ -96,12 +85,10 @@ rows-preserved g c =
     let lt : c.rows.k < length c.args.more.now = search rules in
     let to = c.go_on-here.result in
     let go = c.go_on-here.ensures in
-    let w = slice_index c.args.more.now c.rows.k in
     let r : ℕ = rank nb one c.args.from.at.block c.args.from.at.place in
     let s = spot g h in
     let here : rank nb two to.at.block to.at.place ≡ r + c.rows.k = go.rank ∙ s.rank in
-    let laid : rows_in nb three ≡ slice_set (rows_in nb two) (rank nb two to.at.block to.at.place) w =
-    subst (λ (l : List ℕ). rows_in nb three ≡ slice_set (rows_in nb l) (rank nb l to.at.block to.at.place) w) go.words c.lay_row.ensures.laid_row in
+    let laid = rw go.words at c.lay_row.ensures.laid_row in
     record {
       laid = c.lay_row.ensures.laid;
       spliced = laid_more nb one two three c.args.more.now r c.rows.k (next_below r c.rows.k _ _ lt c.requires.fits) lt inv.spliced laid here refl;

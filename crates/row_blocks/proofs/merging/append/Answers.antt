@@ -1,23 +1,9 @@
 use Rattle.std.proofs.Common.{ℕ, ◌≡◌, ◌+◌, ◌*◌, ◌/◌, List, refl, sym, ap, subst, ◌∙◌, arith}
 use Rattle.std.specs.Prelude.{slice_index}
-use Rattle.row_blocks.proofs.Puts.{OnlyBlock, still_laid, count_stays, body_word_stays, other_block}
-use Rattle.row_blocks.proofs.Appends.{IsAppended, is_appended, started_stays, append_only, append_more, both}
+use Rattle.row_blocks.proofs.Puts.{still_laid, count_stays, body_word_stays, other_block}
+use Rattle.row_blocks.proofs.Appends.{is_appended, started_stays, append_only, append_more, both}
 use Rattle.row_blocks.proofs.Places.{first_loaded, others_loaded}
-use Rattle.row_blocks.proofs.merging.append.Given.{Over}
-use Rattle.row_blocks.proofs.merging.append.Goals.{After-store_layout}
 use Rattle.row_blocks.proofs.merging.append.Goals as goal
-
--- what stands after all stores
-done : (g : Over) (c : After-store_layout g) → IsAppended c.args.blocks (g.W.Loads.words c.args.words.now c.args.hand.now)
-    (g.W.Loads.words c.args.words.now c.exchange.new.hand) (g.W.Loads.words c.args.words.now c.copy.new.hand)
-    (g.W.Loads.words c.args.words.now c.store_layout.new.hand) c.args.i
-done g c =
-    let same_1 = c.load-packed.ensures.words in
-    let same_2 = c.load-other.ensures.words ∙ same_1 in
-    let same_3 = c.load-head.ensures.words ∙ same_2 in
-    let other = c.load-other.ensures.word ∙ ap (λ (l : List ℕ). slice_index l (128 * c.args.blocks + 1 + (c.args.i + 1))) same_1 in
-    let head = c.load-head.ensures.word ∙ ap (λ (l : List ℕ). slice_index l (c.args.i + 1)) same_2 in
-    is_appended same_3 c.load-packed.ensures.word other head c.exchange.ensures.words c.copy.ensures.copied c.store_layout.ensures.words
 
 -- the head of the upper block is a row
 pub exchange-requires-clause-row : goal.exchange-requires-clause-row
@@ -47,46 +33,29 @@ copy-requires-clause-rows g c =
     (others_loaded nb one (c.args.i + 1) c.requires.laid c.requires.there (g.W.Loads.is_row ws c.args.hand.now) (g.W.Loads.is_row ws c.args.hand.now)
     (λ w r. r) refl other c.requires.rows s (omega arith) (omega arith))))))
 
--- only the lower block has changed
-only : (g : Over) (c : After-store_layout g) → OnlyBlock c.args.blocks (g.W.Loads.words c.args.words.now c.args.hand.now)
-    (g.W.Loads.words c.args.words.now c.store_layout.new.hand) c.args.i
-only g c = append_only c.requires.laid c.requires.there c.requires.room (done g c)
-
--- the words are laid out
-pub returns-clause-laid : goal.returns-clause-laid
-returns-clause-laid g c =
+-- what stands after all stores: only the lower block has changed, and has the rows of both
+pub returns : goal.returns
+returns g c =
+    let same_1 = c.load-packed.ensures.words in
+    let same_2 = c.load-other.ensures.words ∙ same_1 in
+    let same_3 = c.load-head.ensures.words ∙ same_2 in
+    let other = c.load-other.ensures.word ∙ ap (λ (l : List ℕ). slice_index l (128 * c.args.blocks + 1 + (c.args.i + 1))) same_1 in
+    let head = c.load-head.ensures.word ∙ ap (λ (l : List ℕ). slice_index l (c.args.i + 1)) same_2 in
+    let done = is_appended same_3 c.load-packed.ensures.word other head c.exchange.ensures.words c.copy.ensures.copied c.store_layout.ensures.words in
     let there = c.requires.there in
-    still_laid c.requires.laid (omega arith) (only g c)
-
--- as the block count tells
-pub returns-clause-count : goal.returns-clause-count
-returns-clause-count g c =
-    let there = c.requires.there in
-    count_stays c.requires.laid (omega arith) (only g c)
-
--- the rows of both stand in one block
-pub returns-clause-both : goal.returns-clause-both
-returns-clause-both g c = both c.requires.laid c.requires.there c.requires.room (done g c)
-
--- the block has more rows
-pub returns-clause-more : goal.returns-clause-more
-returns-clause-more g c = append_more c.requires.laid c.requires.there c.requires.room (done g c)
-
--- and the other blocks as they stood
-pub returns-clause-blocks : goal.returns-clause-blocks
-returns-clause-blocks g c =
-    let there = c.requires.there in
-    other_block c.requires.laid (omega arith) (only g c)
-
--- and the other body words stand as they stood
-pub returns-clause-others : goal.returns-clause-others
-returns-clause-others g c =
-    let there = c.requires.there in
-    body_word_stays c.requires.laid (omega arith) (only g c)
-
--- all steps are one
-pub returns-clause-kept : goal.returns-clause-kept
-returns-clause-kept g c =
+    let only = append_only c.requires.laid there c.requires.room done in
     let loads = g.W.Loads.steps_on _ _ _ _ (g.W.Loads.steps_on _ _ _ _ c.load-packed.ensures.kept c.load-other.ensures.kept) c.load-head.ensures.kept in
     let rows = g.W.Loads.steps_on _ _ _ _ (g.W.Loads.steps_on _ _ _ _ loads c.exchange.ensures.kept) c.copy.ensures.kept in
-    g.W.Loads.steps_on _ _ _ _ rows c.store_layout.ensures.kept
+    record {
+      laid = still_laid c.requires.laid (omega arith) only;
+      count = count_stays c.requires.laid (omega arith) only;
+      both = both c.requires.laid there c.requires.room done;
+      blocks = other_block c.requires.laid (omega arith) only;
+      more = append_more c.requires.laid there c.requires.room done;
+      others = body_word_stays c.requires.laid (omega arith) only;
+      may = c.store_layout.ensures.may;
+      rows = λ w r. c.store_layout.ensures.rows w (c.copy.ensures.rows w (c.exchange.ensures.rows w (c.load-head.ensures.rows w
+          (c.load-other.ensures.rows w (c.load-packed.ensures.rows w r)))));
+      kept = g.W.Loads.steps_on _ _ _ _ rows c.store_layout.ensures.kept;
+      steps = omega arith;
+    }

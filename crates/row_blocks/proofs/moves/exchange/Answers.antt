@@ -1,6 +1,6 @@
 use Rattle.std.proofs.Common.{ℕ, ◌≡◌, List, ap, ◌∙◌, sym, rules}
 use Rattle.std.specs.Prelude.{slice_set}
-use Rattle.row_blocks.proofs.MovedWords.{set_stood}
+use Rattle.std.proofs.lemmas.List.{set-get_or}
 use Rattle.row_blocks.proofs.moves.exchange.Goals as goal
 
 -- where the row stands there already, nothing changes
@@ -8,7 +8,7 @@ pub returns-then-stood-word-clause-words : goal.returns-then-stood-word-clause-w
 returns-then-stood-word-clause-words g c =
     let old = g.W.Loads.words c.args.words.now c.args.hand.now in
     let e : c.load-stood.result ≡ c.args.word = search rules in
-    c.load-stood.ensures.words ∙ set_stood old c.args.place c.requires.there (sym c.load-stood.ensures.word ∙ e)
+    c.load-stood.ensures.words ∙ (sym (set-get_or old c.args.place 0) ∙ ap (λ (w : ℕ). slice_set old c.args.place w) (sym c.load-stood.ensures.word ∙ e))
 
 -- and elsewhere it is stored
 pub returns-clause-words : goal.returns-clause-words

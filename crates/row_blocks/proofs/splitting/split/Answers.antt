@@ -1,5 +1,6 @@
-use Rattle.std.proofs.Common.{ℕ, ◌≡◌, ◌+◌, ◌-◌, ◌*◌, ◌/◌, ◌∙◌, ap, sym, subst, arith, List}
+use Rattle.std.proofs.Common.{ℕ, ◌≡◌, ◌+◌, ◌-◌, ◌*◌, ◌/◌, ◌∙◌, ap, sym, subst, arith, rules, List}
 use Rattle.std.specs.Prelude.{slice_index}
+use Rattle.std.proofs.lemmas.Grind.{common_steps}
 use Rattle.row_blocks.specs.Blocks.{body_at}
 use Rattle.row_blocks.proofs.Splits.{IsSplit, split_copied, lower_stays, split_done, laid_split, rows_split, split_lower, split_upper}
 use Rattle.row_blocks.proofs.Places.{head_is_row, body_is_row, others_loaded}
@@ -25,12 +26,10 @@ pub copy-requires-clause-rows : goal.copy-requires-clause-rows
 copy-requires-clause-rows g c =
     let ws = c.args.words.now in
     let nb = c.args.blocks in
-    let same_1 = c.load-count.ensures.words in
-    let same_2 = c.load-packed.ensures.words ∙ same_1 in
-    let same_3 = c.load-free.ensures.words ∙ same_2 in
-    let read = c.load-packed.ensures.word ∙ ap (λ (l : List ℕ). slice_index l (128 * nb + 1 + c.args.i)) same_1 in
+    let same = c.load-free.ensures.words ∙ (c.load-packed.ensures.words ∙ c.load-count.ensures.words) in
+    let read = c.load-packed.ensures.word ∙ ap (λ (l : List ℕ). slice_index l (128 * nb + 1 + c.args.i)) c.load-count.ensures.words in
     λ m lt. others_loaded nb _ c.args.i c.requires.laid c.requires.there (g.W.Loads.is_row ws c.args.hand.now) (g.W.Loads.is_row ws c.load-free.new.hand)
-    (λ w r. c.load-free.ensures.rows w (c.load-packed.ensures.rows w (c.load-count.ensures.rows w r))) same_3 read c.requires.rows
+    (λ w r. c.load-free.ensures.rows w (c.load-packed.ensures.rows w (c.load-count.ensures.rows w r))) same read c.requires.rows
     (nb + 127 * (c.load-packed.result / 128) + c.args.place + m) (omega arith) (omega arith)
 
 -- so is the head of the upper half
@@ -55,7 +54,7 @@ raise-requires-clause-row g c =
     let here : c.load-head.result ≡ slice_index one at =
     c.load-head.ensures.word
     ∙ (ap (λ (x : ℕ). slice_index (g.W.Loads.words ws c.copy.new.hand) (nb + 127 * (x / 128) + (c.args.place - 1))) read
-    ∙ lower_stays i c.args.place at laid c.requires.there c.requires.free (omega arith) (omega arith) copied) in
+    ∙ lower_stays i c.args.place (c.args.place - 1) laid c.requires.there c.requires.free (omega arith) copied) in
     subst (g.W.Loads.is_row ws c.load-head.new.hand) (sym here)
     (c.load-head.ensures.rows _ (c.copy.ensures.rows _ (c.load-free.ensures.rows _ (c.load-packed.ensures.rows _ (c.load-count.ensures.rows _
     (body_is_row nb one i laid c.requires.there (g.W.Loads.is_row ws c.args.hand.now) c.requires.rows at (omega arith) (omega arith)))))))
@@ -76,36 +75,22 @@ raise-requires-clause-rows g c =
     (c.load-head.ensures.rows _ (c.copy.ensures.rows _ (c.load-free.ensures.rows _ (c.load-packed.ensures.rows _ (c.load-count.ensures.rows _
     (head_is_row _ one s c.requires.laid (omega arith) (g.W.Loads.is_row ws c.args.hand.now) c.requires.rows))))))
 
--- the words are laid out
-pub returns-clause-laid : goal.returns-clause-laid
-returns-clause-laid g c = laid_split c.requires.laid c.requires.there c.requires.free c.requires.some c.requires.place
-    (done g c)
-
--- the rows are those that were
-pub returns-clause-same : goal.returns-clause-same
-returns-clause-same g c = rows_split c.requires.laid c.requires.there c.requires.free c.requires.some c.requires.place
-    (done g c)
-
--- as the block count tells
-pub returns-clause-count : goal.returns-clause-count
-returns-clause-count g c = let d = done g c in d.count
-
--- the body words before stand as they stood
-pub returns-clause-before : goal.returns-clause-before
-returns-clause-before g c = let d = done g c in d.told
-
--- the lower half has so many
-pub returns-clause-lower : goal.returns-clause-lower
-returns-clause-lower g c = split_lower c.requires.some c.requires.place (done g c)
-
--- and the upper half the rest
-pub returns-clause-upper : goal.returns-clause-upper
-returns-clause-upper g c = split_upper c.requires.place (done g c)
-
--- all steps are one
-pub returns-clause-kept : goal.returns-clause-kept
-returns-clause-kept g c =
+-- what stands then: the same rows, in one block more
+pub returns : goal.returns
+returns g c =
+    let d = done g c in
     let loads = g.W.Loads.steps_on _ _ _ _ (g.W.Loads.steps_on _ _ _ _ c.load-count.ensures.kept c.load-packed.ensures.kept) c.load-free.ensures.kept in
     let copied = g.W.Loads.steps_on _ _ _ _ (g.W.Loads.steps_on _ _ _ _ loads c.copy.ensures.kept) c.load-head.ensures.kept in
     let raised = g.W.Loads.steps_on _ _ _ _ (g.W.Loads.steps_on _ _ _ _ copied c.raise.ensures.kept) c.raise_layout.ensures.kept in
-    g.W.Loads.steps_on _ _ _ _ (g.W.Loads.steps_on _ _ _ _ raised c.store_layout.ensures.kept) c.store_layout-2.ensures.kept
+    record {
+      laid = laid_split c.requires.laid c.requires.there c.requires.free c.requires.some c.requires.place d;
+      same = rows_split c.requires.laid c.requires.there c.requires.free c.requires.some c.requires.place d;
+      count = d.count;
+      before = d.told;
+      lower = split_lower c.requires.some c.requires.place d;
+      upper = split_upper c.requires.place d;
+      may = c.store_layout-2.ensures.may;
+      rows = search rules;
+      kept = g.W.Loads.steps_on _ _ _ _ (g.W.Loads.steps_on _ _ _ _ raised c.store_layout.ensures.kept) c.store_layout-2.ensures.kept;
+      steps = grind (arith, common_steps);
+    }

@@ -1,9 +1,9 @@
 use Rattle.std.proofs.Common.{◌<◌, arith}
 use Rattle.row_blocks.proofs.Halves.{low_rank, high_rank, first_short}
-use Rattle.row_blocks.proofs.rooms.split_half.Given.{Over}
-use Rattle.row_blocks.proofs.rooms.split_half.Goals.{After-split}
+use Rattle.row_blocks.proofs.rooms.split_near.Given.{Over}
+use Rattle.row_blocks.proofs.rooms.split_near.Goals.{After-split}
 use Rattle.row_blocks.specs.Blocks.{rows_of}
-use Rattle.row_blocks.proofs.rooms.split_half.Goals as goal
+use Rattle.row_blocks.proofs.rooms.split_near.Goals as goal
 
 -- block 0 has at most 64 rows still
 short : (g : Over) (c : After-split g) → rows_of c.args.blocks (g.W.Loads.words c.args.words.now c.split.new.hand) 0 < 64
@@ -13,12 +13,12 @@ short g c =
     c.split.ensures.before c.split.ensures.lower c.requires.short (omega arith)
 
 -- where the position stays
-pub returns-then-at-half-clause-short : goal.returns-then-at-half-clause-short
-returns-then-at-half-clause-short g c = short g (goal.at.returns-then-at-half-clause-short g c).After-split
+pub returns-then-at-low-clause-short : goal.returns-then-at-low-clause-short
+returns-then-at-low-clause-short g c = short g (goal.at.returns-then-at-low-clause-short g c).After-split
 
 -- as many rows stand before the position
-pub returns-then-at-half-clause-rank : goal.returns-then-at-half-clause-rank
-returns-then-at-half-clause-rank g c =
+pub returns-then-at-low-clause-rank : goal.returns-then-at-low-clause-rank
+returns-then-at-low-clause-rank g c =
     let low = low_rank c.args.blocks (g.W.Loads.words c.args.words.now c.args.hand.now) (g.W.Loads.words c.args.words.now c.split.new.hand) c.args.at.block
     c.split.ensures.before c.split.ensures.lower in
     omega arith
@@ -37,7 +37,7 @@ returns-clause-there g c =
 -- as many rows stand before the position
 pub returns-clause-rank : goal.returns-clause-rank
 returns-clause-rank g c =
-    let above = c.if-at-half.false in
+    let above = c.if-at-low.false in
     let high = high_rank c.args.blocks (g.W.Loads.words c.args.words.now c.args.hand.now) (g.W.Loads.words c.args.words.now c.split.new.hand) c.args.at.block
     c.split.ensures.before c.split.ensures.lower in
     omega arith
