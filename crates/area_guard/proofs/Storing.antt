@@ -18,14 +18,14 @@ use Rattle.area_guard.specs.History.MayLoad.{number, glance, sequence, layout, r
 use Rattle.area_guard.specs.History.MayStore.{store_row, store_count, store_layout}
 use Rattle.area_guard.specs.History.MayAdd.{draw, raise}
 use Rattle.area_guard.specs.declared.guard.Splice.{Splice}
-use Rattle.area_guard.specs.Rows.{nb_in, IsLayoutPlace}
-use Rattle.area_guard.specs.Draws.{draw_seen, draw_drew, leaves_plan}
+use Rattle.area_guard.specs.Rows.{nb_in, number_place, IsLayoutPlace}
+use Rattle.area_guard.specs.Draws.{draw_seen, draw_drew, draw_since, leaves_plan}
 use Rattle.lock_core.specs.Grants.{Grants}
 use Rattle.lock_core.specs.Client.{ClientStep, loads, stores, adds, exchanges}
 use Rattle.lock_core.specs.declared.range.Held.{Held}
 use Rattle.std.specs.Prelude.{Option}
 use Rattle.area_guard.specs.Stored.{Stores, IsStoredOnce, IsStored, HistoryIsStored, IsOfWhole, CountIsOfWhole, LayoutIsOfWhole}
-use Rattle.area_guard.specs.Stored.{StoresAreNew, RunsAreLegal, DrawsHold, KeepsDraw, IsNoDraw, LastDrawIsKept}
+use Rattle.area_guard.specs.Stored.{StoresAreNew, RunsAreLegal, DrawsHold, KeepsDraw, IsNoDraw, LastDrawIsKept, StepsAreCounted}
 use Rattle.lock_core.proofs.ByPlace.{there}
 use Rattle.area_guard.proofs.Entries.{runs_number, own_at, at_own}
 
@@ -166,7 +166,7 @@ layout_stores grants words passes worker place value note after at may =
     layout_of grants words passes worker place value may.0 may.0.pass.pending after at refl may.1
 
 hold_of : (grants : Grants) (words : List ℕ) (passes : List Pass) (worker : ℕ) (note : Note)
-    (here : Here grants words passes worker) (after : Pass) → MayAdd grants words passes worker note here 0 after
+    (here : Here grants words passes worker) (after : Pass) → MayAdd grants words passes worker note here (number_place (nb_in words)) after
     → (held : Option Held) × (get_elem? grants worker ≡ some held) × HoldsFor held note.under × (after.drew ≡ held)
     × (history : List Entry) × (after.seen ≡ history ++ entry_of (length history) worker note ∷ [])
 hold_of grants words passes worker note here after (raise plan e pends written is) = absurd (omega arith)
@@ -184,46 +184,73 @@ hold_of grants words passes worker note here after (draw e d is) =
 pub all_hold : DrawsHold
 all_hold grants words passes worker by note after may = hold_of grants words passes worker note may.1 after may.2
 
--- a pass that has become another one with the same entries and the same last draw
-same_draw : (p q after : Pass) → after ≡ q → q.mine ≡ p.mine → q.drew ≡ p.drew → KeepsDraw p after
-same_draw p q after is m d = record { mine = ap (λ (x : Pass). x.mine) is ∙ m; drew = ap (λ (x : Pass). x.drew) is ∙ d }
+-- one step more since the last draw, with the same entries
+abbrev Counts : Pass → Pass → Type 0
+Counts p after = KeepsDraw p after × (after.since ≡ p.since + 1)
+
+-- a pass that has become another one, which is so
+same_draw : (p q after : Pass) → after ≡ q → q.mine ≡ p.mine → q.drew ≡ p.drew → q.since ≡ p.since + 1 → Counts p after
+same_draw p q after is m d s = (record { mine = ap (λ (x : Pass). x.mine) is ∙ m; drew = ap (λ (x : Pass). x.drew) is ∙ d }, ap (λ (x : Pass). x.since) is ∙ s)
 
 load_keeps : (own : Option Held → Type 0) (free held : Type 0) (words : List ℕ) (history : List Entry) (place : ℕ) (p after : Pass)
-    → MayLoad own free held words history place p after → KeepsDraw p after
-load_keeps own free held words history place p after (number h o e is) = same_draw p _ after is refl refl
-load_keeps own free held words history place p after (glance f e is) = same_draw p _ after is refl refl
-load_keeps own free held words history place p after (sequence h e is) = same_draw p _ after is refl refl
-load_keeps own free held words history place p after (layout h e is) = same_draw p _ after is refl refl
-load_keeps own free held words history place p after (row i h slot e is) = same_draw p _ after is refl refl
+    → MayLoad own free held words history place p after → Counts p after
+load_keeps own free held words history place p after (number h o e is) = same_draw p _ after is refl refl refl
+load_keeps own free held words history place p after (glance f e is) = same_draw p _ after is refl refl refl
+load_keeps own free held words history place p after (sequence h e is) = same_draw p _ after is refl refl refl
+load_keeps own free held words history place p after (layout h e is) = same_draw p _ after is refl refl refl
+load_keeps own free held words history place p after (row i h slot e is) = same_draw p _ after is refl refl refl
 
-store_keeps : (plan : Splice) (place value : ℕ) (p after : Pass) → MayStore plan place value p after → KeepsDraw p after
-store_keeps plan place value p after (store_row i slot e v is) = same_draw p _ after is refl refl
-store_keeps plan place value p after (store_count e v is) = same_draw p _ after is refl refl
-store_keeps plan place value p after (store_layout i few e is) = same_draw p _ after is refl refl
+store_keeps : (plan : Splice) (place value : ℕ) (p after : Pass) → MayStore plan place value p after → Counts p after
+store_keeps plan place value p after (store_row i slot e v is) = same_draw p _ after is refl refl refl
+store_keeps plan place value p after (store_count e v is) = same_draw p _ after is refl refl refl
+store_keeps plan place value p after (store_layout i few e is) = same_draw p _ after is refl refl refl
 
-write_keeps : (words : List ℕ) (pending : Pending) (place value : ℕ) (p after : Pass) → MayWrite words pending place value p after → KeepsDraw p after
+write_keeps : (words : List ℕ) (pending : Pending) (place value : ℕ) (p after : Pass) → MayWrite words pending place value p after → Counts p after
 write_keeps words AtRest place value p after may = absurd may
 write_keeps words (Planned plan) place value p after may = store_keeps plan place value p after may.0
-write_keeps words (OneRow c) place value p after may = same_draw p _ after may.3 refl refl
+write_keeps words (OneRow c) place value p after may = same_draw p _ after may.3 refl refl refl
 
 raise_keeps : (grants : Grants) (words : List ℕ) (passes : List Pass) (worker place : ℕ) (note : Note)
-    (here : Here grants words passes worker) (after : Pass) → (place ≡ 0 → ⊥)
-    → MayAdd grants words passes worker note here place after → KeepsDraw here.pass after
-raise_keeps grants words passes worker place note here after differ (draw e d is) = absurd (differ e)
-raise_keeps grants words passes worker place note here after differ (raise plan e pends written is) = same_draw here.pass _ after is refl refl
+    (here : Here grants words passes worker) (after : Pass) → (place ≡ number_place (nb_in words) → ⊥)
+    → MayAdd grants words passes worker note here place after → Counts here.pass after
+raise_keeps grants words passes worker place note here after differ (draw e d is) =
+    absurd (differ (e ∙ ap number_place (here.running.parts worker here.pass here.own).room.0))
+raise_keeps grants words passes worker place note here after differ (raise plan e pends written is) = same_draw here.pass _ after is refl refl refl
 
 -- a step of a caller at a moment, from the pass that it has there
 step_keeps : (grants : Grants) (words : List ℕ) (passes : List Pass) (worker : ℕ) (step : ClientStep) (note : Note) (after : Pass)
-    → IsNoDraw step → Allowed grants words passes worker step note after
-    → (here : Here grants words passes worker) × KeepsDraw here.pass after
+    → IsNoDraw words step → Allowed grants words passes worker step note after
+    → (here : Here grants words passes worker) × Counts here.pass after
 step_keeps grants words passes worker (loads i) note after other may = (may.0, load_keeps _ _ _ words may.0.history i may.0.pass after may.1)
 step_keeps grants words passes worker (stores i value) note after other may = (may.0, write_keeps words may.0.pass.pending i value may.0.pass after may.1)
 step_keeps grants words passes worker (adds i by) note after other may = (may.1, raise_keeps grants words passes worker i note may.1 after other may.2)
 step_keeps grants words passes worker (exchanges i expected new) note after other may = absurd may
 
+-- the same from the pass that the caller is known to have
+counts_of : (grants : Grants) (words : List ℕ) (passes : List Pass) (worker : ℕ) (step : ClientStep) (note : Note) (pass after : Pass)
+    → get_elem? passes worker ≡ some pass → IsNoDraw words step → Allowed grants words passes worker step note after → Counts pass after
+counts_of grants words passes worker step note pass after own other may =
+    let k = step_keeps grants words passes worker step note after other may in
+    subst (λ (x : Pass). Counts x after) (some-injective k.0.pass pass (sym k.0.own ∙ own)) k.1
+
 -- a step that draws no number keeps each caller's entries and what was held at its last draw
 pub draw_kept : LastDrawIsKept
 draw_kept grants words passes worker step note pass after own other may =
-    let k = step_keeps grants words passes worker step note after other may in
-    let same : k.0.pass ≡ pass = some-injective k.0.pass pass (sym k.0.own ∙ own) in
-    (subst (λ (x : Pass). KeepsDraw x after) same k.1, record { mine = refl; drew = refl })
+    ((counts_of grants words passes worker step note pass after own other may).0, record { mine = refl; drew = refl })
+
+-- a draw begins the count of steps anew
+begins_anew : (grants : Grants) (words : List ℕ) (passes : List Pass) (worker : ℕ) (note : Note) (here : Here grants words passes worker)
+    (after : Pass) → MayAdd grants words passes worker note here (number_place (nb_in words)) after → after.since ≡ 0
+begins_anew grants words passes worker note here after (raise plan e pends written is) = absurd (omega arith)
+begins_anew grants words passes worker note here after (draw e d is) =
+    ap (λ (p : Pass). p.since) is ∙ draw_since here.history (entry_of (length here.history) worker note) d.held.0 here.pass note.pending
+
+-- and every other step is counted
+pub all_counted : StepsAreCounted
+all_counted grants words passes worker step note pass after own may = (
+  λ other. (counts_of grants words passes worker step note pass after own other may).1,
+  λ by is.
+      let m = subst (λ (s : ClientStep). Allowed grants words passes worker s note after) is may in
+      begins_anew grants words passes worker note m.1 after m.2,
+  refl,
+)

@@ -38,7 +38,7 @@ apart_pages grants worker other span exclusive differ holds held at page h i =
     let a = h.2 in let b = h.3 in let l = i.0 in let r = i.1 in
     exclusive worker other (alone span) h.0 (λ e. differ (sym e)) holds (at ∙ ap some h.1) ((omega arith, omega arith), inl refl)
 
-module _ (held : Option Held) (words : List ℕ) (c : Change) (m : MayReplace words c) (room : 21 + 129 * nb_in words ≤ length words)
+module _ (held : Option Held) (words : List ℕ) (c : Change) (m : MayReplace words c) (room : 36 + 129 * nb_in words ≤ length words)
     (below : (page : ℕ) → IsHeldPage held page → page < LIMIT)
     (apart : (page : ℕ) → IsHeldPage held page → IsIn c.span page → ⊥) where
   here : slice_index (set words (3 + c.index) (new_word c)) (3 + c.index) ≡ new_word c

@@ -1,11 +1,13 @@
 -- That a draw of a number keeps the rule: the history grows by the entry, and what its call leaves is to be written.
 -- These are parts of the proofs in `Keeping`; a reader who trusts the check may pass them over.
-use Rattle.std.specs.Prelude.{Option, slice_index}
-use Rattle.std.proofs.Common.{◌≡◌, ◌≢◌, ℕ, ◌+◌, ◌%◌, ◌^◌, ◌<◌, ◌≤◌, inl, inr, List, [], ◌∷◌, ◌++◌, length, set, sym, refl}
+use Rattle.std.specs.Prelude.{All, Option, slice_index}
+use Rattle.std.proofs.Common.{◌≡◌, ◌≢◌, ℕ, ◌+◌, ◌*◌, ◌%◌, ◌^◌, ◌<◌, ◌≤◌, inl, inr, List, [], ◌∷◌, ◌++◌, length, set, sym, refl}
 use Rattle.std.proofs.Common.{ap, ◌∙◌, subst, arith, length-set, length-append, append_assoc, ⊎_elim}
 use Rattle.std.proofs.lemmas.List.{append-nil, get_or-set_same, get_or-set_other}
-use Rattle.std.proofs.lemmas.List.Elements.{All-nil}
-use mathlib.Core.Option.{some}
+use Rattle.std.proofs.lemmas.List.Elements.{All-nil, All-weaker}
+use mathlib.Core.Option.{some, some-injective}
+use mathlib.Core.Logic.{dite}
+use native.Mathlib.Decide.{ℕ_discrete}
 use lib.ListN.{get_elem?}
 use Rattle.atomic_table.proofs.Lists.{at_set}
 use Rattle.lock_core.proofs.ByPlace.{below}
@@ -32,18 +34,23 @@ use Rattle.area_guard.specs.declared.guard.Pending.{Pending}
 use Rattle.area_guard.specs.declared.guard.Splice.{Splice}
 use Rattle.area_guard.specs.declared.guard.Pending.TheVariants.{AtRest, Planned, OneRow}
 use Rattle.row_plans.specs.Plans.{PlanShows}
-use Rattle.area_guard.specs.Rows.{nb_in, room_of}
+use Rattle.area_guard.specs.Rows.{nb_in, number_place, room_of}
 use Rattle.area_guard.specs.Reads.{everything, StillStands}
 use Rattle.area_guard.specs.Changes.{alone, IsChange}
-use Rattle.area_guard.specs.History.{with_whole, IsPart, planned_calls, planned_count, IsShown}
+use Rattle.area_guard.specs.History.{with_whole, IsPart, planned_calls, own_planned, planned_count, HoldsPages, IsShown}
 use Rattle.area_guard.specs.History.{RowsStandFor, IsRunningSpace, Backs, IsBacked, AreBacked, HoldsFor, Leaves, after_draw}
 use Rattle.area_guard.specs.History.{Runs, IsRight, FitsIn, IsOfLastEntry, IsOwed, rows_after}
 use Rattle.area_guard.specs.Replies.{all_more, reply_named, left_named, left_few}
-use Rattle.area_guard.specs.Stands.{nb_stays, room_stays, all_stand, layout_stays, same_low, low_rows, shown_set}
+use Rattle.area_guard.specs.Stands.{nb_stays, room_stays, layout_beside, HasSameWords, exact_stands, all_stand, rows_beside, shown_set}
+use Rattle.area_guard.specs.Slots.{slot_in}
 use Rattle.area_guard.specs.Parts.{own_more, own_same, count_set, most_set, room_kept, rows_fit_more, no_wrap}
-use Rattle.area_guard.specs.Parts.{whole_more, planned_set, resting_of, none_is}
-use Rattle.area_guard.specs.Writes.{everything_pages, span_pages, clash, plan_length}
+use Rattle.area_guard.specs.Parts.{whole_more, none_planned, planned_set, resting_of, none_is}
+use Rattle.area_guard.specs.Writes.{everything_pages, span_pages, clash, held_is, plan_length}
 use Rattle.area_guard.specs.RowStores.{shown_after_draw, others_back}
+
+-- the words with another number word
+abbrev pub numbered : List ℕ → ℕ → List ℕ
+numbered words value = set words (number_place (nb_in words)) value
 
 -- what is to be written goes with what is held
 leaves_counts : (state left : List Areas) (under : Under) (pending : Pending) → Leaves state under pending left → with_whole under 0 ≡ planned_calls pending
@@ -129,6 +136,11 @@ module _ (history : List Entry) (e : Entry) (held : Option Held) (p : Pass) wher
   draw_looks (Planned plan) = refl
   draw_looks (OneRow c) = refl
 
+  pub draw_since : (pending : Pending) → (after_draw history e pending held p).since ≡ 0
+  draw_since AtRest = refl
+  draw_since (Planned plan) = refl
+  draw_since (OneRow c) = refl
+
 -- what another caller has to write is of its last entry, as before
 last_on : (start : List Areas) (history mine : List Entry) (pending : Pending) (e : Entry) → IsOfLastEntry start history mine pending
     → IsOfLastEntry start (history ++ e ∷ []) mine pending
@@ -172,29 +184,29 @@ last_drawn start history mine state left pending e runs right leaves = record {
 
 -- another caller's part, or the caller's own
 others_part : (start : List Areas) (history : List Entry) (words : List ℕ) (value worker : ℕ) (p : Pass) (e : Entry)
-    → e.worker ≢ worker → IsPart start history words worker p → IsPart start (history ++ e ∷ []) (set words 0 value) worker p
+    → e.worker ≢ worker → IsPart start history words worker p → IsPart start (history ++ e ∷ []) (numbered words value) worker p
 others_part start history words value worker p e differ own = record {
   began = own.began;
   seen = (own.seen.0 ++ e ∷ [], ap (λ l. l ++ e ∷ []) own.seen.1 ∙ append_assoc p.seen own.seen.0 (e ∷ []));
   mine = own_same worker history e differ ∙ own.mine;
   few = own.few;
-  room = room_stays words p.blocks 0 value (omega arith) own.room;
+  room = room_stays words p.blocks (number_place (nb_in words)) value (omega arith) own.room;
   owed = owed_on start history p.mine p.pending e own.owed;
-  laid = λ l k. layout_stays words 0 value (λ same. omega arith) (omega arith) (let w = own.room.1 in omega arith) ∙ own.laid l k;
-  sequence = λ n c. get_or-set_other words 0 1 value 0 (λ same. omega arith) ∙ own.sequence n c;
+  laid = λ l k. layout_beside words (number_place (nb_in words)) value (inr (omega arith)) (let w = own.room.1 in omega arith) ∙ own.laid l k;
+  sequence = λ n c. get_or-set_other words (number_place (nb_in words)) 1 value 0 (λ same. omega arith) ∙ own.sequence n c;
 }
 
 own_part : (start : List Areas) (history : List Entry) (state left : List Areas) (words : List ℕ) (value worker : ℕ)
     (p : Pass) (e : Entry) (pending : Pending) (held : Option Held) → e.worker ≡ worker → length p.mine + 1 ≤ p.most
     → Runs 0 start history state → IsRight state e.call e.reply e.under left → Leaves state e.under pending left
     → IsPart start history words worker p
-    → IsPart start (history ++ e ∷ []) (set words 0 value) worker (after_draw history e pending held p)
+    → IsPart start (history ++ e ∷ []) (numbered words value) worker (after_draw history e pending held p)
 own_part start history state left words value worker p e AtRest held is few runs right leaves own = record {
   began = own.began;
   seen = ([], sym (append-nil (history ++ e ∷ [])));
   mine = own_more worker history e is ∙ ap (λ l. l ++ e ∷ []) own.mine;
   few = let l = length-append p.mine (e ∷ []) in omega arith;
-  room = room_stays words p.blocks 0 value (omega arith) own.room;
+  room = room_stays words p.blocks (number_place (nb_in words)) value (omega arith) own.room;
   owed = tt;
   laid = λ l none. absurd (none_is l none);
   sequence = λ n none. absurd (none_is n none);
@@ -204,20 +216,20 @@ own_part start history state left words value worker p e (Planned plan) held is 
   seen = ([], sym (append-nil (history ++ e ∷ [])));
   mine = own_more worker history e is ∙ ap (λ l. l ++ e ∷ []) own.mine;
   few = let l = length-append p.mine (e ∷ []) in omega arith;
-  room = room_stays words p.blocks 0 value (omega arith) own.room;
+  room = room_stays words p.blocks (number_place (nb_in words)) value (omega arith) own.room;
   owed = last_drawn start history p.mine state left (Planned plan) e runs right leaves;
-  laid = λ l k. layout_stays words 0 value (λ same. omega arith) (omega arith) (let w = own.room.1 in omega arith) ∙ own.laid l k;
-  sequence = λ n c. get_or-set_other words 0 1 value 0 (λ same. omega arith) ∙ own.sequence n c;
+  laid = λ l k. layout_beside words (number_place (nb_in words)) value (inr (omega arith)) (let w = own.room.1 in omega arith) ∙ own.laid l k;
+  sequence = λ n c. get_or-set_other words (number_place (nb_in words)) 1 value 0 (λ same. omega arith) ∙ own.sequence n c;
 }
 own_part start history state left words value worker p e (OneRow c) held is few runs right leaves own = record {
   began = own.began;
   seen = ([], sym (append-nil (history ++ e ∷ [])));
   mine = own_more worker history e is ∙ ap (λ l. l ++ e ∷ []) own.mine;
   few = let l = length-append p.mine (e ∷ []) in omega arith;
-  room = room_stays words p.blocks 0 value (omega arith) own.room;
+  room = room_stays words p.blocks (number_place (nb_in words)) value (omega arith) own.room;
   owed = last_drawn start history p.mine state left (OneRow c) e runs right leaves;
-  laid = λ l k. layout_stays words 0 value (λ same. omega arith) (omega arith) (let w = own.room.1 in omega arith) ∙ own.laid l k;
-  sequence = λ n k. get_or-set_other words 0 1 value 0 (λ same. omega arith) ∙ own.sequence n k;
+  laid = λ l k. layout_beside words (number_place (nb_in words)) value (inr (omega arith)) (let w = own.room.1 in omega arith) ∙ own.laid l k;
+  sequence = λ n k. get_or-set_other words (number_place (nb_in words)) 1 value 0 (λ same. omega arith) ∙ own.sequence n k;
 }
 
 -- what the rows show after a draw, where no plan is to be written
@@ -226,13 +238,13 @@ shown_drawn : (grants : Grants) (history : List Entry) (state left : List Areas)
     → AreBacked grants words state passes → IsExclusive grants → get_elem? grants worker ≡ some held → HoldsFor held e.under
     → get_elem? passes worker ≡ some p → p.pending ≡ AtRest → Leaves state e.under pending left → planned_calls pending ≡ 0
     → RowsStandFor state passes words
-    → RowsStandFor left (set passes worker (after_draw history e pending held p)) (set words 0 value)
+    → RowsStandFor left (set passes worker (after_draw history e pending held p)) (numbered words value)
 shown_drawn grants history state left words passes worker value p e AtRest held backed exclusive has holds at rest leaves none s =
     let q : Pass = after_draw history e AtRest held p in (
       s.0,
       subst (λ (A : List Areas). IsShown A (set passes worker q) s.0) (sym (leaves_same state left e.under leaves))
           (shown_set state passes worker p q s.0 at (sym rest) s.1),
-      low_rows words 0 value s.0 (omega arith) s.2,
+      rows_beside words (number_place (nb_in words)) value s.0 (inr (omega arith)) (let w = s.2.room in omega arith) s.2,
     )
 shown_drawn grants history state left words passes worker value p e (Planned plan) held backed exclusive has holds at rest leaves none s = absurd (omega arith)
 shown_drawn grants history state left words passes worker value p e (OneRow c) held backed exclusive has holds at rest leaves none s =
@@ -241,7 +253,7 @@ shown_drawn grants history state left words passes worker value p e (OneRow c) h
       s.0,
       shown_after_draw grants state left passes worker p q l.0 c words backed exclusive at
           (held_alone grants worker held e.under l.0 l.1 has holds) l.2 s.0 rest refl s.1,
-      low_rows words 0 value s.0 (omega arith) s.2,
+      rows_beside words (number_place (nb_in words)) value s.0 (inr (omega arith)) (let w = s.2.room in omega arith) s.2,
     )
 
 -- a draw of a number
@@ -252,10 +264,12 @@ module _ (grants : Grants) (start : List Areas) (history : List Entry) (state le
     (at : get_elem? passes worker ≡ some p) (num : e.number ≡ length history) (is : e.worker ≡ worker)
     (leaves : Leaves state e.under pending left) (rest : p.pending ≡ AtRest) where
   pub drawn : IsNamedCall e.call → FitsUnder state e.call e.under → Answers state e.call e.reply left → length p.mine + 1 ≤ p.most
-      → IsRunningSpace start (history ++ e ∷ []) left (words_after words (adds 0 1)) (set passes worker (after_draw history e pending held p))
+      → IsRunningSpace start (history ++ e ∷ []) left (words_after words (adds (number_place (nb_in words)) 1))
+      (set passes worker (after_draw history e pending held p))
   drawn call fits answers few =
       let q : Pass = after_draw history e pending held p in
-      let value = (slice_index words 0 + 1) % 2 ^ 64 in
+      let place : ℕ = number_place (nb_in words) in
+      let value = (slice_index words place + 1) % 2 ^ 64 in
       let wide : length (set passes worker q) ≡ length passes = length-set passes worker q in
       let more : length (history ++ e ∷ []) ≡ length history + 1 = length-append history (e ∷ []) in
       let pends : planned_count (set passes worker q) ≡ planned_count passes + planned_calls pending =
@@ -263,7 +277,8 @@ module _ (grants : Grants) (start : List Areas) (history : List Entry) (state le
       let c = ap planned_calls (draw_pending history e held p pending) in omega arith in
       let grown : length q.mine ≡ length p.mine + 1 = ap length (draw_mine history e held p pending) ∙ length-append p.mine (e ∷ []) in
       let wide_words = (r.parts worker p at).room.1 in
-      let there : 0 < length words = omega arith in
+      let there : place < length words = omega arith in
+      let same : nb_in (numbered words value) ≡ nb_in words = nb_stays words place value (omega arith) in
       let rows_more = spare_rows state e.call e.reply left r.in_order answers in
       record {
         callers = let c = r.callers in omega arith;
@@ -274,18 +289,17 @@ module _ (grants : Grants) (start : List Areas) (history : List Entry) (state le
         named = left_named state left e.call e.reply r.named call answers;
         limit = left_few state left e.call e.reply r.limit answers;
         grown = let g = r.grown in omega arith;
-        number = let g : slice_index (set words 0 value) 0 ≡ value = get_or-set_same words 0 value 0 there in let n = r.number in
-            let w = no_wrap start history state words passes r in omega arith;
-        sequence = let g : slice_index (set words 0 value) 1 ≡ slice_index words 1 =
-            get_or-set_other words 0 1 value 0 (λ same. omega arith) in let s = r.sequence in let m = whole_more history e in
+        number = ap (λ (n : ℕ). slice_index (numbered words value) (number_place n)) same
+            ∙ (get_or-set_same words place value 0 there ∙ (let n = r.number in let w = no_wrap start history state words passes r in omega arith));
+        sequence = let g : slice_index (numbered words value) 1 ≡ slice_index words 1 =
+            get_or-set_other words place 1 value 0 (λ e. omega arith) in let s = r.sequence in let m = whole_more history e in
             let c = leaves_counts state left e.under pending leaves in omega arith;
         small = let m = most_set passes worker p q at (draw_most history e held p pending) in let f = r.small in omega arith;
-        room = room_kept words (set words 0 value) (row_count start) passes worker p q at (draw_most history e held p pending)
-            (nb_stays words 0 value (omega arith)) r.room;
+        room = room_kept words (numbered words value) (row_count start) passes worker p q at (draw_most history e held p pending) same r.room;
         rows = λ none. shown_drawn grants history state left words passes worker value p e pending held backed exclusive has holds
             at rest leaves (omega arith) (r.rows (omega arith));
         parts = λ other x there. ⊎_elim
-            (λ t. subst (λ (z : ℕ × Pass). IsPart start (history ++ e ∷ []) (set words 0 value) z.0 z.1) (λ i. (sym t.0 i, t.1 i))
+            (λ t. subst (λ (z : ℕ × Pass). IsPart start (history ++ e ∷ []) (numbered words value) z.0 z.1) (λ i. (sym t.0 i, t.1 i))
             (own_part start history state left words value worker p e pending held is few r.runs
             (record { fits = fits; answers = answers }) leaves (r.parts worker p at)))
             (λ t. others_part start history words value other x e (λ w. t.0 (sym w ∙ is)) (r.parts other x t.1))
@@ -310,65 +324,114 @@ plan_fits start history state left words passes worker p call reply under (Plann
 plan_fits start history state left words passes worker p call reply under (OneRow c) r at few answers leaves = tt
 
 -- the rule's part on grants, after a draw
-module _ (grants : Grants) (state left : List Areas) (words : List ℕ) (value : ℕ) (wide : 19 < length words) where
+module _ (grants : Grants) (start : List Areas) (history : List Entry) (state left : List Areas) (words : List ℕ) (passes : List Pass) (value : ℕ)
+    (r : IsRunningSpace start history state words passes) (all : AreBacked grants words state passes) (exclusive : IsExclusive grants) where
+  -- nobody else has an unwritten call under everything where a caller holds pages
+  unplanned : (worker other : ℕ) (pending : Pending) → (worker ≡ other → ⊥) → HoldsPages grants other → Backs grants state worker pending
+      → planned_calls pending ≡ 0
+  unplanned worker other AtRest differ h b = refl
+  unplanned worker other (Planned plan) differ h b = absurd (clash grants worker other exclusive (λ e. differ (sym e)) b.0 h)
+  unplanned worker other (OneRow c) differ h b = refl
+
+  -- so where it has none itself the rows show the state, and their slots are in reach
+  settled : (other : ℕ) (x : Pass) → get_elem? passes other ≡ some x → HoldsPages grants other → planned_calls x.pending ≡ 0
+      → HasSameWords words (numbered words value)
+  settled other x there h none =
+      let show : RowsStandFor state passes words = r.rows (none_planned passes (λ worker p at. dite (ℕ_discrete worker other)
+      (λ same. ap own_planned (some-injective p x (sym at ∙ (ap (get_elem? passes) same ∙ there))) ∙ none)
+      (λ differ. unplanned worker other p.pending differ h (all worker p at).pending))) in
+      let wide = show.2.room in
+      let place : ℕ = number_place (nb_in words) in
+      let stays : (slot : ℕ) → slot < 128 * nb_in words → slice_index (numbered words value) (3 + slot) ≡ slice_index words (3 + slot) =
+      λ slot few. get_or-set_other words place (3 + slot) value 0 (λ e. omega arith) in
+      record {
+        blocks = nb_stays words place value (omega arith);
+        layout = layout_beside words place value (inr (omega arith)) (omega arith);
+        rows = stays;
+        used = λ slot is. stays slot (slot_in words show.0 show.2 slot is);
+      }
+
+  -- what a caller that holds pages has read stands still
+  stands_by : (other : ℕ) (x : Pass) (held : Option Held) (pending : Pending) → get_elem? passes other ≡ some x → HoldsPages grants other
+      → get_elem? grants other ≡ some held → x.pending ≡ pending → All (StillStands held (numbered words value)) x.rows
+  stands_by other x held AtRest there h has is =
+      all_stand held words (numbered words value) (settled other x there h (ap planned_calls is)) x.rows ((all other x there).rows held has)
+  stands_by other x held (Planned plan) there h has is =
+      let own = (subst (Backs grants state other) is (all other x there).pending).0 in
+      let wide = (r.parts other x there).room.1 in
+      let place : ℕ = number_place (nb_in words) in
+      All-weaker (StillStands held words) (StillStands held (numbered words value))
+      (λ q s.
+      let few = s.slot in
+      exact_stands held (numbered words value) q (subst (λ (n : ℕ). q.index < 128 * n) (sym (nb_stays words place value (omega arith))) s.slot)
+      (get_or-set_other words place (3 + q.index) value 0 (λ e. omega arith) ∙ s.word (held_is grants other everything held own has)))
+      x.rows ((all other x there).rows held has)
+  stands_by other x held (OneRow c) there h has is =
+      all_stand held words (numbered words value) (settled other x there h (ap planned_calls is)) x.rows ((all other x there).rows held has)
+
+  -- and so does what any caller has read
+  reads_stand : (other : ℕ) (x : Pass) (held : Option Held) → get_elem? passes other ≡ some x → get_elem? grants other ≡ some held
+      → All (StillStands held (numbered words value)) x.rows
+  reads_stand other x held there has = ⊎_elim
+      (λ n. subst (All (StillStands held (numbered words value))) (sym n.1) (All-nil (StillStands held (numbered words value))))
+      (λ h. stands_by other x held x.pending there h has refl)
+      (all other x there).reads
+
   -- a caller that makes no step
-  other_backed : (worker : ℕ) (x : Pass) → Backs grants left worker x.pending → IsBacked grants words state worker x
-      → IsBacked grants (set words 0 value) left worker x
-  other_backed worker x backs b = record {
-    reads = b.reads;
-    rows = λ held has. all_stand held words (set words 0 value) (same_low words 0 value (omega arith) wide) x.rows (b.rows held has);
+  other_backed : (other : ℕ) (x : Pass) → get_elem? passes other ≡ some x → Backs grants left other x.pending
+      → IsBacked grants (numbered words value) left other x
+  other_backed other x there backs = record {
+    reads = (all other x there).reads;
+    rows = λ held has. reads_stand other x held there has;
     pending = backs;
   }
 
   -- nobody else has a plan where one caller holds everything
-  others_rest : (worker other : ℕ) (pending : Pending) → IsExclusive grants → other ≢ worker → Holds grants worker everything
+  others_rest : (worker other : ℕ) (pending : Pending) → other ≢ worker → Holds grants worker everything
       → Backs grants state other pending → Backs grants left other pending
-  others_rest worker other AtRest exclusive differ held b = tt
-  others_rest worker other (Planned plan) exclusive differ held b = absurd (clash grants worker other exclusive differ held (everything, b.0, everything_pages))
-  others_rest worker other (OneRow c) exclusive differ held b = absurd (clash grants worker other exclusive differ held (alone c.span, b.0, span_pages c.span))
+  others_rest worker other AtRest differ held b = tt
+  others_rest worker other (Planned plan) differ held b = absurd (clash grants worker other exclusive differ held (everything, b.0, everything_pages))
+  others_rest worker other (OneRow c) differ held b = absurd (clash grants worker other exclusive differ held (alone c.span, b.0, span_pages c.span))
 
   held_whole : (worker : ℕ) (h : Option Held) (under : Under) → under ≡ Whole → get_elem? grants worker ≡ some h
       → HoldsFor h under → Holds grants worker everything
   held_whole worker h under whole at holds = let is : HoldsFor h Whole = subst (HoldsFor h) whole holds in at ∙ ap some is
 
-  pub drawn_backed : (history : List Entry) (passes : List Pass) (worker : ℕ) (p : Pass) (e : Entry) (under : Under)
-      (pending : Pending) (h : Option Held)
-      → AreBacked grants words state passes → IsExclusive grants → get_elem? passes worker ≡ some p
-      → get_elem? grants worker ≡ some h → HoldsFor h under → Leaves state under pending left
-      → AreBacked grants (set words 0 value) left (set passes worker (after_draw history e pending h p))
-  drawn_backed history passes worker p e under AtRest h all exclusive at has holds leaves other x there =
+  pub drawn_backed : (worker : ℕ) (p : Pass) (e : Entry) (under : Under) (pending : Pending) (h : Option Held)
+      → get_elem? passes worker ≡ some p → get_elem? grants worker ≡ some h → HoldsFor h under → Leaves state under pending left
+      → AreBacked grants (numbered words value) left (set passes worker (after_draw history e pending h p))
+  drawn_backed worker p e under AtRest h at has holds leaves other x there =
       ⊎_elim
-      (λ t. subst (λ (z : ℕ × Pass). IsBacked grants (set words 0 value) left z.0 z.1) (λ i. (sym t.0 i, t.1 i))
+      (λ t. subst (λ (z : ℕ × Pass). IsBacked grants (numbered words value) left z.0 z.1) (λ i. (sym t.0 i, t.1 i))
       (record {
         reads = inl (refl, refl, refl);
-        rows = λ held own. All-nil (StillStands held (set words 0 value));
+        rows = λ held own. All-nil (StillStands held (numbered words value));
         pending = tt;
       }))
-      (λ t. other_backed other x (subst (λ (A : List Areas). Backs grants A other x.pending)
-      (sym (leaves_same state left under leaves)) (all other x t.1).pending) (all other x t.1))
+      (λ t. other_backed other x t.1 (subst (λ (A : List Areas). Backs grants A other x.pending)
+      (sym (leaves_same state left under leaves)) (all other x t.1).pending))
       (at_set passes worker other (after_draw history e AtRest h p) x there)
-  drawn_backed history passes worker p e under (Planned plan) h all exclusive at has holds leaves other x there =
+  drawn_backed worker p e under (Planned plan) h at has holds leaves other x there =
       let shown = leaves_plan state left under plan leaves in
       let own = held_whole worker h under shown.0 has holds in
       ⊎_elim
-      (λ t. subst (λ (z : ℕ × Pass). IsBacked grants (set words 0 value) left z.0 z.1) (λ i. (sym t.0 i, t.1 i)) (record {
+      (λ t. subst (λ (z : ℕ × Pass). IsBacked grants (numbered words value) left z.0 z.1) (λ i. (sym t.0 i, t.1 i)) (record {
         reads = inr (everything, own, everything_pages);
-        rows = λ held mine. all_stand held words (set words 0 value) (same_low words 0 value (omega arith) wide) p.rows ((all worker p at).rows held mine);
+        rows = λ held mine. reads_stand worker p held at mine;
         pending = (own, shown.1);
       }))
-      (λ t. other_backed other x (others_rest worker other x.pending exclusive t.0 own (all other x t.1).pending) (all other x t.1))
+      (λ t. other_backed other x t.1 (others_rest worker other x.pending t.0 own (all other x t.1).pending))
       (at_set passes worker other (after_draw history e (Planned plan) h p) x there)
-  drawn_backed history passes worker p e under (OneRow c) h all exclusive at has holds leaves other x there =
+  drawn_backed worker p e under (OneRow c) h at has holds leaves other x there =
       let l = leaves_change state left under c leaves in
       let own = held_alone grants worker h under l.0 l.1 has holds in
       let mine : Holds grants worker (alone c.span) = subst (λ (s : Span). Holds grants worker (alone s)) (sym l.2.held) own in
       ⊎_elim
-      (λ t. subst (λ (z : ℕ × Pass). IsBacked grants (set words 0 value) left z.0 z.1) (λ i. (sym t.0 i, t.1 i)) (record {
+      (λ t. subst (λ (z : ℕ × Pass). IsBacked grants (numbered words value) left z.0 z.1) (λ i. (sym t.0 i, t.1 i)) (record {
         reads = inr (alone c.span, mine, span_pages c.span);
-        rows = λ held own_held. all_stand held words (set words 0 value) (same_low words 0 value (omega arith) wide) p.rows
-            ((all worker p at).rows held own_held);
+        rows = λ held own_held. reads_stand worker p held at own_held;
         pending = (mine, l.2.inside, l.2.after);
       }))
-      (λ t. other_backed other x (others_back grants state left passes worker p p l.0 c words all exclusive at own l.2 other
-      x.pending t.0 (all other x t.1).pending) (all other x t.1))
+      (λ t. other_backed other x t.1 (others_back grants state left passes worker p p l.0 c words all exclusive at own l.2 other
+      x.pending t.0 (all other x t.1).pending))
       (at_set passes worker other (after_draw history e (OneRow c) h p) x there)

@@ -32,7 +32,7 @@ use Rattle.area_guard.specs.declared.guard.Pending.{Pending}
 use Rattle.area_guard.specs.declared.guard.Splice.{Splice}
 use Rattle.area_guard.specs.declared.guard.Pending.TheVariants.{AtRest, Planned, OneRow}
 use Rattle.row_plans.specs.RowLists.{areas_from}
-use Rattle.area_guard.specs.Rows.{nb_in, rows_in, room_of, layout_in, slots_to, IsLayoutPlace, IsOneOf, IsSlot, RowsShow}
+use Rattle.area_guard.specs.Rows.{nb_in, number_place, rows_in, room_of, layout_in, slots_to, IsLayoutPlace, IsOneOf, IsSlot, RowsShow}
 use Rattle.row_plans.specs.Plans.{PlanShows}
 use Rattle.area_guard.specs.Reads.{everything, StillStands, noted_at}
 use Rattle.std.specs.List.{splice}
@@ -147,7 +147,7 @@ IsOwed start history mine (OneRow change) = IsOfLastEntry start history mine (On
 
 -- so many blocks are those that the words tell, and there is room for them before the last seventeen words
 abbrev pub HasBlocks : List ℕ → ℕ → Type 0
-HasBlocks words nb = (nb ≡ nb_in words) × (21 + 129 * nb_in words ≤ length words)
+HasBlocks words nb = (nb ≡ nb_in words) × (36 + 129 * nb_in words ≤ length words)
 
 -- one caller's part: it began with the same areas, has seen a beginning of the history, stores just its own entries,
 -- no more of them than it may have, knows how many blocks there is room for, what it has to write is what the last of
@@ -212,7 +212,7 @@ pub record IsRunningSpace (start : List Areas) (history : List Entry) (state : L
   pub limit : row_count state ≤ ROWS
   -- each entry has made SPARE rows more at most
   pub grown : row_count state ≤ row_count start + SPARE * length history
-  pub number : slice_index words 0 ≡ length history
+  pub number : slice_index words (number_place (nb_in words)) ≡ length history
   pub sequence : slice_index words 1 + planned_count passes ≡ whole_count history
   pub small : most_count passes < 2 ^ 40
   pub room : HasRoom (nb_in words) (row_count start) (most_count passes)
@@ -273,6 +273,7 @@ newcomer words number = record {
   pending = AtRest;
   drew = None;
   looks = [];
+  since = 0;
 }
 
 -- a pass when its range is given back: what was read under it may change from now on
@@ -325,16 +326,24 @@ pub record Here (grants : Grants) (words : List ℕ) (passes : List Pass) (worke
 -- the pass after a load of the number word, by which the caller sees the history so far. It keeps how many entries
 -- there were, and what was held
 abbrev pub after_look : List Entry → Option Held → Pass → Pass
-after_look history held p = record p { seen = history; looks = record { found = length history; held = held } ∷ p.looks }
+after_look history held p = record p { seen = history; looks = record { found = length history; held = held } ∷ p.looks; since = p.since + 1 }
+
+-- the pass after a step that leaves what the caller knows: it is counted
+abbrev pub after_step : Pass → Pass
+after_step p = record p { since = p.since + 1 }
 
 -- the pass after a load of the sequence word
 abbrev pub after_sequence : ℕ → Pass → Pass
-after_sequence n p = record p { sequence = Some n }
+after_sequence n p = record p { sequence = Some n; since = p.since + 1 }
 
 -- the pass after a load of a word of the layout, with which the caller notes all of it, and the words of all slots,
 -- also of those in which no row stands
 abbrev pub after_seen : List ℕ → Pass → Pass
-after_seen words p = record p { laid = Some (layout_in words); rows = noted_at words (slots_to (nb_in words)) ++ p.rows }
+after_seen words p = record p {
+  laid = Some (layout_in words);
+  rows = noted_at words (slots_to (nb_in words)) ++ p.rows;
+  since = p.since + 1;
+}
 
 -- a layout that was read, with one of its words changed
 abbrev pub laid_with : ℕ → ℕ → Option (List ℕ) → Option (List ℕ)
@@ -343,11 +352,11 @@ laid_with index word (Some layout) = Some (slice_set layout index word)
 
 -- the pass after a store of a word of the layout
 abbrev pub after_layout : ℕ → ℕ → Pass → Pass
-after_layout index word p = record p { laid = laid_with index word p.laid }
+after_layout index word p = record p { laid = laid_with index word p.laid; since = p.since + 1 }
 
 -- the pass after a load of a row
 abbrev pub after_row : ℕ → ℕ → Pass → Pass
-after_row index word p = record p { rows = record { index = index; word = word } ∷ p.rows }
+after_row index word p = record p { rows = record { index = index; word = word } ∷ p.rows; since = p.since + 1 }
 
 -- the rows that were read, but one
 abbrev pub without : ℕ → List ReadRow → List ReadRow
@@ -355,7 +364,7 @@ without index rows = filter (λ r. not (r.index == index)) rows
 
 -- the pass after a store of a row
 abbrev pub after_store : ℕ → ℕ → Pass → Pass
-after_store index word p = record p { rows = record { index = index; word = word } ∷ without index p.rows }
+after_store index word p = record p { rows = record { index = index; word = word } ∷ without index p.rows; since = p.since + 1 }
 
 -- the pass after an entry was numbered. A caller that has rows to write keeps what it has read of them, which only
 -- itself may change until then
@@ -372,6 +381,7 @@ after_draw history e AtRest held p = record {
   pending = AtRest;
   drew = held;
   looks = p.looks;
+  since = 0;
 }
 after_draw history e (Planned plan) held p = record {
   start = p.start;
@@ -385,6 +395,7 @@ after_draw history e (Planned plan) held p = record {
   pending = Planned plan;
   drew = held;
   looks = p.looks;
+  since = 0;
 }
 after_draw history e (OneRow change) held p = record {
   start = p.start;
@@ -398,15 +409,16 @@ after_draw history e (OneRow change) held p = record {
   pending = OneRow change;
   drew = held;
   looks = p.looks;
+  since = 0;
 }
 
 -- the pass after the sequence word was raised: all is written
 abbrev pub after_raise : Pass → Pass
-after_raise p = record p { sequence = None; pending = AtRest }
+after_raise p = record p { sequence = None; pending = AtRest; since = p.since + 1 }
 
 -- the pass after the one row of a call over its area was stored: all is written, and what was read is read anew
 abbrev pub after_change : Pass → Pass
-after_change p = record p { laid = None; rows = []; sequence = None; pending = AtRest }
+after_change p = record p { laid = None; rows = []; sequence = None; pending = AtRest; since = p.since + 1 }
 
 -- the loads that a caller may make: the number word and the sequence word at any time. What it has read of the sequence
 -- word, of the layout and of a row it remembers, and it reads the last two only while it holds pages. With a word of
@@ -414,8 +426,8 @@ after_change p = record p { laid = None; rows = []; sequence = None; pending = A
 -- range stand still as far as it can tell, and all of them where it holds everything. Of a load of the number word it
 -- remembers what it found and held
 pub data MayLoad (own : Option Held → Type 0) (free held : Type 0) (words : List ℕ) (history : List Entry) (place : ℕ) (p after : Pass) : Type 0 where
-  number : (h : Option Held) → own h → place ≡ 0 → after ≡ after_look history h p → MayLoad own free held words history place p after
-  glance : free → place ≡ 1 → after ≡ p → MayLoad own free held words history place p after
+  number : (h : Option Held) → own h → place ≡ number_place p.blocks → after ≡ after_look history h p → MayLoad own free held words history place p after
+  glance : free → place ≡ 1 → after ≡ after_step p → MayLoad own free held words history place p after
   sequence : held → place ≡ 1 → after ≡ after_sequence (slice_index words 1) p → MayLoad own free held words history place p after
   layout : held → IsLayoutPlace p.blocks place → after ≡ after_seen words p → MayLoad own free held words history place p after
   row : (index : ℕ) → held → index < 128 * p.blocks → place ≡ 3 + index → after ≡ after_row index (slice_index words (3 + index)) p
@@ -474,7 +486,7 @@ MayWrite words (OneRow change) place value p after = (place ≡ 3 + change.index
 -- everything has left
 pub data MayAdd (grants : Grants) (words : List ℕ) (passes : List Pass) (worker : ℕ) (note : Note)
     (here : Here grants words passes worker) (place : ℕ) (after : Pass) : Type 0 where
-  draw : place ≡ 0 → (may : MayDraw grants words passes worker note here)
+  draw : place ≡ number_place here.pass.blocks → (may : MayDraw grants words passes worker note here)
       → after ≡ after_draw here.history (entry_of (length here.history) worker note) note.pending may.held.0 here.pass
       → MayAdd grants words passes worker note here place after
   raise : (plan : Splice) → place ≡ 1 → here.pass.pending ≡ Planned plan → RowsShow words (kind_at here.state)

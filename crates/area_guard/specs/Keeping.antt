@@ -2,7 +2,7 @@
 -- are the proofs that `Guard` of `lock_core` asks for. They stand here, and not among the proofs, since the guard cites
 -- them; a reader who trusts the check may pass them over.
 use Rattle.std.specs.Prelude.{All, Option, Some, None, slice_index}
-use Rattle.std.proofs.Common.{◌≡◌, ℕ, ◌+◌, ◌*◌, ◌%◌, ◌^◌, ◌<◌, arith, inl, inr, List, [], ◌∷◌, ◌++◌, length, set, sym, refl, ◌∙◌, subst, ⊎_elim}
+use Rattle.std.proofs.Common.{◌≡◌, ℕ, ◌+◌, ◌*◌, ◌%◌, ◌^◌, ◌<◌, inl, inr, List, [], ◌∷◌, ◌++◌, length, set, sym, refl, ap, ◌∙◌, subst, ⊎_elim}
 use Rattle.std.proofs.lemmas.List.Elements.{All-nil, All-cons, All-append}
 use mathlib.Core.Option.{some, some-injective}
 use mathlib.Core.Logic.{dite}
@@ -22,17 +22,17 @@ use Rattle.area_guard.specs.declared.guard.Note.{Note}
 use Rattle.area_guard.specs.declared.guard.ReadRow.{ReadRow}
 use Rattle.area_guard.specs.declared.guard.Pass.{Pass}
 use Rattle.area_guard.specs.declared.guard.Pending.{Pending}
-use Rattle.area_guard.specs.Rows.{nb_in, slots_to}
+use Rattle.area_guard.specs.Rows.{nb_in, number_place, slots_to}
 use Rattle.area_guard.specs.declared.guard.Pending.TheVariants.{AtRest, Planned, OneRow}
 use Rattle.area_guard.specs.Reads.{everything, noted_at, StillStands}
 use Rattle.area_guard.specs.Changes.{alone}
 use Rattle.area_guard.specs.History.{IsRunningSpace, HoldsPages, HoldsJust, HoldsNothing, Backs, IsBacked, AreBacked, HasHistory}
-use Rattle.area_guard.specs.History.{rest_of, IsAtRest, entry_of, after_look, after_seen, after_sequence, after_row}
+use Rattle.area_guard.specs.History.{rest_of, IsAtRest, entry_of, after_look, after_step, after_seen, after_sequence, after_row}
 use Rattle.area_guard.specs.History.{Here, MayLoad, MayWrite, MayAdd, Allowed}
 use Rattle.area_guard.specs.History.MayLoad.{number, glance, sequence, layout, row}
 use Rattle.area_guard.specs.History.MayAdd.{draw, raise}
 use Rattle.area_guard.specs.Stands.{exact_stands, noted_stand}
-use Rattle.area_guard.specs.Parts.{none_is, looked, counted, raised, read, rested, replaced}
+use Rattle.area_guard.specs.Parts.{none_is, looked, stepped, counted, raised, read, rested, replaced}
 use Rattle.area_guard.specs.Writes.{stores_keep, raise_keeps, raise_backed}
 use Rattle.area_guard.specs.RowStores.{change_keeps, change_backed}
 use Rattle.area_guard.specs.Draws.{drawn, drawn_backed}
@@ -55,7 +55,7 @@ module _ (grants : Grants) (words : List ℕ) (history : List Entry) (state : Li
   load_backed : MayLoad (HoldsJust grants worker) (HoldsNothing grants worker) (HoldsPages grants worker) words history place p after
       → IsBacked grants words state worker after
   load_backed (number h o e is) = subst (IsBacked grants words state worker) (sym is) (record { reads = b.reads; rows = b.rows; pending = b.pending })
-  load_backed (glance free e is) = subst (IsBacked grants words state worker) (sym is) b
+  load_backed (glance free e is) = subst (IsBacked grants words state worker) (sym is) (record { reads = b.reads; rows = b.rows; pending = b.pending })
   load_backed (sequence h e is) = subst (IsBacked grants words state worker) (sym is) (record { reads = inr h; rows = b.rows; pending = b.pending })
   load_backed (layout h e is) = subst (IsBacked grants words state worker) (sym is) (record {
     reads = inr h;
@@ -81,7 +81,8 @@ module _ (mine : Option Held → Type 0) (free held : Type 0) (start : List Area
       (looked start history state words worker p (r.parts worker p at) h) refl refl refl)
   loads_keep (glance f e is) =
       subst (λ (q : Pass). IsRunningSpace start history state words (set passes worker q)) (sym is)
-      (replaced start history state words worker p (r.parts worker p at) passes p r at (r.parts worker p at) refl refl refl)
+      (replaced start history state words worker p (r.parts worker p at) passes (after_step p) r at
+      (stepped start history state words worker p (r.parts worker p at)) refl refl refl)
   loads_keep (sequence h e is) =
       subst (λ (q : Pass). IsRunningSpace start history state words (set passes worker q)) (sym is)
       (replaced start history state words worker p (r.parts worker p at) passes (after_sequence (slice_index words 1) p) r at
@@ -99,18 +100,19 @@ module _ (mine : Option Held → Type 0) (free held : Type 0) (start : List Area
 adds_keep : (grants : Grants) (words : List ℕ) (passes : List Pass) (worker : ℕ) (note : Note)
     (here : Here grants words passes worker) (place : ℕ) (after : Pass) → MayAdd grants words passes worker note here place after
     → HasHistory grants (words_after words (adds place 1)) (set passes worker after)
-adds_keep grants words passes worker note here place after (draw zero_is d is) =
+adds_keep grants words passes worker note here place after (draw place_is d is) =
     let e = entry_of (length here.history) worker note in
-    subst (λ (z : ℕ × Pass). HasHistory grants (words_after words (adds z.0 1)) (set passes worker z.1)) (λ i. (sym zero_is i, sym is i)) (
+    let at : place ≡ number_place (nb_in words) = place_is ∙ ap number_place (here.running.parts worker here.pass here.own).room.0 in
+    subst (λ (z : ℕ × Pass). HasHistory grants (words_after words (adds z.0 1)) (set passes worker z.1)) (λ i. (sym at i, sym is i)) (
       here.start,
       here.history ++ e ∷ [],
       d.left,
       drawn grants here.start here.history here.state d.left words passes worker here.pass e note.pending d.held.0 here.running
           here.backed here.exclusive d.held.1 d.held.2 here.own refl refl d.leaves d.rest d.named d.right.fits d.right.answers
           d.few,
-      drawn_backed grants here.state d.left words ((slice_index words 0 + 1) % 2 ^ 64)
-          (let wide = (here.running.parts worker here.pass here.own).room.1 in omega arith) here.history passes worker here.pass e
-          note.under note.pending d.held.0 here.backed here.exclusive here.own d.held.1 d.held.2 d.leaves,
+      drawn_backed grants here.start here.history here.state d.left words passes ((slice_index words (number_place (nb_in words)) + 1) % 2 ^ 64)
+          here.running here.backed here.exclusive worker here.pass e note.under note.pending d.held.0 here.own d.held.1 d.held.2
+          d.leaves,
     )
 adds_keep grants words passes worker note here place after (raise plan one_is pends written is) =
     subst (λ (z : ℕ × Pass). HasHistory grants (words_after words (adds z.0 1)) (set passes worker z.1)) (λ i. (sym one_is i, sym is i)) (

@@ -2,7 +2,9 @@ pub mod Rows
 pub mod Reads
 pub mod Changes
 pub mod History
+pub mod Alike
 pub mod Stands
+pub mod Slots
 pub mod Parts
 pub mod Replies
 pub mod Writes

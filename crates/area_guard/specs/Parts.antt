@@ -26,7 +26,7 @@ use Rattle.area_guard.specs.Rows.{nb_in, room_of, layout_in}
 use Rattle.area_guard.specs.declared.guard.Pending.TheVariants.{AtRest, Planned}
 use Rattle.area_guard.specs.History.{entries_of, with_whole, whole_count, own_count, entry_count, own_most, most_count, HasRoom, HasBlocks, IsPart, planned_calls}
 use Rattle.area_guard.specs.History.{own_planned, planned_count, RowsStandFor, IsRunningSpace, HasReadNothing, rest_of}
-use Rattle.area_guard.specs.History.{StillLaid, laid_with, after_look, after_seen, after_layout, after_sequence, after_row, after_store, after_raise}
+use Rattle.area_guard.specs.History.{StillLaid, laid_with, after_look, after_step, after_seen, after_layout, after_sequence, after_row, after_store, after_raise}
 use Rattle.area_guard.specs.History.{after_change}
 use Rattle.area_guard.specs.Stands.{room_stays, layout_stays, layout_counted, layout_told, shown_set}
 
@@ -131,6 +131,13 @@ pub whole_few : (history : List Entry) → whole_count history ≤ length histor
 whole_few [] = omega arith
 whole_few (x ∷ xs) = let r = whole_few xs in let w = with_one x.under (whole_count xs) in omega arith
 
+-- where no caller has an unwritten call under everything, there is none
+pub none_planned : (passes : List Pass) → ((worker : ℕ) (p : Pass) → get_elem? passes worker ≡ some p → planned_calls p.pending ≡ 0)
+    → planned_count passes ≡ 0
+none_planned [] all = refl
+none_planned (x ∷ xs) all =
+    let h = all 0 x refl in let r = none_planned xs (λ i p at. all (suc i) p at) in let s = sum_by-cons own_planned x xs in omega arith
+
 -- how many calls are unwritten, after one caller's pass has changed
 pub planned_set : (passes : List Pass) (worker : ℕ) (p q : Pass) → get_elem? passes worker ≡ some p
     → planned_count (set passes worker q) + planned_calls p.pending ≡ planned_count passes + planned_calls q.pending
@@ -195,6 +202,18 @@ module _ (start : List Areas) (history : List Entry) (state : List Areas) (words
   looked held = record {
     began = own.began;
     seen = ([], sym (append-nil history));
+    mine = own.mine;
+    few = own.few;
+    room = own.room;
+    owed = own.owed;
+    laid = own.laid;
+    sequence = own.sequence;
+  }
+
+  pub stepped : IsPart start history words worker (after_step p)
+  stepped = record {
+    began = own.began;
+    seen = own.seen;
     mine = own.mine;
     few = own.few;
     room = own.room;

@@ -29,7 +29,7 @@ use Rattle.area_guard.specs.Reads.{IsHeldPage, StillStands}
 use Rattle.area_guard.specs.Changes.{IsIn, alone, new_word, IsInside, with_change, IsChange, MayReplace}
 use Rattle.area_guard.specs.History.{IsPart, planned_calls, planned_count, LagsAt, ShowsBefore, IsShown, RowsStandFor}
 use Rattle.area_guard.specs.History.{IsRunningSpace, Backs, IsBacked, AreBacked, HasReadNothing, after_change}
-use Rattle.area_guard.specs.Stands.{nb_stays, room_stays}
+use Rattle.area_guard.specs.Stands.{nb_stays, room_stays, number_stays}
 use Rattle.area_guard.specs.Parts.{some_is, count_set, most_set, room_kept, planned_set, beside_part, changed}
 use Rattle.area_guard.specs.Writes.{span_pages, clash}
 use Rattle.area_guard.specs.Beside.{apart_pages, all_stand_on}
@@ -186,7 +186,7 @@ module _ (grants : Grants) (start : List Areas) (history : List Entry) (state : 
         named = r.named;
         limit = r.limit;
         grown = r.grown;
-        number = get_or-set_other words (3 + c.index) 0 value 0 (λ e. omega arith) ∙ r.number;
+        number = number_stays words (3 + c.index) value (omega arith) (λ e. omega arith) ∙ r.number;
         sequence = ap (λ n. n + planned_count (set passes worker q))
             (get_or-set_other words (3 + c.index) 1 value 0 (λ e. omega arith))
             ∙ (ap (λ n. slice_index words 1 + n) pending ∙ r.sequence);

@@ -20,6 +20,11 @@ nb_in words = slice_index words (length words - 17)
 abbrev pub rows_in : List ℕ → List ℕ
 rows_in words = rows_by (nb_in words) (drop 3 words)
 
+-- the place of the number word over so many blocks: behind the layout, with seven unused words before it and seven
+-- behind it. So no other word that a step reads is in its line of memory, which has eight words
+abbrev pub number_place : ℕ → ℕ
+number_place nb = 11 + 129 * nb
+
 -- how many blocks a table has room for: 8 to 2048, in steps of 8. The opening chooses the number of words so that it
 -- tells this, with any number of lists
 unfoldable pub blocks_by : TableId → ℕ
@@ -64,7 +69,7 @@ slots_to nb = run 0 (128 * nb)
 -- the row words show these kinds of the pages below LIMIT. They stand in blocks, as many as the row count; there is
 -- room for these before the last seventeen words; one block is free, and block 0 has at most 64 rows
 pub record RowsShow (words : List ℕ) (kinds : ℕ → Option Kind) : Type 0 where
-  pub room : 21 + 129 * nb_in words ≤ length words
+  pub room : 36 + 129 * nb_in words ≤ length words
   pub some : 0 < slice_index words 2
   pub few : slice_index words 2 ≤ ROWS
   pub show : ShowFrom 0 (rows_in words) kinds

@@ -3,9 +3,9 @@
 -- trusts the check may pass them over.
 use Rattle.std.specs.Prelude.{All, Option, Some, slice_index}
 use Rattle.std.proofs.Common.{◌≡◌, ◌≢◌, ℕ, zero, suc, ◌+◌, ◌-◌, ◌*◌, ◌<◌, ◌≤◌, Bool, true, false, not, cond, eqb, List, [], ◌∷◌}
-use Rattle.std.proofs.Common.{length, take, drop, set, sym, refl, ap, ◌∙◌, subst, arith, length-set, ◌⊎◌, ⊎_elim}
+use Rattle.std.proofs.Common.{length, take, drop, set, sym, refl, ap, ◌∙◌, subst, arith, length-set, ◌⊎◌, ⊎_elim, inl, inr}
 use Rattle.std.proofs.lemmas.Bool.{eqb-false}
-use Rattle.std.proofs.lemmas.List.{get_or-set_same, get_or-set_other, drop-set-lt, drop-set-add}
+use Rattle.std.proofs.lemmas.List.{get_or-set_same, get_or-set_other, get_or-drop, length-drop, drop-set-lt, drop-set-add, take-set-le}
 use Rattle.std.proofs.Math.Seq.{take-set-lt}
 use Rattle.std.proofs.lemmas.List.Elements.{All-nil, All-cons, All-head, All-tail, All-weaker}
 use mathlib.Core.Option.{some, some-injective}
@@ -23,7 +23,8 @@ use Rattle.area_guard.specs.declared.guard.Pending.{Pending}
 use Rattle.row_plans.specs.RowWords.{row_start, row_kind}
 use Rattle.row_plans.specs.RowLists.{ShowFrom, IsBareGap}
 use Rattle.row_blocks.specs.Blocks.{run, blocks_of, rows_of, IsLaidOut, rows_in as rows_by}
-use Rattle.area_guard.specs.Rows.{nb_in, layout_in, slots_of, slots_in, slots_to, AreNeighbours, IsOneOf, IsRowOf, RowsShow}
+use Rattle.area_guard.specs.Rows.{nb_in, number_place, layout_in, rows_in, slots_of, slots_in, slots_to, AreNeighbours, IsOneOf, IsSlot, IsRowOf, RowsShow}
+use Rattle.area_guard.specs.Alike.{also_laid, also_rows, also_free, also_short}
 use Rattle.area_guard.specs.Reads.{everything, noted_at, StillStands}
 use Rattle.area_guard.specs.History.{HasBlocks, LagsAt, ShowsBefore, IsShown, without}
 
@@ -33,8 +34,8 @@ nb_stays words place value low =
     ap (λ (n : ℕ). slice_index (set words place value) (n - 17)) (length-set words place value)
     ∙ get_or-set_other words place (length words - 17) value 0 (λ e. omega arith)
 
--- so does one among the words of the blocks, and before them
-pub room_stays : (words : List ℕ) (nb place value : ℕ) → place < 4 + 129 * nb_in words → HasBlocks words nb → HasBlocks (set words place value) nb
+-- so does one among the words of the blocks, before them, and of the number word
+pub room_stays : (words : List ℕ) (nb place value : ℕ) → place < 12 + 129 * nb_in words → HasBlocks words nb → HasBlocks (set words place value) nb
 room_stays words nb place value low has =
     let wide = has.1 in
     let long = length-set words place value in
@@ -52,6 +53,33 @@ layout_stays words place value differ below low =
     ∙ (ap (λ (n : ℕ). slice_index words 2 ∷ take (n + 1) (drop (3 + 128 * n) two)) (nb_stays words place value low)
     ∙ ap (λ (l : List ℕ). slice_index words 2 ∷ take (nb_in words + 1) l) told)
 
+-- a place of no word of the blocks, and not that of the row count
+abbrev pub IsBeside : ℕ → ℕ → Type 0
+IsBeside nb place = (place < 2) ⊎ (4 + 129 * nb ≤ place)
+
+-- so does a store there
+pub layout_beside : (words : List ℕ) (place value : ℕ) → IsBeside (nb_in words) place → place + 17 < length words
+    → layout_in (set words place value) ≡ layout_in words
+layout_beside words place value (inl before) low = layout_stays words place value (λ e. omega arith) (omega arith) low
+layout_beside words place value (inr behind) low =
+    let at : ℕ = 3 + 128 * nb_in words in
+    let index : ℕ = place - at in
+    let is : place ≡ at + index = omega arith in
+    let two : List ℕ = set words place value in
+    let count : slice_index two 2 ≡ slice_index words 2 = get_or-set_other words place 2 value 0 (λ e. omega arith) in
+    ap (λ (n : ℕ). n ∷ take (nb_in two + 1) (drop (3 + 128 * nb_in two) two)) count
+    ∙ (ap (λ (n : ℕ). slice_index words 2 ∷ take (n + 1) (drop (3 + 128 * n) two)) (nb_stays words place value low)
+    ∙ ap (λ (l : List ℕ). slice_index words 2 ∷ l)
+    (ap (λ (n : ℕ). take (nb_in words + 1) (drop at (set words n value))) is ∙ (ap (take (nb_in words + 1)) (drop-set-add at words index value)
+    ∙ take-set-le (nb_in words + 1) (drop at words) index value (omega arith))))
+
+-- a store at another place leaves the number word
+pub number_stays : (words : List ℕ) (place value : ℕ) → place + 17 < length words → place ≢ number_place (nb_in words)
+    → slice_index (set words place value) (number_place (nb_in (set words place value))) ≡ slice_index words (number_place (nb_in words))
+number_stays words place value low differ =
+    ap (λ (n : ℕ). slice_index (set words place value) (number_place n)) (nb_stays words place value low)
+    ∙ get_or-set_other words place (number_place (nb_in words)) value 0 (λ e. differ (sym e))
+
 -- a store of the row count changes the first word of the layout
 pub layout_counted : (words : List ℕ) (value : ℕ) → 19 < length words → layout_in (set words 2 value) ≡ set (layout_in words) 0 value
 layout_counted words value wide =
@@ -63,7 +91,7 @@ layout_counted words value wide =
     ∙ ap (λ (l : List ℕ). value ∷ take (nb_in words + 1) l) told)
 
 -- and one of another of its words changes that one
-pub layout_told : (words : List ℕ) (index value : ℕ) → index ≤ nb_in words → 21 + 129 * nb_in words ≤ length words
+pub layout_told : (words : List ℕ) (index value : ℕ) → index ≤ nb_in words → 36 + 129 * nb_in words ≤ length words
     → layout_in (set words (3 + 128 * nb_in words + index) value) ≡ set (layout_in words) (suc index) value
 layout_told words index value few wide =
     let at : ℕ = 3 + 128 * nb_in words in
@@ -74,11 +102,13 @@ layout_told words index value few wide =
     ∙ ap (λ (l : List ℕ). slice_index words 2 ∷ l)
     (ap (take (nb_in words + 1)) (drop-set-add at words index value) ∙ take-set-lt (nb_in words + 1) (drop at words) index value (omega arith)))
 
--- the words of the slots and the layout are the same
+-- the words of the slots and the layout are the same. While the layout is being written it may name slots that there
+-- aren't: their words too
 pub record HasSameWords (words others : List ℕ) : Type 0 where
   pub blocks : nb_in others ≡ nb_in words
   pub layout : layout_in others ≡ layout_in words
-  pub rows : (slot : ℕ) → slice_index others (3 + slot) ≡ slice_index words (3 + slot)
+  pub rows : (slot : ℕ) → slot < 128 * nb_in words → slice_index others (3 + slot) ≡ slice_index words (3 + slot)
+  pub used : (slot : ℕ) → IsSlot words slot → slice_index others (3 + slot) ≡ slice_index words (3 + slot)
 
 -- a row whose word is the same stands still
 pub exact_stands : (held : Option Held) (words : List ℕ) (r : ReadRow) → r.index < 128 * nb_in words → slice_index words (3 + r.index) ≡ r.word
@@ -108,17 +138,19 @@ module _ (held : Option Held) (words others : List ℕ) (same : HasSameWords wor
   slots = ap slots_of same.layout
 
   row_back : (page i : ℕ) → IsRowOf others page i → IsRowOf words page i
-  row_back page i row = record {
-    there = subst (λ (l : List ℕ). IsOneOf l i) slots row.there;
-    from = subst (λ (w : ℕ). row_start w ≤ page) (same.rows i) row.from;
-    last = λ next after. subst (λ (w : ℕ). page < row_start w) (same.rows next)
-        (row.last next (subst (λ (l : List ℕ). AreNeighbours l i next) (sym slots) after));
-  }
+  row_back page i row =
+      let here : IsSlot words i = subst (λ (l : List ℕ). IsOneOf l i) slots row.there in
+      record {
+        there = here;
+        from = subst (λ (w : ℕ). row_start w ≤ page) (same.used i here) row.from;
+        last = λ next after. subst (λ (w : ℕ). page < row_start w) (same.used next (after.0 + 1, after.2))
+            (row.last next (subst (λ (l : List ℕ). AreNeighbours l i next) (sym slots) after));
+      }
 
   -- a row stands still where other words change
   stands_same : (r : ReadRow) → StillStands held words r → StillStands held others r
   stands_same r s =
-      let e : slice_index others (3 + r.index) ≡ slice_index words (3 + r.index) = same.rows r.index in
+      let e : slice_index others (3 + r.index) ≡ slice_index words (3 + r.index) = same.rows r.index s.slot in
       record {
         slot = subst (λ (n : ℕ). r.index < 128 * n) (sym same.blocks) s.slot;
         side = λ page h. (
@@ -138,33 +170,40 @@ pub same_low : (words : List ℕ) (place value : ℕ) → place < 2 → 19 < len
 same_low words place value low wide = record {
   blocks = nb_stays words place value (omega arith);
   layout = layout_stays words place value (λ e. omega arith) (omega arith) (omega arith);
-  rows = λ slot. get_or-set_other words place (3 + slot) value 0 (λ e. omega arith);
+  rows = λ slot there. get_or-set_other words place (3 + slot) value 0 (λ e. omega arith);
+  used = λ slot is. get_or-set_other words place (3 + slot) value 0 (λ e. omega arith);
 }
 
-pub low_rows : (words : List ℕ) (place value : ℕ) (kinds : ℕ → Option Kind) → place < 2 → RowsShow words kinds → RowsShow (set words place value) kinds
-low_rows words place value kinds low s =
+-- a store beside the words of the blocks leaves what the rows show
+pub rows_beside : (words : List ℕ) (place value : ℕ) (kinds : ℕ → Option Kind) → IsBeside (nb_in words) place → place + 17 < length words
+    → RowsShow words kinds → RowsShow (set words place value) kinds
+rows_beside words place value kinds beside low s =
     let two : List ℕ = set words place value in
     let wide = s.room in
     let long = length-set words place value in
-    let nb : nb_in two ≡ nb_in words = nb_stays words place value (omega arith) in
-    let layout : layout_in two ≡ layout_in words = layout_stays words place value (λ e. omega arith) (omega arith) (omega arith) in
+    let nb : nb_in two ≡ nb_in words = nb_stays words place value low in
+    let layout : layout_in two ≡ layout_in words = layout_beside words place value beside low in
     let count : slice_index two 2 ≡ slice_index words 2 = ap (λ (l : List ℕ). slice_index l 0) layout in
-    let rest : drop 3 two ≡ drop 3 words = drop-set-lt 3 words place value (omega arith) in
-    let both : ◌≡◌ {A = ℕ × List ℕ} (nb_in words, drop 3 words) (nb_in two, drop 3 two) = λ i. (sym nb i, sym rest i) in
+    let fits : 129 * nb_in words + 1 ≤ length (drop 3 two) = let d = length-drop 3 two in omega arith in
+    let same : (t : ℕ) → t < 129 * nb_in words + 1 → slice_index (drop 3 two) t ≡ slice_index (drop 3 words) t =
+    λ t lt. get_or-drop 3 two t 0
+    ∙ (get_or-set_other words place (3 + t) value 0 (λ e. ⊎_elim (λ before. omega arith) (λ behind. omega arith) beside)
+    ∙ sym (get_or-drop 3 words t 0)) in
+    let rows : rows_in two ≡ rows_in words = ap (λ (n : ℕ). rows_by n (drop 3 two)) nb ∙ also_rows (drop 3 two) s.laid fits same in
     record {
       room = omega arith;
       some = let some_row = s.some in omega arith;
       few = let few = s.few in omega arith;
-      show = subst (λ (z : ℕ × List ℕ). ShowFrom 0 (rows_by z.0 z.1) kinds) both s.show;
-      gaps = subst (λ (z : ℕ × List ℕ). All IsBareGap (rows_by z.0 z.1)) both s.gaps;
-      laid = subst (λ (z : ℕ × List ℕ). IsLaidOut z.0 z.1) both s.laid;
+      show = subst (λ (l : List ℕ). ShowFrom 0 l kinds) (sym rows) s.show;
+      gaps = subst (All IsBareGap) (sym rows) s.gaps;
+      laid = subst (λ (n : ℕ). IsLaidOut n (drop 3 two)) (sym nb) (also_laid (drop 3 two) s.laid fits same);
       counted = count ∙ (s.counted ∙ ap (λ (l : List ℕ). length (slots_of l)) (sym layout));
-      free = subst (λ (z : ℕ × List ℕ). blocks_of z.0 z.1 < z.0) both s.free;
-      short = subst (λ (z : ℕ × List ℕ). rows_of z.0 z.1 0 < 64) both s.short;
+      free = subst (λ (n : ℕ). blocks_of n (drop 3 two) < n) (sym nb) (also_free (drop 3 two) s.laid fits same s.free);
+      short = subst (λ (n : ℕ). rows_of n (drop 3 two) 0 < 64) (sym nb) (also_short (drop 3 two) s.laid fits same s.free s.short);
     }
 
 -- a store by the caller who holds everything: of a row
-module _ (words : List ℕ) (index value : ℕ) (slot : index < 128 * nb_in words) (wide : 21 + 129 * nb_in words ≤ length words) where
+module _ (words : List ℕ) (index value : ℕ) (slot : index < 128 * nb_in words) (wide : 36 + 129 * nb_in words ≤ length words) where
   blocks : nb_in (set words (3 + index) value) ≡ nb_in words
   blocks = nb_stays words (3 + index) value (omega arith)
 

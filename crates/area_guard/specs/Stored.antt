@@ -17,7 +17,7 @@ use Rattle.area_guard.specs.declared.guard.Note.{Note}
 use Rattle.area_guard.specs.declared.guard.Pass.{Pass}
 use Rattle.area_guard.specs.declared.guard.Pending.TheVariants.{Planned}
 use Rattle.area_guard.specs.declared.guard.Splice.{Splice}
-use Rattle.area_guard.specs.Rows.{nb_in, IsLayoutPlace}
+use Rattle.area_guard.specs.Rows.{nb_in, number_place, IsLayoutPlace}
 use Rattle.area_guard.specs.Reads.{everything}
 use Rattle.area_guard.specs.History.{Runs, StartsWith, whole_count, planned_count, RowsStandFor, Backs, HasHistory, HoldsFor, Allowed, entry_of, rest_of}
 use Rattle.area_guard.specs.History.{IsOwed, IsInUse, MayStore, rows_after}
@@ -44,7 +44,7 @@ pub record IsStored (grants : Grants) (words : List ℕ) (passes : List Pass) (h
   pub pending : (worker : ℕ) (pass : Pass) → get_elem? passes worker ≡ some pass → Backs grants state worker pass.pending
   pub owed : (worker : ℕ) (pass : Pass) → get_elem? passes worker ≡ some pass → IsOwed start history pass.mine pass.pending
   pub sequence : slice_index words 1 + planned_count passes ≡ whole_count history
-  pub count : length history ≡ slice_index words 0
+  pub count : length history ≡ slice_index words (number_place (nb_in words))
   pub numbered : (n : ℕ) (e : Entry) → get_elem? history n ≡ some e → e.number ≡ n
   pub once : (n : ℕ) (e : Entry) → get_elem? history n ≡ some e → IsStoredOnce passes e
   pub no_other : (worker place : ℕ) (e : Entry) → Stores passes worker place e → get_elem? history e.number ≡ some e
@@ -101,19 +101,27 @@ pub record KeepsDraw (before after : Pass) : Type 0 where
 -- and the caller sees the entry behind the history
 abbrev pub DrawsHold : Type 0
 DrawsHold = (grants : Grants) (words : List ℕ) (passes : List Pass) (worker by : ℕ) (note : Note) (after : Pass)
-    → Allowed grants words passes worker (adds 0 by) note after
+    → Allowed grants words passes worker (adds (number_place (nb_in words)) by) note after
     → (held : Option Held) × (get_elem? grants worker ≡ some held) × HoldsFor held note.under × (after.drew ≡ held)
     × (history : List Entry) × (after.seen ≡ history ++ entry_of (length history) worker note ∷ [])
 
 -- the step isn't an addition to the number word, which draws a number
-abbrev pub IsNoDraw : ClientStep → Type 0
-IsNoDraw (loads place) = Unit {0}
-IsNoDraw (stores place value) = Unit {0}
-IsNoDraw (adds place by) = place ≢ 0
-IsNoDraw (exchanges place expected new) = Unit {0}
+abbrev pub IsNoDraw : List ℕ → ClientStep → Type 0
+IsNoDraw words (loads place) = Unit {0}
+IsNoDraw words (stores place value) = Unit {0}
+IsNoDraw words (adds place by) = place ≢ number_place (nb_in words)
+IsNoDraw words (exchanges place expected new) = Unit {0}
 
 -- every other step of a caller, and giving its range back, keep what was held at its last draw, and its own entries
 abbrev pub LastDrawIsKept : Type 0
 LastDrawIsKept = (grants : Grants) (words : List ℕ) (passes : List Pass) (worker : ℕ) (step : ClientStep) (note : Note)
-    (pass after : Pass) → get_elem? passes worker ≡ some pass → IsNoDraw step
+    (pass after : Pass) → get_elem? passes worker ≡ some pass → IsNoDraw words step
     → Allowed grants words passes worker step note after → KeepsDraw pass after × KeepsDraw pass (rest_of pass)
+
+-- every allowed step on a client word is counted since the caller's last draw, and a draw begins this count anew.
+-- Giving the range back leaves it
+abbrev pub StepsAreCounted : Type 0
+StepsAreCounted = (grants : Grants) (words : List ℕ) (passes : List Pass) (worker : ℕ) (step : ClientStep) (note : Note)
+    (pass after : Pass) → get_elem? passes worker ≡ some pass → Allowed grants words passes worker step note after
+    → (IsNoDraw words step → after.since ≡ pass.since + 1)
+    × ((by : ℕ) → step ≡ adds (number_place (nb_in words)) by → after.since ≡ 0) × ((rest_of pass).since ≡ pass.since)

@@ -31,7 +31,7 @@ use Rattle.area_guard.specs.History.{HasBlocks, IsPart, planned_calls, planned_c
 use Rattle.area_guard.specs.History.{HasPages, HoldsPages, HasReadNothing, Backs, IsBacked, AreBacked, after_layout, rows_after}
 use Rattle.area_guard.specs.History.{after_store, after_raise, MayStore}
 use Rattle.area_guard.specs.History.MayStore.{store_row, store_count, store_layout}
-use Rattle.area_guard.specs.Stands.{nb_stays, room_stays, all_stand, same_low, low_rows, stored_all, laid_all}
+use Rattle.area_guard.specs.Stands.{nb_stays, room_stays, number_stays, all_stand, same_low, rows_beside, stored_all, laid_all}
 use Rattle.area_guard.specs.Parts.{count_set, most_set, room_kept, no_wrap, whole_few, planned_set, planned_le, planned_of, blank_part}
 use Rattle.area_guard.specs.Parts.{stored, stored_count, stored_layout, raised_after}
 
@@ -103,7 +103,7 @@ module _ (grants : Grants) (start : List Areas) (history : List Entry) (state : 
       → IsPart start history (set words place value) other x
   other_part place value other x low differ there = let part = r.parts other x there in
       blank_part start history words (set words place value) other x (other_blank other x differ there)
-      (room_stays words x.blocks place value low part.room) part
+      (room_stays words x.blocks place value (omega arith) part.room) part
 
   store_keeps : (place value : ℕ) (q : Pass) → 1 < place → place < 4 + 129 * nb_in words → IsPart start history (set words place value) worker q
       → length q.mine ≡ length p.mine → q.most ≡ p.most → q.pending ≡ p.pending
@@ -124,7 +124,7 @@ module _ (grants : Grants) (start : List Areas) (history : List Entry) (state : 
         named = r.named;
         limit = r.limit;
         grown = r.grown;
-        number = get_or-set_other words place 0 value 0 (λ e. omega arith) ∙ r.number;
+        number = number_stays words place value (omega arith) (λ e. omega arith) ∙ r.number;
         sequence = ap (λ n. n + planned_count (set passes worker q)) (get_or-set_other words place 1 value 0 (λ e. omega arith))
             ∙ (ap (λ n. slice_index words 1 + n) pending ∙ r.sequence);
         small = let m = most_set passes worker p q at may in let f = r.small in omega arith;
@@ -211,12 +211,12 @@ module _ (grants : Grants) (start : List Areas) (history : List Entry) (state : 
         named = r.named;
         limit = r.limit;
         grown = r.grown;
-        number = get_or-set_other words 1 0 value 0 (λ e. omega arith) ∙ r.number;
+        number = number_stays words 1 value (omega arith) (λ e. omega arith) ∙ r.number;
         sequence = let g : slice_index (set words 1 value) 1 ≡ value = get_or-set_same words 1 value 0 there in
             let s = r.sequence in let f = whole_few history in let w = no_wrap start history state words passes r in omega arith;
         small = let m = most_set passes worker p q at refl in let f = r.small in omega arith;
         room = room_kept words (set words 1 value) (row_count start) passes worker p q at refl (nb_stays words 1 value (omega arith)) r.room;
-        rows = λ none. (kind_at state, shown_after, low_rows words 1 value (kind_at state) (omega arith) written);
+        rows = λ none. (kind_at state, shown_after, rows_beside words 1 value (kind_at state) (inl (omega arith)) (omega arith) written);
         parts = λ other x there. ⊎_elim
             (λ t. subst (λ (z : ℕ × Pass). IsPart start history (set words 1 value) z.0 z.1) (λ i. (sym t.0 i, t.1 i))
             (raised_after start history state words worker p (r.parts worker p at) value))

@@ -100,6 +100,9 @@ pub struct Pass {
     pub drew: Option<Held>,
     /// The caller's looks at the history, the last one first.
     pub looks: LinkedList<Look>,
+    /// How many steps the caller has made on client words since the one that drew its last number, or since the
+    /// opening.
+    pub since: u64,
 }
 
 /// The guard of the address space.

@@ -1,7 +1,7 @@
 //! What the rule of a running address space comes to, in the words of the one-thread model: laws on public functions
 //! with nothing to run. Each names a statement of `specs/Stored.antt`. With `keeps_apart` of the lock a reader may
 //! rely on them between any two steps.
-ghost use Rattle.area_guard.specs.Stored.{RunsAreLegal, HistoryIsStored, CountIsOfWhole, LayoutIsOfWhole, StoresAreNew, DrawsHold, LastDrawIsKept};
+ghost use Rattle.area_guard.specs.Stored.{RunsAreLegal, HistoryIsStored, CountIsOfWhole, LayoutIsOfWhole, StoresAreNew, DrawsHold, LastDrawIsKept, StepsAreCounted};
 
 /// What runs from one area list to another is a legal history of the one-thread address space, and leaves that list.
 /// It does nothing.
@@ -34,8 +34,10 @@ pub fn stores_are_new()
 {}
 
 /// A number is drawn only at a step at which its caller holds the range that the entry names; the entry is then the
-/// last one that the caller has seen, and the caller's pass keeps that range until its next draw. It does nothing.
+/// last one that the caller has seen, and the caller's pass keeps that range until its next draw, and counts the
+/// steps on client words that the caller makes meanwhile. It does nothing.
 pub fn draws_hold()
     ensures drawn { DrawsHold }
     ensures kept { LastDrawIsKept }
+    ensures counted { StepsAreCounted }
 {}

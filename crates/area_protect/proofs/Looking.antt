@@ -17,9 +17,10 @@ use Rattle.area_rows.specs.Seated.{TableId}
 use Rattle.area_guard.specs.declared.guard.Look.{Look}
 use Rattle.area_guard.specs.declared.guard.Pass.{Pass}
 use Rattle.area_rows.specs.AreaPlans.{IsOneKind}
+use Rattle.area_rows.specs.Rows.{blocks_by}
 use Rattle.area_rows.specs.History.{Runs, StartsWith, whole_count, planned_calls, IsAtRest}
 use Rattle.area_rows.specs.Callers.{CallerView, CountsWhole, IsLook, Shows}
-use Rattle.area_rows.specs.Called.{IsCalled}
+use Rattle.area_rows.specs.Called.{IsCalled, IsLastPlace}
 use Rattle.area_rows.proofs.Storing.{all_legal}
 use Rattle.area_protect.specs.declared.path.Cause.{Cause}
 use Rattle.area_protect.specs.declared.path.Cause.TheVariants.{NotOneArea, NotSimple, Moved}
@@ -195,7 +196,7 @@ called_after a b c line call e look held called =
       last = record {
         place = called.last.place;
         step = called.last.step;
-        word = called.last.word;
+        word = subst (λ (t : TableId). IsLastPlace (blocks_by t) e.under called.last.place) look.table called.last.word;
         client = called.last.client;
         since = let l = look.taken in let m = called.last.since in omega arith;
         until = called.last.until;

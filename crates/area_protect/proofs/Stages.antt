@@ -23,6 +23,8 @@ use Rattle.area_guard.specs.declared.guard.Pass.{Pass}
 use Rattle.area_guard.specs.declared.guard.Pending.{Pending}
 use Rattle.area_rows.specs.declared.row.Row.{Row}
 use Rattle.area_rows.specs.AreaPlans.{IsOneKind}
+use Rattle.area_rows.specs.Seated.{TableId}
+use Rattle.area_rows.specs.Rows.{blocks_by, number_place}
 use Rattle.area_rows.specs.History.{StartsWith, Runs, whole_count, planned_calls, IsAtRest, HoldsFor, rest_of}
 use Rattle.area_rows.specs.Reads.{IsHeldPage}
 use Rattle.area_rows.specs.Callers.{CallerView, CountsWhole, IsReading, IsLook, IsDrawn, IsStoredRow, RowIs, Shows}
@@ -135,9 +137,10 @@ called_area b r n w d e line call span pending reading same line_is call_is unde
       };
       last = ⊎_elim
           (λ same_trace. record {
-            place = 0;
+            place = number_place (blocks_by r.seat.table);
             step = r.seat.trace.taken;
-            word = subst (λ u. IsLastPlace u 0) (sym under) (inl refl);
+            word = subst (λ u. IsLastPlace (blocks_by b.seat.table) u (number_place (blocks_by r.seat.table))) (sym under)
+                (inl (ap (λ (t : TableId). number_place (blocks_by t)) reading.table));
             client = release.client ∙ (ap (λ (t : Record). t.client) same_trace ∙ ap (λ (t : Record). t.client) drawn.trace);
             since = reading.taken;
             until = let m = release.least in let t = ap (λ (t : Record). t.taken) same_trace in omega arith;
@@ -145,7 +148,7 @@ called_area b r n w d e line call span pending reading same line_is call_is unde
           (λ one. record {
             place = 3 + one.0;
             step = n.seat.trace.taken;
-            word = subst (λ u. IsLastPlace u (3 + one.0)) (sym under) (inr (omega arith));
+            word = subst (λ u. IsLastPlace (blocks_by b.seat.table) u (3 + one.0)) (sym under) (inr (omega arith));
             client = release.client ∙ ap (λ (t : Record). t.client) one.1;
             since = let m = reading.taken in omega arith;
             until = let m = release.least in let t : w.seat.trace.taken ≡ n.seat.trace.taken + 1 = ap (λ (t : Record). t.taken) one.1 in omega arith;

@@ -26,8 +26,8 @@ use Rattle.area_guard.specs.Reads.{StillStands}
 use Rattle.row_plans.specs.RowLists.{rows_from, areas_from, ShowFrom, IsBareGap}
 use Rattle.row_blocks.specs.Blocks.{IsLaidOut, blocks_of, rows_of, rows_in as rows_by}
 use Rattle.row_blocks.proofs.Slots.{length-slots_in, length-rows_in}
-use Rattle.area_guard.specs.Rows.{nb_in, blocks_by, rows_in, RowsShow}
-use Rattle.area_guard.proofs.Slots.{slots_as}
+use Rattle.area_guard.specs.Rows.{nb_in, blocks_by, rows_in, RowsShow, number_place}
+use Rattle.area_guard.specs.Slots.{slots_as}
 use Rattle.area_guard.specs.History.{IsPart, own_planned, planned_calls, planned_count, ShowsBefore, IsShown, IsRunningSpace}
 use Rattle.area_guard.specs.History.{IsBacked, AreBacked, HasRoom, HasHistory, own_count, entry_count, own_most, most_count, newcomer}
 use Rattle.area_rows.specs.Callers.{CallerView, AreNewCallersIn, new_pass}
@@ -40,8 +40,8 @@ unfolding blocks_by
 blocks_told table words nb is tells eights = omega arith
 
 -- so a table has few words beside those of the lock and of the blocks
-pub few_words : (all lock client nb spare told : ℕ) → all ≡ lock + client → client ≡ 21 + 129 * nb + spare → spare < 257 → nb ≡ told
-    → all ≤ lock + 277 + 129 * told
+pub few_words : (all lock client nb spare told : ℕ) → all ≡ lock + client → client ≡ 36 + 129 * nb + spare → spare < 257 → nb ≡ told
+    → all ≤ lock + 292 + 129 * told
 few_words all lock client nb spare told is wide few same = omega arith
 
 some_rows : (rows : List ℕ) (kinds : _) → ShowFrom 0 rows kinds → 0 < length rows
@@ -71,7 +71,7 @@ module _ (start : List Area) (calls : List ℕ) (nb : ℕ) (words : List ℕ) (o
       let blocks = o.blocks in
       let wide = o.wide in
       let count = o.count in
-      let room : 21 + 129 * nb_in words ≤ length words = omega arith in
+      let room : 36 + 129 * nb_in words ≤ length words = omega arith in
       let laid : IsLaidOut (nb_in words) (drop 3 words) = subst (λ (n : ℕ). IsLaidOut n (drop 3 words)) back o.laid in
       record {
         room = room;
@@ -163,7 +163,7 @@ runs_new start calls nb words o areas named few callers enough small =
       named = named;
       limit = few;
       grown = omega arith;
-      number = o.number;
+      number = ap (λ (n : ℕ). slice_index words (number_place n)) o.blocks ∙ o.number;
       sequence = let z = no_plans first 0 (length calls) (λ i. refl) in omega arith;
       small = omega arith;
       room = subst (λ (z : ℕ × ℕ). HasRoom z.0 (row_count start) z.1) (λ i. (sym o.blocks i, sym most i)) enough;

@@ -24,7 +24,7 @@ use Rattle.row_plans.specs.Plans.{PlanShows}
 use Rattle.row_plans.proofs.PlanLeft.{counted_rows}
 use Rattle.area_guard.specs.Rows.{nb_in, rows_in, room_of, RowsShow}
 use Rattle.area_guard.specs.Parts.{rows_fit}
-use Rattle.area_guard.proofs.Slots.{rows_many}
+use Rattle.area_guard.specs.Slots.{rows_many}
 use Rattle.area_guard.specs.Reads.{everything}
 use Rattle.area_guard.specs.Changes.{alone}
 use Rattle.area_guard.specs.History.{Runs, planned_calls, LagsAt, RowsStandFor, IsRunningSpace, Backs, AreBacked, HasHistory}

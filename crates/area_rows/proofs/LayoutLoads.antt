@@ -19,7 +19,7 @@ use Rattle.area_guard.specs.Reads.{everything, HasRead, StillStands, layout_by, 
 use Rattle.area_guard.specs.History.{HasBlocks, HasHistory, Allowed, IsPart, MayLoad, RowsStandFor, IsAtRest, after_seen}
 use Rattle.area_guard.specs.History.MayLoad.{number, glance, sequence, layout, row}
 use Rattle.area_guard.specs.Keeping.{no_note}
-use Rattle.area_guard.proofs.Slots.{layout_long, layout_word, layout_blocks, layout_told, rows_many, slots_many, slot_reach}
+use Rattle.area_guard.specs.Slots.{layout_long, layout_word, layout_blocks, layout_told, rows_many, slots_many, slot_reach}
 use Rattle.plan_words.proofs.Knowing.{known_at}
 use Rattle.plan_words.proofs.Seeing.{seen_words, known_blocks}
 use Rattle.area_rows.specs.Callers.{IsHeldPages, IsReading}
@@ -48,7 +48,7 @@ layout_is words kinds s =
     }
 
 -- a word of it among the client words
-pub layout_at : (words : List ℕ) → 21 + 129 * nb_in words ≤ length words → (index : ℕ) → index ≤ nb_in words + 1
+pub layout_at : (words : List ℕ) → 36 + 129 * nb_in words ≤ length words → (index : ℕ) → index ≤ nb_in words + 1
     → slice_index words (layout_place (nb_in words) index) ≡ slice_index (layout_in words) index
 layout_at words room zero le = refl
 layout_at words room (suc k) le =
@@ -63,7 +63,7 @@ is_layout_place nb (suc k) le = inr (omega arith, omega arith)
 module _ (own : Option Held → Type 0) (free held : Type 0) (words : List ℕ) (history : List Entry) (p after : Pass) where
   -- what a load of it tells of the pass
   layout_tells : (place : ℕ) → IsLayoutPlace p.blocks place → MayLoad own free held words history place p after → after ≡ after_seen words p
-  layout_tells place at (number h o e is) = absurd (⊎_elim (λ two. omega arith) (λ t. let a = t.0 in omega arith) at)
+  layout_tells place at (number h o e is) = absurd (⊎_elim (λ two. omega arith) (λ t. let a = t.1 in omega arith) at)
   layout_tells place at (glance f e is) = absurd (⊎_elim (λ two. omega arith) (λ t. let a = t.0 in omega arith) at)
   layout_tells place at (sequence h e is) = absurd (⊎_elim (λ two. omega arith) (λ t. let a = t.0 in omega arith) at)
   layout_tells place at (layout h e is) = is

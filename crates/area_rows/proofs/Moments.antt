@@ -26,7 +26,7 @@ use Rattle.area_guard.specs.declared.guard.Pending.TheVariants.{AtRest, Planned,
 use Rattle.row_plans.specs.RowWords.{row_start}
 use Rattle.row_plans.specs.RowLists.{rows_start, ShowFrom, IsBareGap, areas_from}
 use Rattle.area_guard.specs.Rows.{rows_in, RowsShow}
-use Rattle.area_guard.proofs.Slots.{rows_many, shows_others}
+use Rattle.area_guard.specs.Slots.{rows_many, shows_others}
 use Rattle.row_plans.specs.Plans.{PlanShows, IsRowList}
 use Rattle.area_guard.specs.Reads.{everything, IsHeldPage, HasRead, StillStands}
 use Rattle.area_guard.specs.History.{planned_calls, own_planned, planned_count, LagsAt, IsShown, RowsStandFor}

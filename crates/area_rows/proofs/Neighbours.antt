@@ -16,7 +16,7 @@ use Rattle.area_guard.specs.Rows.{slots_of, slots_in, rows_in, AreNeighbours, Is
 use Rattle.area_guard.specs.Rows.{IsSlot, IsNext, RowsShow}
 use Rattle.area_guard.specs.Reads.{slots_by, HasRead}
 use Rattle.area_guard.specs.History.{StillLaid}
-use Rattle.area_guard.proofs.Slots.{slots_many, rows_are, slots_apart}
+use Rattle.area_guard.specs.Slots.{slots_many, rows_are, slots_apart}
 use Rattle.area_rows.specs.Callers.{IsEndIn, IsReadBefore, IsReadBehind, IsKindIn}
 use Rattle.row_plans.proofs.RowLists.{row_says}
 use Rattle.area_rows.proofs.Moments.{first_start}

@@ -20,9 +20,10 @@ use Rattle.area_guard.specs.declared.guard.ReadRow.{ReadRow}
 use Rattle.area_rows.specs.declared.row.Row.{Row}
 use Rattle.row_plans.specs.RowWords.{row_start, row_kind}
 use Rattle.row_plans.specs.RowLists.{ShowFrom, areas_from}
-use Rattle.area_guard.specs.Rows.{layout_in, slots_of, slot_at, slots_in, rows_in, blocks_by, AreNeighbours, IsOneOf, IsSlot, IsNext, IsInReach, RowsShow, IsRowOf}
-use Rattle.area_guard.proofs.Slots.{slots_many, rows_are, slots_apart, shows_set}
-use Rattle.area_guard.proofs.Slots.{slot_in as slot_below}
+use Rattle.area_guard.specs.Rows.{layout_in, slots_of, slot_at, slots_in, rows_in, blocks_by, AreNeighbours, IsOneOf, IsSlot, IsNext, IsInReach}
+use Rattle.area_guard.specs.Rows.{RowsShow, IsRowOf}
+use Rattle.area_guard.specs.Slots.{slots_many, rows_are, slots_apart, shows_set}
+use Rattle.area_guard.specs.Slots.{slot_in as slot_below}
 use Rattle.area_guard.specs.Reads.{IsHeldPage, HasRead, StillStands}
 use Rattle.area_guard.specs.Changes.{IsIn, alone, new_word, with_change, MayReplace}
 use Rattle.area_rows.specs.OneStore.{IsOneStore, IsRound}

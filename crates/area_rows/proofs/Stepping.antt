@@ -9,7 +9,7 @@ use Rattle.atomic_table.specs.Seated.{TableId}
 use Rattle.lock_core.specs.declared.range.Held.{Held}
 use Rattle.lock_core.specs.Grants.{Grants, Holds}
 use Rattle.lock_core.specs.Client.{loads, adds, IsAllowed, IsMade}
-use Rattle.range_rw.specs.Contract.{SeatState, IsClientCall}
+use Rattle.range_rw.specs.Contract.{SeatState, IsClientCall, client_trace}
 use Rattle.space_model.specs.declared.areas.Area.{Area}
 use Rattle.space_model.specs.declared.entries.Entry.{Entry}
 use Rattle.space_model.specs.declared.entries.Under.{Under}
@@ -22,8 +22,8 @@ use Rattle.area_guard.specs.declared.guard.Pass.{Pass}
 use Rattle.area_guard.specs.declared.guard.Pending.{Pending}
 use Rattle.area_guard.specs.declared.guard.Splice.{Splice}
 use Rattle.row_plans.specs.declared.planning.Cut.{Cut}
-use Rattle.area_guard.specs.Rows.{slots_of, slot_at, slots_to, IsOneOf, room_of, rows_in}
-use Rattle.area_guard.proofs.Slots.{first_slot}
+use Rattle.area_guard.specs.Rows.{blocks_by, number_place, slots_of, slot_at, slots_to, IsOneOf, room_of, rows_in}
+use Rattle.area_guard.specs.Slots.{first_slot}
 use Rattle.area_guard.specs.declared.guard.Pending.TheVariants.{AtRest, Planned, OneRow}
 use Rattle.row_plans.specs.RowWords.{row_start}
 use Rattle.row_plans.specs.Plans.{IsRowList}
@@ -34,13 +34,13 @@ use Rattle.row_blocks.specs.Blocks.{IsLaidOut, blocks_of, rows_of, rows_in as ro
 use Rattle.plan_words.specs.Places.{number_in, number_at}
 use Rattle.area_guard.specs.History.{Runs, StartsWith, planned_calls, RowsStandFor, HasHistory, Allowed, Here, MayLoad}
 use Rattle.area_guard.specs.History.{MayAdd, IsAtRest, IsRight, Leaves, FitsIn, HoldsFor, HoldsJust, pending_of, entry_of}
-use Rattle.area_guard.specs.History.{after_look, after_sequence, after_row, after_draw, rows_after}
+use Rattle.area_guard.specs.History.{after_look, after_step, after_sequence, after_row, after_draw, rows_after}
 use Rattle.area_guard.specs.History.MayLoad.{number, glance, sequence, layout, row}
 use Rattle.area_guard.specs.History.MayAdd.{draw, raise}
 use Rattle.area_rows.specs.Callers.{CallerView, HasSameRows, plan_of, IsKnown, HasToWrite, HasToStore, IsReadIn, IsReadRound, IsReadBefore, IsReadBehind}
 use Rattle.area_rows.specs.Callers.{AreInReach, IsHeldPages, IsMoment, Shows, KeepsRead, KeepsRows, CountsWhole}
 use Rattle.area_rows.specs.Callers.{IsReading, IsLook, IsNumbered, IsDrawn, IsClientStep}
-use Rattle.area_guard.specs.Draws.{draw_pending, draw_mine, draw_seen, draw_start, draw_drew, draw_looks, draw_blocks, draw_most, plan_fits}
+use Rattle.area_guard.specs.Draws.{draw_pending, draw_mine, draw_seen, draw_start, draw_drew, draw_looks, draw_since, draw_blocks, draw_most, plan_fits}
 use Rattle.area_guard.specs.Keeping.{no_note}
 use Rattle.area_guard.specs.Parts.{none_is}
 use Rattle.area_rows.proofs.Reading.{step_reads}
@@ -49,14 +49,15 @@ use Rattle.area_rows.proofs.Moments.{held_some, held_pages, row_list, stands, on
 
 module _ (own : Option Held → Type 0) (free held : Type 0) (words : List ℕ) (history : List Entry) (p after : Pass) where
   -- what a load tells of the pass
-  look_tells : MayLoad own free held words history 0 p after → (h : Option Held) × own h × (after ≡ after_look history h p)
-  look_tells (number h o e is) = (h, o, is)
-  look_tells (glance f e is) = absurd (omega arith)
-  look_tells (sequence h e is) = absurd (omega arith)
-  look_tells (layout h at is) = absurd (⊎_elim (λ two. omega arith) (λ t. let a = t.0 in omega arith) at)
-  look_tells (row i h few e is) = absurd (omega arith)
+  look_tells : (place : ℕ) → place ≡ number_place p.blocks → MayLoad own free held words history place p after
+      → (h : Option Held) × own h × (after ≡ after_look history h p)
+  look_tells place at (number h o e is) = (h, o, is)
+  look_tells place at (glance f e is) = absurd (omega arith)
+  look_tells place at (sequence h e is) = absurd (omega arith)
+  look_tells place at (layout h among is) = absurd (⊎_elim (λ two. omega arith) (λ t. let a = t.1 in omega arith) among)
+  look_tells place at (row i h few e is) = absurd (omega arith)
 
-  sequence_tells : MayLoad own free held words history 1 p after → (free × (after ≡ p)) ⊎ (after ≡ after_sequence (slice_index words 1) p)
+  sequence_tells : MayLoad own free held words history 1 p after → (free × (after ≡ after_step p)) ⊎ (after ≡ after_sequence (slice_index words 1) p)
   sequence_tells (number h o e is) = absurd (omega arith)
   sequence_tells (glance f e is) = inl (f, is)
   sequence_tells (sequence h e is) = inr is
@@ -79,7 +80,8 @@ draw_keeps history e (OneRow c) held p = (refl, refl)
 
 -- a caller that holds a range remembers the sequence word
 pub may_sequence : (note : Note) (seat : ℕ) (held : Option Held) (pass : Pass) → IsHeldPages held → IsAllowed HasHistory Allowed note seat held pass (loads 1)
-may_sequence note seat None pass pages grants words passes m lt small = (pass, (here_at grants words passes seat None pass m, glance m.grant refl refl))
+may_sequence note seat None pass pages grants words passes m lt small =
+    (after_step pass, (here_at grants words passes seat None pass m, glance m.grant refl refl))
 may_sequence note seat (Some h) pass pages grants words passes m lt small = (
   after_sequence (slice_index words 1) pass,
   (
@@ -90,9 +92,9 @@ may_sequence note seat (Some h) pass pages grants words passes m lt small = (
 
 module _ (note : Note) (seat : ℕ) (held : Option Held) (pass : Pass) where
   -- the guard allows a load of the number word at any time
-  pub may_look : IsAllowed HasHistory Allowed note seat held pass (loads 0)
-  may_look grants words passes m lt small =
-      (after_look m.met.1 held pass, (here_at grants words passes seat held pass m, number held m.grant refl refl))
+  pub may_look : (place : ℕ) → place ≡ number_place pass.blocks → IsAllowed HasHistory Allowed note seat held pass (loads place)
+  may_look place at grants words passes m lt small =
+      (after_look m.met.1 held pass, (here_at grants words passes seat held pass m, number held m.grant at refl))
 
   -- a load of a row, while pages are held
   pub may_row : (index : ℕ) → index < 128 * pass.blocks → IsSome held → IsHeldPages held → IsAllowed HasHistory Allowed note seat held pass (loads (3 + index))
@@ -106,18 +108,18 @@ module _ (note : Note) (seat : ℕ) (held : Option Held) (pass : Pass) where
 
   -- a draw of a number, by a caller at rest that holds what the entry names and whose reply is right
   -- at every moment
-  pub may_draw : (s : SeatState Pass) → s.number ≡ seat → s.held ≡ held → s.pass ≡ pass → length pass.mine + 1 ≤ pass.most
-      → IsNamedCall note.call → IsAtRest pass → HoldsFor held note.under
+  pub may_draw : (place : ℕ) → place ≡ number_place pass.blocks → (s : SeatState Pass) → s.number ≡ seat → s.held ≡ held → s.pass ≡ pass
+      → length pass.mine + 1 ≤ pass.most → IsNamedCall note.call → IsAtRest pass → HoldsFor held note.under
       → Shows s (λ (words : List ℕ) (state : List Area). (left : List Area) × IsRight state note.call note.reply note.under left
-      × Leaves state note.under note.pending left) → IsAllowed HasHistory Allowed note seat held pass (adds 0 1)
-  may_draw s n h p few named rest holds shows grants words passes m lt small =
+      × Leaves state note.under note.pending left) → IsAllowed HasHistory Allowed note seat held pass (adds place 1)
+  may_draw place at s n h p few named rest holds shows grants words passes m lt small =
       let here = here_at grants words passes seat held pass m in
       let right = shows _ here.history here.state words (moment_of grants words passes seat here s (m.grant ∙ ap some (sym h)) n (sym p)) in (
         after_draw here.history (entry_of (length here.history) seat note) note.pending held pass,
         (
           refl,
           here,
-          draw refl (record { left = right.0; named = named; right = right.1; leaves = right.2; rest = rest; held = (held, m.grant, holds); few = few }) refl,
+          draw at (record { left = right.0; named = named; right = right.1; leaves = right.2; rest = rest; held = (held, m.grant, holds); few = few }) refl,
         ),
       )
 
@@ -166,15 +168,17 @@ module _ (note : Note) (seat : ℕ) (held : Option Held) (pass : Pass) where
         let still = stands held s.1 here.pass.rows index old stood (subst (λ (x : Pass). HasRead x.rows index old) (sym same) has) in
         subst (λ w. (row_start old ≤ page) ↔ (row_start w ≤ page)) s.4 (still.side page h)
 
-    drawn_as : (t u : SeatState Pass) → t.number ≡ seat → t.held ≡ held → t.pass ≡ pass → u.pass ≡ after → IsClientCall t 0 u
-        → (s : IsMade HasHistory Allowed note seat held pass (adds 0 1) found after) → MayAdd s.0 s.1 s.2 seat note s.5.1 0 after
+    drawn_as : (place : ℕ) (t u : SeatState Pass) → place ≡ number_place (blocks_by t.table) → t.number ≡ seat → t.held ≡ held → t.pass ≡ pass
+        → u.pass ≡ after → IsClientCall t place u
+        → (s : IsMade HasHistory Allowed note seat held pass (adds place 1) found after) → MayAdd s.0 s.1 s.2 seat note s.5.1 place after
         → IsDrawn t (entry_of found seat note) note.pending u
-    drawn_as t u n h p q call s (raise rows e pends written is) = absurd (omega arith)
-    drawn_as t u n h p q call s (draw e d is) =
+    drawn_as place t u at n h p q call s (raise rows e pends written is) = absurd (omega arith)
+    drawn_as place t u at n h p q call s (draw e d is) =
         let m = s.3 in let here = s.5.1 in
         let same : here.pass ≡ pass = some-injective here.pass pass (sym here.own ∙ m.own) in
-        let num : length here.history ≡ found = sym here.running.number ∙ s.4 in
         let part = here.running.parts seat here.pass here.own in
+        let num : length here.history ≡ found =
+        sym here.running.number ∙ (ap (slice_index s.1) (sym (e ∙ ap number_place part.room.0)) ∙ s.4) in
         let old : here.pass ≡ t.pass = same ∙ sym p in
         let f : Entry = entry_of found seat note in
         let new : u.pass ≡ after_draw here.history f note.pending d.held.0 t.pass = q
@@ -207,6 +211,7 @@ module _ (note : Note) (seat : ℕ) (held : Option Held) (pass : Pass) where
           moment = moment_of s.0 s.1 s.2 seat here t granted n old;
           drew = drew ∙ held_then;
           looks = ap (λ (x : Pass). x.looks) new ∙ draw_looks here.history f d.held.0 t.pass note.pending;
+          since = ap (λ (x : Pass). x.since) new ∙ draw_since here.history f d.held.0 t.pass note.pending;
           pools = call.pools;
           further = call.further;
           blocks = blocks_are;
@@ -216,22 +221,24 @@ module _ (note : Note) (seat : ℕ) (held : Option Held) (pass : Pass) where
               here.running here.own d.few d.right.answers d.leaves);
           writes = ap (λ (x : Pass). x.pending) new ∙ draw_pending here.history f d.held.0 t.pass note.pending;
           keeps = subst (λ (x : Pass). KeepsRows note.pending t.pass x) (sym new) (draw_keeps here.history f note.pending d.held.0 t.pass);
-          trace = call.trace;
+          trace = call.trace ∙ ap (client_trace t.trace) at;
         }
 
     -- an addition to the number word draws the number that it found, with the entry that the note becomes
-    pub draws : (t u : SeatState Pass) → t.number ≡ seat → t.held ≡ held → t.pass ≡ pass → u.pass ≡ after → IsClientCall t 0 u
-        → IsMade HasHistory Allowed note seat held pass (adds 0 1) found after
+    pub draws : (place : ℕ) (t u : SeatState Pass) → place ≡ number_place (blocks_by t.table) → t.number ≡ seat → t.held ≡ held → t.pass ≡ pass
+        → u.pass ≡ after → IsClientCall t place u → IsMade HasHistory Allowed note seat held pass (adds place 1) found after
         → IsDrawn t (entry_of found seat note) note.pending u
-    draws t u n h p q call s = drawn_as t u n h p q call s s.5.2
+    draws place t u at n h p q call s = drawn_as place t u at n h p q call s s.5.2
 
 -- a load of the number word is a look
-pub look_is : (s u : SeatState Pass) (found : ℕ) → IsClientCall s 0 u
-    → IsMade HasHistory Allowed no_note s.number s.held s.pass (loads 0) found u.pass → IsLook s found u
-look_is s u found call made =
+pub look_is : (place : ℕ) (s u : SeatState Pass) (found : ℕ) → s.pass.blocks ≡ blocks_by s.table → place ≡ number_place (blocks_by s.table)
+    → IsClientCall s place u → IsMade HasHistory Allowed no_note s.number s.held s.pass (loads place) found u.pass → IsLook s found u
+look_is place s u found blocks at call made =
     let m = made.3 in let here = made.5.0 in
     let same : here.pass ≡ s.pass = some-injective here.pass s.pass (sym here.own ∙ m.own) in
-    let told = look_tells (HoldsJust made.0 s.number) _ _ made.1 here.history here.pass u.pass made.5.1 in
+    let part = here.running.parts s.number here.pass here.own in
+    let there : place ≡ number_place here.pass.blocks = at ∙ ap number_place (sym (ap (λ (x : Pass). x.blocks) same ∙ blocks)) in
+    let told = look_tells (HoldsJust made.0 s.number) _ _ made.1 here.history here.pass u.pass place there made.5.1 in
     let held : told.0 ≡ s.held = some-injective told.0 s.held (sym told.1 ∙ m.grant) in
     let is : u.pass ≡ after_look here.history s.held s.pass = told.2 ∙ (λ i. after_look here.history (held i) (same i)) in
     let seen : u.pass.seen ≡ here.history = ap (λ (x : Pass). x.seen) is in
@@ -246,18 +253,19 @@ look_is s u found call made =
         pools = call.pools;
         further = call.further;
         pass = is ∙ ap (λ h. after_look h s.held s.pass) (sym seen);
-        trace = call.trace;
+        trace = call.trace ∙ ap (client_trace s.trace) at;
       };
       more = subst (λ h. StartsWith h s.pass.seen) (sym seen)
-          (subst (λ (x : Pass). StartsWith here.history x.seen) same (here.running.parts s.number here.pass here.own).seen);
-      count = ap length seen ∙ (sym here.running.number ∙ made.4);
+          (subst (λ (x : Pass). StartsWith here.history x.seen) same part.seen);
+      count = ap length seen ∙ (sym here.running.number
+          ∙ (ap (slice_index made.1) (sym (there ∙ ap number_place part.room.0)) ∙ made.4));
     }
 
 -- a pass that remembers the sequence word still has what it had read
 remembers : (p : Pass) (n : ℕ) → ((k : ℕ) → p.sequence ≡ Some k → n ≡ k) → KeepsRead p (after_sequence n p)
 remembers p n again = record { laid = λ old e. e; rows = λ index word h. h; sequence = λ k e. ap Some (again k e); pending = refl; blocks = refl }
 
-keeps_all : (p : Pass) → KeepsRead p p
+keeps_all : (p : Pass) → KeepsRead p (after_step p)
 keeps_all p = record { laid = λ old e. e; rows = λ index word h. h; sequence = λ k e. e; pending = refl; blocks = refl }
 
 -- how many entries are under everything, by the sequence word that a caller remembers
@@ -282,9 +290,9 @@ sequence_is s u found pages call made =
     let again : (k : ℕ) → s.pass.sequence ≡ Some k → found ≡ k = λ k e. sym made.4 ∙ part.sequence k (ap (λ (x : Pass). x.sequence) same ∙ e) in
     ⊎_elim
     (λ t.
-    let is : u.pass ≡ s.pass = t.1 ∙ same in
+    let is : u.pass ≡ after_step s.pass = t.1 ∙ ap after_step same in
     let free : s.held ≡ None = some-injective s.held None (sym m.grant ∙ t.0) in (
-      step_reads s u 1 s.pass (record {
+      step_reads s u 1 (after_step s.pass) (record {
         table = call.table;
         number = call.number;
         held = call.held;

@@ -1,5 +1,5 @@
 -- A call in one piece: its parts make the whole, whether its arguments decide it or the rows do.
-use Rattle.std.proofs.Common.{◌≡◌, ℕ, ◌+◌, List, [], ◌∷◌, ◌++◌, length, sym, refl, ap, ◌∙◌, subst, arith, inl}
+use Rattle.std.proofs.Common.{◌≡◌, ℕ, ◌+◌, ◌*◌, ◌≤◌, List, [], ◌∷◌, ◌++◌, length, sym, refl, ap, ◌∙◌, subst, arith, inl}
 use Rattle.std.specs.Prelude.{All, Option, Some, None, MatchOption}
 use Rattle.std.specs.List.{splice}
 use mathlib.Core.Option.{some}
@@ -7,29 +7,33 @@ use lib.ListN.{get_elem?}
 use Rattle.page_types.specs.declared.calls.Call.{Call}
 use Rattle.page_types.specs.declared.calls.Call.TheVariants.{Map, Unmap, Protect, Fault, Seal, Brk, Remap}
 use Rattle.page_types.specs.declared.calls.Reply.{Reply}
+use Rattle.page_types.specs.declared.calls.Reply.TheVariants.{Refused}
+use Rattle.page_types.specs.declared.calls.Why.{Why}
 use Rattle.page_types.specs.PlainReply.{plain_reply}
 use Rattle.space_model.specs.declared.areas.Area.{Area}
 use Rattle.space_model.specs.declared.entries.Entry.{Entry}
 use Rattle.space_model.specs.declared.entries.Under.TheVariants.{Nothing, Whole}
 use Rattle.space_model.specs.Answers.Answers.{by_arguments}
 use Rattle.space_model.specs.Held.{FitsByState}
+use Rattle.atomic_table.specs.Seated.{TableId}
 use Rattle.range_rw.specs.Contract.{SeatState, IsLockCall, IsRelease}
 use Rattle.range_rw.specs.Contract.{Record}
 use Rattle.area_guard.specs.declared.guard.Pass.{Pass}
 use Rattle.area_guard.specs.declared.guard.Pending.{Pending}
 use Rattle.row_plans.specs.RowLists.{areas_from}
-use Rattle.space_model.specs.Areas.{kind_at}
+use Rattle.row_plans.proofs.PlanLeft.{counted_rows}
+use Rattle.space_model.specs.Areas.{kind_at, row_count}
 use Rattle.row_plans.specs.declared.planning.Cut.{Cut}
 use Rattle.row_plans.specs.Plans.{PlanShows, spliced, IsPlan, LeavesRows}
 use Rattle.page_types.specs.Classes.{IsFault}
-use Rattle.area_guard.specs.Rows.{rows_in}
+use Rattle.area_guard.specs.Rows.{blocks_by, number_place, rows_in}
 use Rattle.area_guard.specs.Reads.{everything, known_rows, KnowsRows, StillStands}
 use Rattle.area_guard.specs.History.{HasBlocks, StartsWith, Runs, RowsStandFor, IsAtRest, HoldsFor, rest_of}
 use Rattle.area_guard.specs.Writes.{everything_pages}
 use Rattle.area_rows.specs.Callers.{CallerView, IsMoment, MayNumber, IsKnown, HasPlanned, IsReading, IsNumbered, IsDrawn, IsWritten}
-use Rattle.area_rows.specs.Called.{IsLastStep, IsCalled}
+use Rattle.area_rows.specs.Called.{IsLastPlace, IsLastStep, IsCalled, EndsSoon}
 use Rattle.area_rows.proofs.Moments.{stands, nobody_plans, rows_are}
-use Rattle.area_guard.proofs.Slots.{layout_long}
+use Rattle.area_guard.specs.Slots.{layout_long}
 use Rattle.row_blocks.specs.declared.positions.Position.{Position}
 use Rattle.row_blocks.proofs.RowSplices.{splice_none}
 use Rattle.plan_words.specs.Places.{number_at}
@@ -154,7 +158,7 @@ called_from a b c e line call free lock same called =
       last = record {
         place = called.last.place;
         step = called.last.step;
-        word = called.last.word;
+        word = subst (λ (t : TableId). IsLastPlace (blocks_by t) e.under called.last.place) lock.table called.last.word;
         client = called.last.client;
         since = let l = lock.taken in let m = called.last.since in omega arith;
         until = called.last.until;
@@ -201,10 +205,47 @@ last_whole a b p n w d e pending call reading drawn written release = record {
   until = let u = written.until in let l = release.least in omega arith;
 }
 
+-- a caller that holds everything knows as many rows as the state has
+rows_counted : (c : CallerView) → c.seat.held ≡ Some everything → IsAtRest c.seat.pass → IsKnown c
+    → (start : List Area) (history : List Entry) (state : List Area) (words : List ℕ) → IsMoment c.seat start history state words
+    → length (known_rows c.seat.pass) ≡ row_count state
+rows_counted c held rest known start history state words m =
+    let rows = known_rows c.seat.pass in
+    let are = rows_are m.grants start history state words m.passes c.seat.number m.pass rows m.running m.backed m.exclusive
+    m.own (m.granted ∙ ap some held) (m.read.pending ∙ rest) (rows_now c held rest known.rows start history state words m) in
+    counted_rows rows known.list ∙ ap row_count are.1
+
+-- and its steps from the draw on are those of the writing and of giving back
+pub ends_soon : {a b n w d : SeatState Pass} {p : CallerView} {e : Entry} {pending : Pending} → IsLockCall a b → IsReading b p.seat
+    → p.seat.held ≡ Some everything → IsAtRest p.seat.pass → IsKnown p → IsDrawn p.seat e pending n → IsWritten n w → IsRelease rest_of w d
+    → w.trace.taken ≤ n.trace.taken + (2 * length p.more + 13 * blocks_by a.table + 1832)
+    → ((why : Why) → e.reply ≡ Refused why → w.trace.taken ≡ n.trace.taken + 1) → EndsSoon a e d
+ends_soon {a} {d} {p} call reading held rest known drawn written release steps refused =
+    let num = drawn.numbered in
+    let since = ap (λ (x : Pass). x.since) release.pass in
+    let counted = written.counted in
+    let none = drawn.since in
+    record {
+      history = num.history;
+      state = num.state;
+      runs = subst (λ (l : List Area). Runs 0 l num.history num.state) (reading.start ∙ ap (λ (x : Pass). x.start) call.pass) num.runs;
+      in_order = num.in_order;
+      seen = ap (λ (x : Pass). x.seen) release.pass ∙ (written.seen ∙ num.seen);
+      since =
+          let rows = rows_counted p held rest known _ _ _ _ drawn.moment in
+          let grows = known.grows in
+          let there = known.there in
+          omega arith;
+      refused = λ why is. let one = refused why is in omega arith;
+      step = written.step;
+      client = release.client ∙ written.client;
+      back = let l = written.last in let most = release.most in omega arith;
+    }
+
 -- a draw is the last step of a call under nothing
 pub last_drawn : (a n : SeatState Pass) (e : Entry) (pending : Pending) → IsDrawn a e pending n → IsLastStep a Nothing n
 last_drawn a n e pending drawn = record {
-  place = 0;
+  place = number_place (blocks_by a.table);
   step = a.trace.taken;
   word = refl;
   client = ap (λ (x : Record). x.client) drawn.trace;

@@ -15,7 +15,7 @@ use Rattle.plan_words.specs.Reading.{MayLoadAll}
 use Rattle.area_rows.specs.Callers.{CallerView, HasToWrite, MayPlan, plan_of}
 
 -- where a caller may plan its seat may load all rows
-pub may_load : (shape : TableShape) (nb count : ℕ) (s : SeatState Pass) → 21 + 129 * nb ≤ shape.client → nb ≡ blocks_by shape.table → nb ≤ 2048
+pub may_load : (shape : TableShape) (nb count : ℕ) (s : SeatState Pass) → 36 + 129 * nb ≤ shape.client → nb ≡ blocks_by shape.table → nb ≤ 2048
     → s.pass.blocks ≡ blocks_by s.table → MayPlan shape.table count s → MayLoadAll shape nb count s
 may_load shape nb count s wide is few blocks may =
     let all : s.pass.blocks ≡ nb = blocks ∙ (ap blocks_by may.table_is ∙ sym is) in
@@ -30,7 +30,7 @@ may_load shape nb count s wide is few blocks may =
     }
 
 -- the same by the space and the caller as the code has them
-pub may_load_in : (shape now : TableShape) (v w : CallerView) (nb count : ℕ) → shape ≡ now → v ≡ w → 21 + 129 * nb ≤ shape.client
+pub may_load_in : (shape now : TableShape) (v w : CallerView) (nb count : ℕ) → shape ≡ now → v ≡ w → 36 + 129 * nb ≤ shape.client
     → nb ≡ blocks_by shape.table → nb ≤ 2048 → v.seat.pass.blocks ≡ blocks_by v.seat.table → MayPlan now.table count w.seat
     → MayLoadAll shape nb count v.seat
 may_load_in shape now v w nb count space caller wide is few blocks may = may_load shape nb count v.seat wide is few blocks
@@ -52,7 +52,7 @@ pub record IsReady (shape : TableShape) (nb count : ℕ) (at : Position) (gone :
   pub some : 0 < length (rows_after (plan_at seat))
 
 -- the seat of a caller that has its plan to write may
-pub ready : (shape : TableShape) (nb : ℕ) (v : CallerView) → 21 + 129 * nb ≤ shape.client → nb ≡ blocks_by shape.table → nb ≤ 2048
+pub ready : (shape : TableShape) (nb : ℕ) (v : CallerView) → 36 + 129 * nb ≤ shape.client → nb ≡ blocks_by shape.table → nb ≤ 2048
     → v.seat.table ≡ shape.table → v.seat.pass.blocks ≡ blocks_by v.seat.table → HasToWrite v
     → IsReady shape nb v.count v.cut.at v.cut.gone v.more v.seat
 ready shape nb v wide is few table blocks has =

@@ -1,9 +1,15 @@
 -- What every call promises that gives an entry, whichever it is: a fault, a change of protection, or one that changes
 -- rows. It is one clause, so that who uses several of them needs one lemma. The entry stands in the one history
 -- (Herlihy and Wing, TOPLAS 1990), and the caller held what it names at the step that drew its number.
-use Rattle.std.specs.Prelude.{ℕ, ◌≡◌, ◌<◌, ◌≤◌, ◌+◌, ◌⊎◌, Some}
+use Rattle.std.specs.Prelude.{ℕ, ◌≡◌, ◌<◌, ◌≤◌, ◌+◌, ◌*◌, ◌⊎◌, Some, MatchOption, List, [], ◌∷◌, ◌++◌}
+use Rattle.page_types.specs.declared.TheConstants.{SPARE}
 use Rattle.page_types.specs.declared.calls.Call.{Call}
+use Rattle.page_types.specs.declared.calls.Reply.TheVariants.{Refused}
+use Rattle.page_types.specs.declared.calls.Why.{Why}
 use Rattle.page_types.specs.Named.{IsNamedReply}
+use Rattle.page_types.specs.PlainReply.{plain_reply}
+use Rattle.space_model.specs.declared.areas.Area.{Area as Areas}
+use Rattle.space_model.specs.Areas.{IsAreaList, row_count}
 use Rattle.space_model.specs.declared.entries.Entry.{Entry}
 use Rattle.space_model.specs.declared.entries.Under.{Under}
 use Rattle.space_model.specs.declared.entries.Under.TheVariants.{Nothing, Reader, Area, Whole}
@@ -11,23 +17,24 @@ use Rattle.range_rw.specs.Contract.{SeatState}
 use Rattle.area_guard.specs.declared.guard.Pass.{Pass}
 use Rattle.area_rows.specs.declared.answer.Answer.{Answer}
 use Rattle.area_rows.specs.declared.answer.Answer.TheVariants.{Given, Spent}
-use Rattle.area_guard.specs.History.{IsAtRest}
+use Rattle.area_guard.specs.Rows.{blocks_by, number_place}
+use Rattle.area_guard.specs.History.{Runs, IsAtRest}
 use Rattle.area_rows.specs.Callers.{CallerView, IsNumbered}
 
--- the client word of a call's last step: the number word; over an area this, or a row word where a row changes; under
--- everything the sequence word
-abbrev pub IsLastPlace : Under → ℕ → Type 0
-IsLastPlace Nothing place = place ≡ 0
-IsLastPlace (Reader span) place = place ≡ 0
-IsLastPlace (Area span) place = (place ≡ 0) ⊎ (3 ≤ place)
-IsLastPlace Whole place = place ≡ 1
+-- the client word of a call's last step, over so many blocks: the number word; over an area this, or a row word where
+-- a row changes; under everything the sequence word
+abbrev pub IsLastPlace : ℕ → Under → ℕ → Type 0
+IsLastPlace nb Nothing place = place ≡ number_place nb
+IsLastPlace nb (Reader span) place = place ≡ number_place nb
+IsLastPlace nb (Area span) place = (place ≡ number_place nb) ⊎ (3 ≤ place)
+IsLastPlace nb Whole place = place ≡ 1
 
 -- the last step that the caller made on a client word was made in this call, on that word: it has a number not below
 -- that of the steps at the call's entry
 pub record IsLastStep (before : SeatState Pass) (under : Under) (after : SeatState Pass) : Type 0 where
   pub place : ℕ
   pub step : ℕ
-  pub word : IsLastPlace under place
+  pub word : IsLastPlace (blocks_by before.table) under place
   pub client : after.trace.client ≡ Some (record { place = place; step = step })
   pub since : before.trace.taken ≤ step
   pub until : step < after.trace.taken
@@ -48,3 +55,26 @@ pub record IsCalled (before : CallerView) (line : ℕ) (call : Call) (e : Entry)
 abbrev pub IsAnswered : CallerView → ℕ → Call → Answer → CallerView → Type 0
 IsAnswered before line call (Given e) after = (0 < before.left) × IsCalled before line call e after
 IsAnswered before line call Spent after = (before.left ≡ 0) × (after ≡ before)
+
+-- how a call under everything ends. From the step that drew its number on it made at most two steps on client words for
+-- each row of the state before its entry and for SPARE more, 13 for each block that the space has room for, and 1832
+-- more; after a refusal the one that raises the sequence word. That was the last of them, and behind it came one step
+-- of the lock or two, by which the pages were given back
+pub record EndsSoon (before : SeatState Pass) (e : Entry) (after : SeatState Pass) : Type 0 where
+  pub history : List Entry
+  pub state : List Areas
+  pub runs : Runs 0 before.pass.start history state
+  pub in_order : IsAreaList state
+  pub seen : after.pass.seen ≡ history ++ e ∷ []
+  pub since : after.pass.since ≤ 2 * (row_count state + SPARE) + 13 * blocks_by before.table + 1832
+  pub refused : (why : Why) → e.reply ≡ Refused why → after.pass.since ≡ 1
+  pub step : ℕ
+  pub client : after.trace.client ≡ Some (record { place = 1; step = step })
+  pub back : after.trace.taken ≤ step + 3
+
+-- how many steps a call takes: one where its arguments decide it, and none where no number is left. Any other waits
+-- until it holds everything, and ends soon
+abbrev pub TakesSteps : SeatState Pass → Call → Answer → SeatState Pass → Type 0
+TakesSteps before call (Given e) after =
+    MatchOption (plain_reply call) (EndsSoon before e after) (λ _. after.trace.taken ≡ before.trace.taken + 1)
+TakesSteps before call Spent after = after.trace.taken ≡ before.trace.taken

@@ -32,7 +32,7 @@ use Rattle.area_rows.specs.declared.space.SpaceFault.{SpaceFault}
 use Rattle.area_rows.specs.declared.space.SpaceFault.TheVariants.{Callers, Rows, Memory}
 use Rattle.row_plans.specs.RowWords.{row_start, row_kind}
 use Rattle.area_guard.specs.Rows.{layout_in, slots_of, slot_at, slots_in, AreNeighbours, IsOneOf, IsFirstOf, IsLastOf, IsNext, IsRowOf, rows_in}
-use Rattle.area_guard.specs.Rows.{blocks_by, room_of, IsInReach}
+use Rattle.area_guard.specs.Rows.{blocks_by, number_place, room_of, IsInReach}
 use Rattle.row_plans.specs.declared.planning.Cut.{Cut}
 use Rattle.row_plans.specs.Plans.{IsRowList, spliced, IsPlan}
 use Rattle.area_guard.specs.Reads.{everything, IsHeldPage, HasRead, known_rows, KnowsRows}
@@ -271,6 +271,7 @@ new_pass start blocks most = record {
   pending = AtRest;
   drew = None;
   looks = [];
+  since = 0;
 }
 
 -- the callers of a new space with so many lists, in order of their numbers, each with as many numbers to draw as was
@@ -328,7 +329,7 @@ pub record IsLook (before : SeatState Pass) (found : ℕ) (after : SeatState Pas
   pub state : List Area
   pub words : List ℕ
   pub moment : IsMoment before before.pass.start after.pass.seen state words
-  pub step : IsClientStep before 0 (after_look after.pass.seen before.held before.pass) after
+  pub step : IsClientStep before (number_place (blocks_by before.table)) (after_look after.pass.seen before.held before.pass) after
   pub more : StartsWith after.pass.seen before.pass.seen
   pub count : length after.pass.seen ≡ found
 
@@ -368,6 +369,7 @@ pub record IsDrawn (before : SeatState Pass) (e : Entry) (pending : Pending) (af
   pub moment : IsMoment before before.pass.start numbered.history numbered.state words
   pub drew : after.pass.drew ≡ before.held
   pub looks : after.pass.looks ≡ before.pass.looks
+  pub since : after.pass.since ≡ 0
   pub pools : after.pools ≡ before.pools
   pub further : after.further ≡ before.further
   pub blocks : after.pass.blocks ≡ before.pass.blocks
@@ -375,7 +377,7 @@ pub record IsDrawn (before : SeatState Pass) (e : Entry) (pending : Pending) (af
   pub fits : FitsIn pending after.pass.blocks
   pub writes : after.pass.pending ≡ pending
   pub keeps : KeepsRows pending before.pass after.pass
-  pub trace : after.trace ≡ client_trace before.trace 0
+  pub trace : after.trace ≡ client_trace before.trace (number_place (blocks_by before.table))
 
 -- the whole history of callers that have stopped: it runs from what each began with to the areas that are left, which
 -- are an area list; calls, replies and areas have named bits alone; each caller's entries stand in it in order, no

@@ -6,6 +6,7 @@ ghost use Rattle.page_types.specs.declared.TheConstants.{LIMIT};
 ghost use Rattle.space_model.specs.Areas.{IsAreaList, HasNamedKinds, row_count};
 ghost use Rattle.row_plans.specs.RowLists.{gap_rows, rows_from};
 ghost use Rattle.row_blocks.specs.Blocks.{IsLaidOut, blocks_of, rows_of, rows_in};
+ghost use Rattle.area_guard.specs.Rows.{number_place};
 ghost use Rattle.area_rows.specs.Opening.{IsOpening};
 
 use crate::words::{FIRST_ROW, ROW_COUNT};
@@ -60,10 +61,10 @@ fn set_quotas(words: &mut [u64], from: usize, calls: &[u32])
 pub(crate) fn spare_words(lock: u64, blocks: u32) -> u32
     requires lock { lock ≤ 2 ^ 32 }
     requires few { blocks ≤ 2048 }
-    ensures tells { (lock + (21 + 129 * blocks + result)) % 257 ≡ blocks / 8 }
+    ensures tells { (lock + (36 + 129 * blocks + result)) % 257 ≡ blocks / 8 }
     ensures most { result < 257 }
 {
-    let wide = lock + (21 + 129 * u64::from(blocks));
+    let wide = lock + (36 + 129 * u64::from(blocks));
     ((u64::from(blocks / 8) + 256 * wide) % 257) as u32
 }
 
@@ -79,15 +80,15 @@ fn words_around(
     requires callers { length calls.now ≤ 16 }
     requires few { blocks ≤ 2048 }
     requires spare { spare < 257 }
-    ensures wide { IfOk result (λ words. length words.items ≡ 21 + 129 * blocks + spare) }
-    ensures number { IfOk result (λ words. slice_index words.items 0 ≡ 0) }
+    ensures wide { IfOk result (λ words. length words.items ≡ 36 + 129 * blocks + spare) }
+    ensures number { IfOk result (λ words. slice_index words.items (number_place blocks) ≡ 0) }
     ensures sequence { IfOk result (λ words. slice_index words.items 1 ≡ 0) }
     ensures count { IfOk result (λ words. slice_index words.items 2 ≡ rows) }
     ensures blocks { IfOk result (λ words. slice_index words.items (length words.items - 17) ≡ blocks) }
     ensures quotas { IfOk result (λ words. (n : ℕ) → n < length calls.now
         → slice_index words.items (length words.items - 16 + n) ≡ slice_index calls.now n) }
 {
-    let all = 21 + 129 * blocks as usize + spare as usize;
+    let all = 36 + 129 * blocks as usize + spare as usize;
     let mut words = vec![in alloc; 0; all]?;
     words[ROW_COUNT as usize] = u64::from(rows);
     words[all - 17] = u64::from(blocks);
@@ -133,7 +134,7 @@ pub(crate) fn words_of(
     requires few { blocks ≤ 2048 }
     requires spare { spare < 257 }
     ensures words { IfOk result (λ words. IsOpening start.now calls.now blocks words.items) }
-    ensures wide { IfOk result (λ words. length words.items ≡ 21 + 129 * blocks + spare) }
+    ensures wide { IfOk result (λ words. length words.items ≡ 36 + 129 * blocks + spare) }
 {
     let mut list = Vec::with_capacity(alloc, rows as usize)?;
     push_rows(&mut list, start)?;

@@ -53,7 +53,7 @@ impl Model for Space {
 
     ghost view = { λ s. s.table };
 
-    ghost invariant = { λ s. (21 + 129 * s.blocks ≤ s.table.client) × (s.blocks ≡ blocks_by s.table.table) × (s.blocks ≤ 2048) × (2 < s.blocks)
+    ghost invariant = { λ s. (36 + 129 * s.blocks ≤ s.table.client) × (s.blocks ≡ blocks_by s.table.table) × (s.blocks ≤ 2048) × (2 < s.blocks)
         × (0 < s.table.seats) };
 }
 

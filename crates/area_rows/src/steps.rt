@@ -105,7 +105,7 @@ impl Space {
         ensures rows { HasSameRows caller.old caller.new }
     {
         self.table
-            .load_as_uncounted::<By<Brand>>(&mut caller.seat, NUMBER)
+            .load_as_uncounted::<By<Brand>>(&mut caller.seat, NUMBER + 129 * self.blocks)
     }
 
     /// Loads the sequence word. Where the caller, which is of this space, holds a range, it is the number of the
@@ -135,6 +135,7 @@ impl Space {
     ) -> u64
         requires note { N.noted ≡ entry_note draft.now (pending_of draft.now.under (splice_of seat.old cut more.now) change) }
         requires table { seat.old.table ≡ self.now.table }
+        requires blocks { seat.old.pass.blocks ≡ blocks_by seat.old.table }
         requires worker { seat.old.number ≡ draft.now.worker }
         requires few { length seat.old.pass.mine + 1 ≤ seat.old.pass.most }
         requires named { IsNamedCall draft.now.call }
@@ -146,7 +147,8 @@ impl Space {
         ensures drawn { IsDrawn seat.old (record draft.now { number = result }) (pending_of draft.now.under (splice_of seat.old cut more.now) change) seat.new }
         ensures taken { seat.new.trace.taken ≡ seat.old.trace.taken + 1 }
     {
-        self.table.add_as_uncounted::<By<N>>(seat, NUMBER, 1)
+        self.table
+            .add_as_uncounted::<By<N>>(seat, NUMBER + 129 * self.blocks, 1)
     }
 
     /// The same as `number`, without a counter of steps.

@@ -10,13 +10,14 @@ ghost use Rattle.page_types.specs.PlainReply.{plain_reply};
 ghost use Rattle.space_model.specs.declared.entries.Under.TheVariants.{Whole};
 ghost use Rattle.row_plans.specs.RowLists.{areas_from};
 ghost use Rattle.row_plans.specs.Plans.{spliced, IsPlan, LeavesRows};
+ghost use Rattle.row_plans.specs.Loads.{TakesLoads};
 ghost use Rattle.range_rw.specs.Contract.{AsksFor};
 ghost use Rattle.area_guard.specs.Reads.{everything, known_rows};
 ghost use Rattle.page_types.specs.Classes.{IsFault};
 ghost use Rattle.area_guard.specs.History.{IsAtRest};
 ghost use Rattle.plan_words.specs.Places.{number_at};
 ghost use Rattle.area_rows.specs.Callers.{HasPlanned, IsKnown, IsReading, MayPlan};
-ghost use Rattle.area_rows.specs.Called.{IsAnswered, IsCalled};
+ghost use Rattle.area_rows.specs.Called.{IsAnswered, IsCalled, EndsSoon, TakesSteps};
 
 use crate::answer::Answer;
 use crate::space::{Caller, Space};
@@ -38,6 +39,7 @@ impl Caller {
         ensures plan { IsPlan call.now result.0 result.1 (spliced (λ at. number_at self.new.seat.pass at) (known_rows self.new.seat.pass)
             self.new.cut self.new.more) (areas_from (known_rows self.new.seat.pass)) }
         ensures leaves { (why : Why) → result.0 ≡ Refused why → LeavesRows self.new.cut self.new.more }
+        ensures loads { TakesLoads (known_rows self.new.seat.pass) call.now self.old.seat.trace.taken self.new.seat.trace.taken }
     {
         let rows = HeldRows {
             words: HeldWords {
@@ -58,7 +60,10 @@ impl Space {
     /// that it makes of them goes into the caller's own room. The caller is of this space, holds everything as a
     /// writer, and has written what it has numbered. The plan is right until the caller draws a number or gives the
     /// range back. That of a refused call leaves the rows as they are: none goes and none comes, so `write_plan` takes
-    /// one step. Rows are loaded only where the plan needs them. It takes no memory.
+    /// one step. It takes no memory. The row count is one load, and a call that its arguments decide takes no more.
+    /// Another one searches the pages that it names, once or twice, by at most 24 loads a search and four for each row
+    /// that starts among them; one that looks for a place goes through the rows from the last of its window down to
+    /// the first place where the pages fit; and a change takes 24 loads and six for each row among its pages.
     pub fn plan(&self, caller: &mut Caller, call: &Call) -> (Reply, u32)
         requires table { caller.old.seat.table ≡ self.now.table }
         requires held { caller.old.seat.held ≡ Some everything }
@@ -72,6 +77,7 @@ impl Space {
         ensures leaves { (why : Why) → result.0 ≡ Refused why → LeavesRows caller.new.cut caller.new.more }
         ensures reading { IsReading caller.old.seat caller.new.seat }
         ensures left { caller.new.left ≡ caller.old.left }
+        ensures loads { TakesLoads (known_rows caller.new.seat.pass) call.now (caller.old.seat.trace.taken + 1) caller.new.seat.trace.taken }
     {
         let count = self.load_count(caller) as u32;
         caller.plan_call(self, count, call)
@@ -99,7 +105,9 @@ impl Space {
     /// Makes a call under everything, one that is no fault and that its arguments don't decide. It waits until the
     /// caller holds all pages, plans the call, draws its number, writes what it leaves, and gives the pages back. The
     /// caller is of this space, holds nothing and has a number left; `line` is the line of the input that names the
-    /// call, counted from 1.
+    /// call, counted from 1. Behind the draw it makes at most two steps on client words for each row that there was and
+    /// for four more, 13 for each block that the space has room for, and 1832 more; one where the call is refused. Then
+    /// one step or two give the pages back.
     pub fn call_whole<R: Wait>(&self, wait: &R, caller: &mut Caller, line: u32, call: Call) -> Entry
         requires table { caller.old.seat.table ≡ self.now.table }
         requires free { caller.old.seat.held ≡ None }
@@ -111,6 +119,7 @@ impl Space {
         ensures under { result.under ≡ Whole }
         ensures asks { AsksFor everything caller.old.seat.trace.asked caller.new.seat.trace.asked }
         ensures looks { caller.new.seat.pass.looks ≡ caller.old.seat.pass.looks }
+        ensures soon { EndsSoon caller.old.seat result caller.new.seat }
     {
         caller.holds_pages();
         let all = Span { lo: 0, hi: LIMIT };
@@ -125,6 +134,7 @@ impl Space {
     /// Makes a call that is no fault, such as a Map or a Remap; a Protect holds all pages then. The caller is of this
     /// space and holds nothing, and the call has named bits alone; `line` is the line of the input that names it,
     /// counted from 1. It waits until the caller holds all pages; a call that its arguments decide holds nothing.
+    /// From its draw on its steps are bounded as those of `call_whole`; a call that its arguments decide takes one.
     /// `Spent` comes exactly where the caller has no number left, and nothing has changed then.
     pub fn call<R: Wait>(&self, wait: &R, caller: &mut Caller, line: u32, call: Call) -> Answer
         requires table { caller.old.seat.table ≡ self.now.table }
@@ -132,6 +142,7 @@ impl Space {
         requires call { ¬ IsFault call }
         requires named { IsNamedCall call }
         ensures answer { IsAnswered caller.old line call result caller.new }
+        ensures steps { TakesSteps caller.old.seat call result caller.new.seat }
     {
         if caller.left() == 0 {
             return Answer::Spent;

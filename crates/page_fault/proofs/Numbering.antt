@@ -32,6 +32,8 @@ use Rattle.area_guard.specs.declared.guard.Pass.{Pass}
 use Rattle.area_guard.specs.declared.guard.Pending.TheVariants.{AtRest}
 use Rattle.area_rows.specs.declared.row.Row.{Row}
 use Rattle.area_rows.specs.History.{StartsWith, Runs, IsRight, HoldsFor, rest_of}
+use Rattle.area_rows.specs.Seated.{TableId}
+use Rattle.area_rows.specs.Rows.{blocks_by, number_place}
 use Rattle.area_rows.specs.Reads.{IsHeldPage}
 use Rattle.area_rows.specs.Callers.{CallerView, held_span, MayNumber, IsReading, IsDrawn, RowIs, Shows}
 use Rattle.area_rows.specs.Called.{IsCalled, IsLastPlace}
@@ -101,9 +103,10 @@ called_held b r n d e line call span reading same line_is call_is under named dr
         held = release.held;
       };
       last = record {
-        place = 0;
+        place = number_place (blocks_by r.seat.table);
         step = r.seat.trace.taken;
-        word = subst (λ u. IsLastPlace u 0) (sym under) refl;
+        word = subst (λ u. IsLastPlace (blocks_by b.seat.table) u (number_place (blocks_by r.seat.table))) (sym under)
+            (ap (λ (t : TableId). number_place (blocks_by t)) reading.table);
         client = release.client ∙ ap (λ (t : Record). t.client) drawn.trace;
         since = reading.taken;
         until = let m = release.least in omega arith;

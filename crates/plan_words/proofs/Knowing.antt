@@ -12,7 +12,7 @@ use Rattle.area_guard.specs.declared.guard.Pass.{Pass}
 use Rattle.area_guard.specs.Rows.{nb_in, layout_in, slots_to}
 use Rattle.area_guard.specs.Reads.{HasRead, word_of, words_of}
 use Rattle.area_guard.specs.History.{StillLaid, HasBlocks}
-use Rattle.area_guard.proofs.Slots.{layout_word}
+use Rattle.area_guard.specs.Slots.{layout_word}
 use Rattle.row_blocks.specs.Blocks.{run}
 use Rattle.area_guard.specs.Reads.{layout_by, known_count, known_words, KnowsWords}
 

@@ -1,11 +1,10 @@
 -- The rows that a caller knows are those that stand among the client words; so where the rows of its splice are written
 -- the guard allows it to raise the sequence word.
-use Rattle.std.proofs.Common.{◌≡◌, ℕ, ◌+◌, ◌-◌, ◌*◌, ◌/◌, ◌%◌, ◌<◌, ◌≤◌, List, [], ◌∷◌, ◌++◌, drop, take, length, inl, inr}
+use Rattle.std.proofs.Common.{◌≡◌, ℕ, ◌+◌, ◌-◌, ◌*◌, ◌<◌, ◌≤◌, List, [], ◌++◌, drop, take, length, inl, inr}
 use Rattle.std.proofs.Common.{sym, refl, ap, ◌∙◌, subst, arith}
-use Rattle.std.proofs.lemmas.List.{get_or-drop, get_or-map, length-map, length-drop, length-take-le, drop_at, take_at, nil_from_length}
+use Rattle.std.proofs.lemmas.List.{get_or-drop, length-drop, length-take-le, drop_at, take_at, nil_from_length}
 use Rattle.std.proofs.lemmas.List.Elements.{All-from_get_or, All-weaker, All-drop, All-take}
-use Rattle.std.proofs.lemmas.Grind.{same_number_lists}
-use Rattle.std.specs.Prelude.{All, Option, Some, map, slice_index}
+use Rattle.std.specs.Prelude.{All, Option, Some, slice_index}
 use mathlib.Core.Option.{some}
 use lib.ListN.{get_elem?}
 use Rattle.lock_core.proofs.ByPlace.{there, at_or}
@@ -22,64 +21,15 @@ use Rattle.area_guard.specs.Reads.{everything}
 use Rattle.area_guard.specs.History.{HasHistory, Allowed, IsPlanRow, rows_after, after_raise}
 use Rattle.area_guard.specs.History.MayAdd.{raise}
 use Rattle.area_guard.specs.Keeping.{no_note}
-use Rattle.area_guard.proofs.Slots.{slots_as}
-use Rattle.row_blocks.specs.Blocks.{pieces, run, blocks_of, rows_of, IsLaidOut, slots_of as slots_by, slots_in as slots_all, rows_in as rows_by}
+use Rattle.area_guard.specs.Alike.{also_laid, also_rows, also_free, also_short}
+use Rattle.area_guard.specs.Slots.{slots_as}
+use Rattle.row_blocks.specs.Blocks.{blocks_of, rows_of, IsLaidOut, rows_in as rows_by}
 use Rattle.std.specs.List.{splice}
-use Rattle.row_blocks.proofs.Pieces.{same_pieces}
 use Rattle.row_blocks.proofs.RowSplices.{length-splice, splice_none}
-use Rattle.row_blocks.proofs.Slots.{rows_are, length-slots_in, length-rows_in, kth_slot, slot_below}
+use Rattle.row_blocks.proofs.Slots.{length-slots_in, length-rows_in}
 use Rattle.area_guard.specs.Reads.{known_count, known_rows, known_words, KnowsWords, KnowsBlocks}
 use Rattle.plan_words.proofs.Moments.{here_at, part_at, backs_at}
 use Rattle.plan_words.proofs.Storing.{word_now, count_now}
-
--- lists whose words are the same up to the end of the layout
-module _ {nb : ℕ} {one : List ℕ} (two : List ℕ) (laid : IsLaidOut nb one) (wide : 129 * nb + 1 ≤ length two)
-    (same : (t : ℕ) → t < 129 * nb + 1 → slice_index two t ≡ slice_index one t) where
-  count : blocks_of nb two ≡ blocks_of nb one
-  count = let s = laid.some in let p = laid.spare in same (128 * nb) (omega arith)
-
-  told : (i : ℕ) → i < nb → slice_index two (128 * nb + 1 + i) ≡ slice_index one (128 * nb + 1 + i)
-  told i lt = same (128 * nb + 1 + i) (omega arith)
-
-  -- are laid out alike
-  pub also_laid : IsLaidOut nb two
-  also_laid = let some_block = laid.some in let spare = laid.spare in let c = count in record {
-    wide = wide;
-    some = omega arith;
-    spare = omega arith;
-    bodies = λ i lt. let e = told i lt in let b = laid.bodies i lt in omega arith;
-    apart = λ i j a b e. laid.apart i j a b (sym (ap (λ (x : ℕ). x / 128) (told i a)) ∙ (e ∙ ap (λ (x : ℕ). x / 128) (told j b)));
-  }
-
-  slots_alike : slots_all nb two ≡ slots_all nb one
-  slots_alike =
-      let spare = laid.spare in
-      ap (pieces (slots_by nb two)) count
-      ∙ same_pieces (slots_by nb one) (slots_by nb two) (blocks_of nb one) (λ k lt.
-      let e = told k (omega arith) in
-      ap (λ (x : ℕ). k ∷ run (nb + 127 * (x / 128)) (x % 128)) e)
-
-  -- and have the same rows
-  pub also_rows : rows_by nb two ≡ rows_by nb one
-  also_rows =
-      let slots : List ℕ = slots_all nb one in
-      let a = length-map slots (slice_index two) in
-      let b = length-map slots (slice_index one) in
-      let words : map (slice_index two) slots ≡ map (slice_index one) slots =
-      same_number_lists (map (slice_index two) slots) (map (slice_index one) slots) (omega arith) (λ k lt.
-      let less : k < length slots = omega arith in
-      let at = kth_slot nb one k less in
-      let low = slot_below nb one at.i at.j (slice_index slots k) laid at.is in
-      get_or-map (slice_index two) slots k 0 0 less
-      ∙ (same (slice_index slots k) (omega arith) ∙ sym (get_or-map (slice_index one) slots k 0 0 less))) in
-      sym (rows_are nb two also_laid) ∙ (ap (map (slice_index two)) slots_alike ∙ (words ∙ rows_are nb one laid))
-
-  pub also_free : blocks_of nb one < nb → blocks_of nb two < nb
-  also_free lt = subst (λ (n : ℕ). n < nb) (sym count) lt
-
-  pub also_short : blocks_of nb one < nb → rows_of nb one 0 < 64 → rows_of nb two 0 < 64
-  also_short free lt = let e : rows_of nb two 0 ≡ rows_of nb one 0 = ap (λ (x : ℕ). x % 128) (told 0 (omega arith)) in
-      subst (λ (n : ℕ). n < 64) (sym e) lt
 
 -- a seat that has a splice to write
 module _ (seat : ℕ) {held : Option Held} {pass : Pass} (plan : Splice) (all : held ≡ Some everything) (planned : pass.pending ≡ Planned plan)

@@ -9,11 +9,11 @@ use Rattle.area_guard.specs.declared.guard.Pass.{Pass}
 use Rattle.area_guard.specs.Rows.{nb_in, layout_in, rows_in, RowsShow}
 use Rattle.area_guard.specs.Reads.{HasRead, noted_at}
 use Rattle.area_guard.specs.History.{HasBlocks, after_seen}
-use Rattle.area_guard.proofs.Slots.{layout_long}
+use Rattle.area_guard.specs.Slots.{layout_long}
 use Rattle.row_blocks.specs.Blocks.{run, blocks_of, rows_of, IsLaidOut, rows_in as rows_by}
 use Rattle.area_guard.specs.Reads.{known_rows, known_words, KnowsWords, KnowsBlocks}
 use Rattle.plan_words.proofs.Knowing.{known_long}
-use Rattle.plan_words.proofs.Rows.{also_laid, also_rows, also_free, also_short}
+use Rattle.area_guard.specs.Alike.{also_laid, also_rows, also_free, also_short}
 
 -- the words of numbers from one on are read as they are noted
 noted_run : (words : List ℕ) (rows : List ReadRow) (from n k : ℕ) → k < n

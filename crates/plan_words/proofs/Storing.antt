@@ -30,15 +30,15 @@ use Rattle.area_guard.specs.History.MayLoad.{number, glance, sequence, layout, r
 use Rattle.area_guard.specs.History.MayStore.{store_row, store_count, store_layout}
 use Rattle.area_guard.specs.History.MayAdd.{draw, raise}
 use Rattle.area_guard.specs.Keeping.{no_note, steps_keep}
-use Rattle.area_guard.proofs.Slots.{layout_long}
+use Rattle.area_guard.specs.Slots.{layout_long}
 use Rattle.area_guard.specs.Reads.{known_count, known_words, KnowsWords}
-use Rattle.plan_words.specs.Writing.{HoldsWords, KeepsRead, WritesPlan, IsWriting, IsWritten, plan_at, splice_in}
+use Rattle.plan_words.specs.Writing.{HoldsWords, KeepsRead, WritesPlan, IsWriting, IsWritten, IsCountedOn, plan_at, splice_in}
 use Rattle.plan_words.proofs.Knowing.{known_at, count_at, same_known, set_known}
 use Rattle.plan_words.proofs.Moments.{here_at, part_at, rows_at}
 
--- a pass that knows another layout and other rows
+-- a pass that knows another layout and other rows, one step later
 abbrev knows : Option (List ℕ) → List ReadRow → Pass → Pass
-knows laid rows p = record p { laid = laid; rows = rows }
+knows laid rows p = record p { laid = laid; rows = rows; since = p.since + 1 }
 
 -- a caller knows others words than before, and all of them
 record Learns (p after : Pass) : Type 0 where
@@ -65,11 +65,12 @@ has_later words (s ∷ rest) rows i w h = inr (has_later words rest rows i w h)
 
 -- what a load of a word of the blocks leaves
 load_learns : {own : Option Held → Type 0} {free held : Type 0} {words : List ℕ} {history : List Entry} (place : ℕ) {p after : Pass}
-    → HasBlocks words p.blocks → KnowsWords p → MayLoad own free held words history (3 + place) p after → Learns p after
-load_learns place room k (number h o e is) = absurd (omega arith)
-load_learns place room k (glance f e is) = absurd (omega arith)
-load_learns place room k (sequence h e is) = absurd (omega arith)
-load_learns {words} place {p} room k (layout h at is) = record {
+    → place < 129 * p.blocks + 1 → HasBlocks words p.blocks → KnowsWords p → MayLoad own free held words history (3 + place) p after
+    → Learns p after
+load_learns place lt room k (number h o e is) = absurd (omega arith)
+load_learns place lt room k (glance f e is) = absurd (omega arith)
+load_learns place lt room k (sequence h e is) = absurd (omega arith)
+load_learns {words} place {p} lt room k (layout h at is) = record {
   laid = Some (layout_in words);
   rows = noted_at words (slots_to (nb_in words)) ++ p.rows;
   is = is;
@@ -77,10 +78,10 @@ load_learns {words} place {p} room k (layout h at is) = record {
     layout = layout_in words;
     laid = refl;
     long = let l = layout_long words room.1 in let b = room.0 in omega arith;
-    slots = λ slot lt. let r = k.slots slot lt in (r.0, has_later words (slots_to (nb_in words)) p.rows slot r.0 r.1);
+    slots = λ slot few. let r = k.slots slot few in (r.0, has_later words (slots_to (nb_in words)) p.rows slot r.0 r.1);
   };
 }
-load_learns {words} place {p} room k (row i h slot e is) = record {
+load_learns {words} place {p} lt room k (row i h slot e is) = record {
   laid = p.laid;
   rows = record { index = i; word = slice_index words (3 + i) } ∷ p.rows;
   is = is;
@@ -88,24 +89,24 @@ load_learns {words} place {p} room k (row i h slot e is) = record {
     layout = k.layout;
     laid = k.laid;
     long = k.long;
-    slots = λ s lt. let r = k.slots s lt in (r.0, inr r.1);
+    slots = λ s few. let r = k.slots s few in (r.0, inr r.1);
   };
 }
 
 -- and keeps
-load_keeps : {own : Option Held → Type 0} {free held : Type 0} {words : List ℕ} {history : List Entry} (place : ℕ) {p after : Pass} → StillLaid words p.laid
-    → MayLoad own free held words history (3 + place) p after → KeepsRead p after
-load_keeps place still (number h o e is) = absurd (omega arith)
-load_keeps place still (glance f e is) = absurd (omega arith)
-load_keeps place still (sequence h e is) = absurd (omega arith)
-load_keeps {words} place {p} still (layout h at is) = subst (KeepsRead p) (sym is) (record {
+load_keeps : {own : Option Held → Type 0} {free held : Type 0} {words : List ℕ} {history : List Entry} (place : ℕ) {p after : Pass}
+    → place < 129 * p.blocks + 1 → StillLaid words p.laid → MayLoad own free held words history (3 + place) p after → KeepsRead p after
+load_keeps place lt still (number h o e is) = absurd (omega arith)
+load_keeps place lt still (glance f e is) = absurd (omega arith)
+load_keeps place lt still (sequence h e is) = absurd (omega arith)
+load_keeps {words} place {p} lt still (layout h at is) = subst (KeepsRead p) (sym is) (record {
   laid = λ layout e. ap Some (still layout e);
   rows = λ i w h. has_later words (slots_to (nb_in words)) p.rows i w h;
   sequence = λ n e. e;
   pending = refl;
   blocks = refl;
 })
-load_keeps place {p} still (row i h slot e is) = subst (KeepsRead p) (sym is) (record {
+load_keeps place {p} lt still (row i h slot e is) = subst (KeepsRead p) (sym is) (record {
   laid = λ layout e. e;
   rows = λ j w h. inr h;
   sequence = λ n e. e;
@@ -227,6 +228,10 @@ module _ (seat : ℕ) {held : Option Held} {pass : Pass} (all : held ≡ Some ev
           ),
         )
 
+-- a step on a client word is one more of both counts
+one_more : {a b : SeatState Pass} {place : ℕ} → IsClientCall a place b → b.pass.since ≡ a.pass.since + 1 → IsCountedOn a b
+one_more {a} {b} call since = let t : b.trace.taken ≡ a.trace.taken + 1 = ap (λ (r : Record). r.taken) call.trace in omega arith
+
 -- a step on a word of the blocks, or on the row count, is a writing
 step_writes : {a b : SeatState Pass} {place : ℕ} → IsClientCall a place b → Learns a.pass b.pass → IsWriting a b
 step_writes {a} {b} call l = record {
@@ -244,6 +249,7 @@ step_writes {a} {b} call l = record {
   looks = ap (λ (x : Pass). x.looks) l.is;
   pending = ap (λ (x : Pass). x.pending) l.is;
   taken = let t : b.trace.taken ≡ a.trace.taken + 1 = ap (λ (r : Record). r.taken) call.trace in omega arith;
+  counted = one_more call (ap (λ (x : Pass). x.since) l.is);
   asked = ap (λ (r : Record). r.asked) call.trace;
 }
 
@@ -308,7 +314,7 @@ module _ {table : TableShape} {a : SeatState Pass} (b : SeatState Pass) (w : Hol
       let may : MayLoad (HoldsJust grants a.number) (HoldsNothing grants a.number) (HoldsPages grants a.number) words here.history (3 + place) a.pass b.pass =
       subst (λ (x : Pass). MayLoad (HoldsJust grants a.number) (HoldsNothing grants a.number) (HoldsPages grants a.number) words here.history
       (3 + place) x b.pass) same made.5.1 in
-      let learns = load_learns place part.room w.knows may in
+      let learns = load_learns place lt part.room w.knows may in
       let step = step_of w call learns in
       let before = word_now a.number w.held w.knows grants words passes m.met m.grant m.own in
       let counted = count_now a.number w.held w.knows grants words passes m.met m.grant m.own in
@@ -319,7 +325,7 @@ module _ {table : TableShape} {a : SeatState Pass} (b : SeatState Pass) (w : Hol
         word = sym made.4 ∙ sym (before place lt);
         words = same_known w.knows step.holds.knows step.writing.blocks (λ t few. after.0 t few ∙ sym (before t few));
         count = after.1 ∙ sym counted;
-        read = load_keeps place part.laid may;
+        read = load_keeps place lt part.laid may;
       }
 
 -- a store among the words of the blocks, or of the row count
@@ -407,6 +413,8 @@ all_written {a} {b} found call made =
       client = ap (λ (r : Record). r.client) call.trace;
       since = omega arith;
       until = let l : b.trace.taken ≡ a.trace.taken + 1 = ap (λ (r : Record). r.taken) call.trace in omega arith;
+      last = ap (λ (r : Record). r.taken) call.trace;
+      counted = one_more call (ap (λ (x : Pass). x.since) is);
       asked = ap (λ (r : Record). r.asked) call.trace;
       start = ap (λ (x : Pass). x.start) is;
       blocks = ap (λ (x : Pass). x.blocks) is;
@@ -430,6 +438,8 @@ written_on f g = record {
   client = g.client;
   since = let l = f.taken in let m = g.since in omega arith;
   until = g.until;
+  last = g.last;
+  counted = let l = f.counted in let m = g.counted in omega arith;
   asked = g.asked ∙ f.asked;
   start = g.start ∙ f.start;
   blocks = g.blocks ∙ f.blocks;

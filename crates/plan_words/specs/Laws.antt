@@ -27,6 +27,7 @@ no_writing a = record {
   looks = refl;
   pending = refl;
   taken = omega arith;
+  counted = refl;
   asked = refl;
 }
 
@@ -47,6 +48,7 @@ writing_on a b c f g = record {
   looks = g.looks ∙ f.looks;
   pending = g.pending ∙ f.pending;
   taken = let l = f.taken in let m = g.taken in omega arith;
+  counted = let l = f.counted in let m = g.counted in omega arith;
   asked = g.asked ∙ f.asked;
 }
 

@@ -45,6 +45,10 @@ pub record KeepsRead (old new : Pass) : Type 0 where
   pub pending : new.pending ≡ old.pending
   pub blocks : new.blocks ≡ old.blocks
 
+-- all steps between are counted among those since the caller's last draw
+abbrev pub IsCountedOn : SeatState Pass → SeatState Pass → Type 0
+IsCountedOn before after = after.pass.since + before.trace.taken ≡ before.pass.since + after.trace.taken
+
 -- steps of writing: the caller holds what it held, and has seen, numbered and to write what it had, and its pools stay
 pub record IsWriting (before after : SeatState Pass) : Type 0 where
   pub table : after.table ≡ before.table
@@ -61,6 +65,7 @@ pub record IsWriting (before after : SeatState Pass) : Type 0 where
   pub looks : after.pass.looks ≡ before.pass.looks
   pub pending : after.pass.pending ≡ before.pass.pending
   pub taken : before.trace.taken ≤ after.trace.taken
+  pub counted : IsCountedOn before after
   pub asked : after.trace.asked ≡ before.trace.asked
 
 -- all that a call under everything left is written, and the last step on a client word raised the sequence word, in
@@ -71,6 +76,8 @@ pub record IsWritten (before after : SeatState Pass) : Type 0 where
   pub client : after.trace.client ≡ Some (record { place = 1; step = step })
   pub since : before.trace.taken ≤ step
   pub until : step < after.trace.taken
+  pub last : after.trace.taken ≡ step + 1
+  pub counted : IsCountedOn before after
   pub asked : after.trace.asked ≡ before.trace.asked
   pub start : after.pass.start ≡ before.pass.start
   pub blocks : after.pass.blocks ≡ before.pass.blocks

@@ -77,6 +77,8 @@ impl<'a> Rows for HeldRows<'a> {
 
     ghost are_rows = { λ rows seat may. may.list };
 
+    ghost steps = { λ rows seat. seat.trace.taken };
+
     fn count(&self) -> u32 {
         self.count
     }

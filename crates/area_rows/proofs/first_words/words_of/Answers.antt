@@ -2,6 +2,7 @@ use Rattle.std.proofs.Common.{rules, ◌≡◌, ◌+◌, ◌-◌, ◌<◌, ℕ, 
 use Rattle.std.specs.Prelude.{slice_index}
 use Rattle.row_plans.specs.RowLists.{rows_from}
 use Rattle.row_plans.proofs.RowLists.{length-rows}
+use Rattle.area_guard.specs.Rows.{number_place}
 use Rattle.area_rows.proofs.Beginning.{some_start}
 use Rattle.area_rows.proofs.first_words.words_of.Goals.{After-as_slice}
 use Rattle.area_rows.proofs.first_words.words_of.Goals as goal
@@ -37,7 +38,7 @@ returns-clause-words c =
     let wide = around.wide in
     record {
       wide = omega arith;
-      number = laid.first 0 (omega arith) ∙ around.number;
+      number = laid.above (number_place c.args.blocks) (omega arith) ∙ around.number;
       sequence = laid.first 1 (omega arith) ∙ around.sequence;
       count = laid.first 2 (omega arith) ∙ (around.count ∙ c.requires.rows);
       laid = laid.laid;

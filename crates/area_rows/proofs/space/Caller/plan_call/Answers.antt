@@ -1,6 +1,7 @@
 use Rattle.std.proofs.Common.{ℕ, ◌∙◌, List, length, ap, sym, subst, arith}
 use Rattle.row_plans.specs.RowLists.{areas_from}
 use Rattle.row_plans.specs.Plans.{spliced, IsPlan}
+use Rattle.row_plans.specs.Loads.{TakesLoads}
 use Rattle.row_blocks.specs.declared.positions.Position.{Position}
 use Rattle.area_guard.specs.Rows.{blocks_by, room_of}
 use Rattle.area_guard.specs.Reads.{known_rows}
@@ -102,3 +103,12 @@ returns-clause-plan c =
 -- a refused call leaves the rows
 pub returns-clause-leaves : goal.returns-clause-leaves
 returns-clause-leaves c = c.plan_rows-planned.ensures.refused
+
+-- it takes the loads of the plan on the rows that are known
+pub returns-clause-loads : goal.returns-clause-loads
+returns-clause-loads c =
+    let old = c.self.inside.seat in
+    let new = c.plan_rows-planned.new.hand in
+    let rows = same_rows old new c.plan_rows-planned.ensures.loaded in
+    subst (λ (v : CallerView). TakesLoads (known_rows new.pass) c.args.call.now v.seat.trace.taken new.trace.taken) c.self.view_is
+    (subst (λ (l : List ℕ). TakesLoads l c.args.call.now old.trace.taken new.trace.taken) (sym rows) c.plan_rows-planned.ensures.loads)

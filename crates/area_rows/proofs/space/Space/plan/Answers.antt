@@ -1,9 +1,12 @@
-use Rattle.std.proofs.Common.{◌∙◌, length, ap, sym, subst, arith}
+use Rattle.std.proofs.Common.{ℕ, ◌∙◌, length, ap, sym, subst, arith}
 use Rattle.area_guard.specs.Rows.{blocks_by, room_of}
 use Rattle.row_plans.specs.Plans.{IsRowList}
+use Rattle.row_plans.specs.Loads.{TakesLoads}
 use Rattle.area_guard.specs.declared.guard.Pass.{Pass}
+use Rattle.area_guard.specs.Reads.{known_rows}
 use Rattle.plan_words.specs.Reading.{reading_on}
 use Rattle.area_rows.proofs.LayoutLoads.{seen_reads}
+use Rattle.area_rows.proofs.Reading.{step_taken}
 use Rattle.area_rows.proofs.Wholes.{plan_shows, rows_left}
 use Rattle.area_rows.proofs.space.Space.plan.Goals as goal
 
@@ -52,3 +55,10 @@ returns-clause-reading c =
 -- no row goes by it, and none comes
 pub returns-clause-leaves : goal.returns-clause-leaves
 returns-clause-leaves c = c.plan_call.ensures.leaves
+
+-- behind the load of the count it takes those of the plan
+pub returns-clause-loads : goal.returns-clause-loads
+returns-clause-loads c =
+    let new = c.plan_call.new.self.seat in
+    let count = step_taken c.args.caller.now.seat c.load_count-count.new.caller.seat _ _ c.load_count-count.ensures.seen.step in
+    subst (λ (n : ℕ). TakesLoads (known_rows new.pass) c.args.call.now n new.trace.taken) count c.plan_call.ensures.loads

@@ -1,12 +1,12 @@
 -- The slots in which rows stand: those of the blocks in use, in order. The lemmas over words that show kinds tell of
 -- rows by their slots alone; proofs of other crates need to know no more of the layout where they read rows and store
--- one.
-use Rattle.std.proofs.Common.{◌≡◌, ℕ, suc, ◌+◌, ◌-◌, ◌*◌, ◌/◌, ◌%◌, ◌<◌, ◌≤◌, List, ◌∷◌, drop, take, length, get_or, set, length-set}
-use Rattle.std.proofs.Common.{sym, refl, ap, ◌∙◌, subst, arith, ⊎_elim}
+-- one. They stand here, and not among the proofs, since the guard cites them.
+use Rattle.std.proofs.Common.{◌≡◌, ℕ, suc, ◌+◌, ◌-◌, ◌*◌, ◌/◌, ◌%◌, ◌<◌, ◌≤◌, List, ◌∷◌, drop, length, get_or, set, length-set}
+use Rattle.std.proofs.Common.{sym, refl, ap, ◌∙◌, subst, arith}
 use Rattle.std.proofs.lemmas.List.{get_or-drop, get_or-take, get_or-map, get_or-set_other, drop-set-add, length-drop, length-take-le}
 use Rattle.std.proofs.lemmas.List.Elements.{All-set}
 use Rattle.std.specs.Prelude.{All, Option, slice_index}
-use mathlib.Core.Option.{some, some-injective}
+use mathlib.Core.Option.{some}
 use lib.ListN.{get_elem?}
 use Rattle.lock_core.proofs.ByPlace.{below, there, at_or}
 use Rattle.page_types.specs.declared.calls.Kind.{Kind}
@@ -16,13 +16,12 @@ use Rattle.row_plans.specs.RowLists.{ShowFrom, IsBareGap}
 use Rattle.row_blocks.specs.Blocks.{pieces, run, blocks_of, rows_of, IsLaidOut, slots_of as slots_by, slots_in as slots_all, rows_in as rows_by}
 use Rattle.row_blocks.proofs.Pieces.{same_pieces}
 use Rattle.row_blocks.proofs.Slots.{rows_are as words_are, length-slots_in, length-rows_in, kth_slot, slot_below, slots_differ, at_slot, laid_stored, stored}
-use Rattle.row_blocks.proofs.Slots.{layout_stays as told_stays}
 use Rattle.area_guard.specs.declared.guard.Pass.{Pass}
 use Rattle.area_guard.specs.Rows.{nb_in, layout_in, block_slots, slots_of, slots_in, rows_in, IsFirstOf, IsSlot, IsInReach, RowsShow}
 use Rattle.area_guard.specs.History.{IsPart}
 use Rattle.area_guard.specs.Stands.{nb_stays, layout_stays}
 
-module _ (words : List ℕ) (room : 21 + 129 * nb_in words ≤ length words) where
+module _ (words : List ℕ) (room : 36 + 129 * nb_in words ≤ length words) where
   -- the layout has two words and one for each block
   pub layout_long : length (layout_in words) ≡ nb_in words + 2
   layout_long =
