@@ -29,16 +29,15 @@ pub all_shares : (shares : List ℕ) → share_sum shares 0 (length shares) ≡ 
 all_shares [] = refl
 all_shares (x ∷ xs) = ap (λ n. x + n) (later_shares x xs 0 (length xs) ∙ all_shares xs) ∙ sym (sum_by-cons (λ (n : ℕ). n) x xs)
 
-zeros : (words : List ℕ) (room : ℕ) → words ≡ replicate room 0 → (i : ℕ) → i < length words → get_or words i 0 ≡ 0
-zeros words room is i lt = let wide : length words ≡ room = ap (λ (w : List ℕ). length w) is
+zeros : {words : List ℕ} (room : ℕ) → words ≡ replicate room 0 → (i : ℕ) → i < length words → get_or words i 0 ≡ 0
+zeros {words} room is i lt = let wide : length words ≡ room = ap (λ (w : List ℕ). length w) is
     ∙ length-replicate room 0 in ap (λ (w : List ℕ). get_or w i 0) is ∙ get_or-replicate room i 0 0 (omega arith)
 
 -- the rule of words that are 0, with one seat that has all quotas
-pub begins : (room total : ℕ) (words : List ℕ) → words ≡ replicate room 0 → 0 < room → total ≤ room
-    → Ruled room total words (begin total ∷ [])
-begins room total words is some_room enough =
+pub begins : {room total : ℕ} {words : List ℕ} → words ≡ replicate room 0 → 0 < room → total ≤ room → Ruled room total words (begin total ∷ [])
+begins {room} {total} {words} is some_room enough =
     let wide : length words ≡ room = ap (λ w. length w) is ∙ length-replicate room 0 in
-    let zero_at = zeros words room is in
+    let zero_at = zeros room is in
     let of_view : (P : SeatRecord → Type 0) → P (begin total) → (j : ℕ) (v : SeatRecord)
     → get_elem? (begin total ∷ []) j ≡ some v → P v = λ P p j v e. subst P (only (begin total) v j e) p in
     record {
@@ -56,16 +55,16 @@ begins room total words is some_room enough =
     }
 
 -- the rule, for a key with these words and quotas
-pub opens : (key_seats seats room : ℕ) (key_words words key_shares shares : List ℕ) → key_seats ≡ seats
-    → key_words ≡ words → key_shares ≡ shares → words ≡ replicate room 0 → 0 < room → seats ≡ length shares → sum shares ≤ room
+pub opens : {key_seats seats : ℕ} (room : ℕ) {key_words words key_shares shares : List ℕ} → key_seats ≡ seats → key_words ≡ words → key_shares ≡ shares
+    → words ≡ replicate room 0 → 0 < room → seats ≡ length shares → sum shares ≤ room
     → IsTouchTable (length key_words) (share_sum key_shares 0 (key_seats - 0)) (opening words [] (begin (share_sum shares 0 (seats - 0))))
-opens key_seats seats room key_words words key_shares shares e f h is some_room count enough =
+opens {key_seats} {seats} room {key_words} {words} {key_shares} {shares} e f h is some_room count enough =
     let all : share_sum shares 0 (seats - 0) ≡ sum shares = let z : seats - 0 ≡ length shares = omega arith in ap
     (share_sum shares 0) z ∙ all_shares shares in
     let wide : length key_words ≡ room = ap (λ w. length w) (f ∙ is) ∙ length-replicate room 0 in
     let total : share_sum key_shares 0 (key_seats - 0) ≡ share_sum shares 0 (seats - 0) = λ i. share_sum (h i) 0 (e i - 0) in
     subst (λ (z : ℕ × ℕ). Ruled z.0 z.1 words (begin (share_sum shares 0 (seats - 0)) ∷ []))
-    (λ i. (sym wide i, sym total i)) (begins room (share_sum shares 0 (seats - 0)) words is some_room (omega arith))
+    (λ i. (sym wide i, sym total i)) (begins {room = room} {total = share_sum shares 0 (seats - 0)} is some_room (omega arith))
 
 module _ (table : TableId) (quotas : List ℕ) where
   -- the seats that are still to be handed out are those from number n on
@@ -74,17 +73,18 @@ module _ (table : TableId) (quotas : List ℕ) where
       → (s.table_id ≡ table) × (s.me ≡ (begin (share_sum quotas (n + k) 1), []))
 
   -- the next one begins with its own quota
-  pub next_seat : (n : ℕ) (opened : List (Seat (Unit {0}) SeatRecord)) (s : Seat (Unit {0}) SeatRecord)
-      → Waiting n opened → 0 < length opened → s ≡ get_or opened 0 s → (s.table_id ≡ table) × (s.me ≡ (begin (get_or quotas n 0), []))
-  next_seat n opened s wait more is =
+  pub next_seat : (n : ℕ) (opened : List (Seat (Unit {0}) SeatRecord)) {s : Seat (Unit {0}) SeatRecord} → Waiting n opened → 0 < length opened
+      → s ≡ get_or opened 0 s → (s.table_id ≡ table) × (s.me ≡ (begin (get_or quotas n 0), []))
+  next_seat n opened {s} wait more is =
       let t = wait 0 s (at_index opened 0 s more is) in
       let z : n + 0 ≡ n = omega arith in
       let one : share_sum quotas n 1 ≡ get_or quotas n 0 = let e : share_sum quotas n 1 ≡ get_or quotas n 0 + 0 = refl in omega arith in
       (t.0, t.1 ∙ (ap (λ m. (begin (share_sum quotas m 1), [])) z ∙ ap (λ q. (begin q, [])) one))
 
   -- when it is taken away, those behind it are left
-  pub wait_on : (n : ℕ) (opened left : List (Seat (Unit {0}) SeatRecord)) → Waiting n opened → left ≡ remove opened 0 → Waiting (n + 1) left
-  wait_on n opened left wait is k s at =
+  pub wait_on : (n : ℕ) (opened : List (Seat (Unit {0}) SeatRecord)) {left : List (Seat (Unit {0}) SeatRecord)} → Waiting n opened → left ≡ remove opened 0
+      → Waiting (n + 1) left
+  wait_on n opened wait is k s at =
       let z : n + suc k ≡ n + 1 + k = omega arith in
       let r = wait (suc k) s (moved opened k ∙ (ap (λ l. get_elem? l k) (sym is) ∙ at)) in
       (r.0, r.1 ∙ ap (λ m. (begin (share_sum quotas m 1), [])) z)
@@ -94,9 +94,8 @@ module _ (table : TableId) (quotas : List ℕ) where
       moved (x ∷ xs) k = refl
 
 -- one seat more
-pub more_seats : (table : TableId) (quotas : List ℕ) (n : ℕ) (made : List TouchView) (s : TouchView)
-    → n < length quotas → made ≡ map (new_seat table) (take n quotas) → s ≡ new_seat table (get_or quotas n 0)
-    → made ++ s ∷ [] ≡ map (new_seat table) (take (n + 1) quotas)
-more_seats table quotas n made s lt is e =
+pub more_seats : (table : TableId) (quotas : List ℕ) (n : ℕ) {made : List TouchView} {s : TouchView} → n < length quotas
+    → made ≡ map (new_seat table) (take n quotas) → s ≡ new_seat table (get_or quotas n 0) → made ++ s ∷ [] ≡ map (new_seat table) (take (n + 1) quotas)
+more_seats table quotas n lt is e =
     (λ i. is i ++ e i ∷ []) ∙ (sym (map-append (new_seat table) (take n quotas) (get_or quotas n 0 ∷ []))
     ∙ ap (map (new_seat table)) (sym (take_more quotas n 0 lt)))

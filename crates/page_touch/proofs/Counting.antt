@@ -7,8 +7,8 @@ use lib.ListN.{get_elem?}
 use Rattle.page_touch.specs.Touched.{one_if, times, full_word}
 
 -- equal numbers count 1
-pub one_same : (x y : ℕ) → y ≡ x → one_if x y ≡ 1
-one_same x y e = ⊎_elim (λ t. ap (λ b. cond b 1 0) t.0) (λ t. absurd (t.1 e)) (eqb_tells y x)
+pub one_same : {x y : ℕ} → y ≡ x → one_if x y ≡ 1
+one_same {x} {y} e = ⊎_elim (λ t. ap (λ b. cond b 1 0) t.0) (λ t. absurd (t.1 e)) (eqb_tells y x)
 
 -- unequal numbers count 0
 pub one_other : (x y : ℕ) → y ≢ x → one_if x y ≡ 0
@@ -19,13 +19,13 @@ pub full_some : (w : ℕ) → w ≢ 0 → full_word w ≡ 1
 full_some w n = ⊎_elim (λ t. absurd (n t.1)) (λ t. ap (λ b. cond b 0 1) t.0) (eqb_tells w 0)
 
 -- a free word counts 0
-pub full_none : (w : ℕ) → w ≡ 0 → full_word w ≡ 0
-full_none w e = ⊎_elim (λ t. ap (λ b. cond b 0 1) t.0) (λ t. absurd (t.1 e)) (eqb_tells w 0)
+pub full_none : {w : ℕ} → w ≡ 0 → full_word w ≡ 0
+full_none {w} e = ⊎_elim (λ t. ap (λ b. cond b 0 1) t.0) (λ t. absurd (t.1 e)) (eqb_tells w 0)
 
 -- adding 1 to both keeps whether two numbers are equal
 pub one_behind : (p q : ℕ) → one_if (p + 1) (q + 1) ≡ one_if p q
 one_behind p q = ⊎_elim
-    (λ t. one_same (p + 1) (q + 1) (let e = t.1 in omega arith) ∙ sym (one_same p q t.1))
+    (λ t. one_same {x = p + 1} {y = q + 1} (let e = t.1 in omega arith) ∙ sym (one_same t.1))
     (λ t. one_other (p + 1) (q + 1) (λ e. t.1 (omega arith)) ∙ sym (one_other p q t.1))
     (eqb_tells q p)
 
@@ -72,7 +72,7 @@ pub at_most_one : (x : ℕ) (l : List ℕ)
 at_most_one x [] h = omega arith
 at_most_one x (y ∷ ys) h =
     let c = sum_by-cons (one_if x) y ys in ⊎_elim
-    (λ t. let one = one_same x y t.1 in
+    (λ t. let one = one_same t.1 in
     let none = never_there x ys (λ i lt e. let z = h 0 (suc i) (omega arith) (omega arith) t.1 e in omega arith) in omega arith)
     (λ t. let one = one_other x y t.1 in
     let rest = at_most_one x ys (λ i j a b p q. let z = h (suc i) (suc j) (omega arith) (omega arith) p q in omega arith) in omega arith)

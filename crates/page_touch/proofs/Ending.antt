@@ -15,30 +15,30 @@ use Rattle.page_touch.specs.Touched.{Ruled, quota_of, first_times, one_if, times
 use Rattle.page_touch.specs.Gathering.{page_in, pages_in}
 use Rattle.page_touch.proofs.Counting.{one_same, one_other, at_most_one, never_there}
 
-page_none : (w : ℕ) → w ≡ 0 → page_in w ≡ []
-page_none w e = ⊎_elim (λ t. ap (λ b. cond b [] ((w - 1) ∷ [])) t.0) (λ t. absurd (t.1 e)) (eqb_tells w 0)
+page_none : {w : ℕ} → w ≡ 0 → page_in w ≡ []
+page_none {w} e = ⊎_elim (λ t. ap (λ b. cond b [] ((w - 1) ∷ [])) t.0) (λ t. absurd (t.1 e)) (eqb_tells w 0)
 
 page_some : (w : ℕ) → w ≢ 0 → page_in w ≡ (w - 1) ∷ []
 page_some w n = ⊎_elim (λ t. absurd (n t.1)) (λ t. ap (λ b. cond b [] ((w - 1) ∷ [])) t.0) (eqb_tells w 0)
 
 -- one word more
-pub one_word_more : (words : List ℕ) (i w : ℕ) → i < length words → get_or words i 0 ≡ w
+pub one_word_more : (words : List ℕ) (i : ℕ) {w : ℕ} → i < length words → get_or words i 0 ≡ w
     → pages_in (take (i + 1) words) ≡ pages_in (take i words) ++ page_in w
-one_word_more words i w lt is = ap pages_in (take_more words i 0 lt)
+one_word_more words i lt is = ap pages_in (take_more words i 0 lt)
     ∙ (flat_map-append page_in (take i words) (get_or words i 0 ∷ [])
     ∙ (ap (λ l. pages_in (take i words) ++ l) (append-nil (page_in (get_or words i 0))) ∙ ap (λ n. pages_in (take i words) ++ page_in n) is))
 
 -- a free word adds no page
-pub same_pages : (words : List ℕ) (i w : ℕ) (out : List ℕ) → i < length words → get_or words i 0 ≡ w → w ≡ 0
-    → out ≡ pages_in (take i words) → out ≡ pages_in (take (i + 1) words)
-same_pages words i w out lt is free e = e ∙ (sym (append-nil (pages_in (take i words)))
-    ∙ (ap (λ l. pages_in (take i words) ++ l) (sym (page_none w free)) ∙ sym (one_word_more words i w lt is)))
+pub same_pages : (words : List ℕ) (i : ℕ) {w : ℕ} {out : List ℕ} → i < length words → get_or words i 0 ≡ w → w ≡ 0 → out ≡ pages_in (take i words)
+    → out ≡ pages_in (take (i + 1) words)
+same_pages words i lt is free e = e ∙ (sym (append-nil (pages_in (take i words)))
+    ∙ (ap (λ l. pages_in (take i words) ++ l) (sym (page_none free)) ∙ sym (one_word_more words i lt is)))
 
 -- another word adds its page
-pub more_pages : (words : List ℕ) (i w : ℕ) (out : List ℕ) → i < length words → get_or words i 0 ≡ w → w ≢ 0
-    → out ≡ pages_in (take i words) → out ++ (w - 1) ∷ [] ≡ pages_in (take (i + 1) words)
-more_pages words i w out lt is other e = ap (λ l. l ++ (w - 1) ∷ []) e
-    ∙ (ap (λ l. pages_in (take i words) ++ l) (sym (page_some w other)) ∙ sym (one_word_more words i w lt is))
+pub more_pages : (words : List ℕ) (i : ℕ) {w : ℕ} {out : List ℕ} → i < length words → get_or words i 0 ≡ w → w ≢ 0 → out ≡ pages_in (take i words)
+    → out ++ (w - 1) ∷ [] ≡ pages_in (take (i + 1) words)
+more_pages words i {w} lt is other e = ap (λ l. l ++ (w - 1) ∷ []) e
+    ∙ (ap (λ l. pages_in (take i words) ++ l) (sym (page_some w other)) ∙ sym (one_word_more words i lt is))
 
 -- a page is as often among the pages as it stands in words
 pub pages_times : (p : ℕ) (words : List ℕ) → times p (pages_in words) ≡ times (p + 1) words
@@ -47,11 +47,11 @@ pages_times p (w ∷ ws) =
     let rest = pages_times p ws in
     let c = sum_by-cons (one_if (p + 1)) w ws in
     let a : times p (page_in w ++ pages_in ws) ≡ times p (page_in w) + times p (pages_in ws) = sum_by-append (one_if p) (page_in w) (pages_in ws) in ⊎_elim
-    (λ t. let e : times p (page_in w) ≡ 0 = ap (times p) (page_none w t.1) in
+    (λ t. let e : times p (page_in w) ≡ 0 = ap (times p) (page_none t.1) in
     let o = one_other (p + 1) w (λ z. let y = t.1 in omega arith) in a ∙ omega arith)
     (λ t. let e : times p (page_in w) ≡ one_if p (w - 1) = ap (times p) (page_some w t.1) ∙ omega arith in
     let o : one_if (p + 1) w ≡ one_if p (w - 1) = ⊎_elim
-    (λ u. one_same (p + 1) w (let x = u.1 in let y = t.1 in omega arith) ∙ sym (one_same p (w - 1) u.1))
+    (λ u. one_same {x = p + 1} {y = w} (let x = u.1 in let y = t.1 in omega arith) ∙ sym (one_same u.1))
     (λ u. one_other (p + 1) w (λ z. u.1 (omega arith)) ∙ sym (one_other p (w - 1) u.1))
     (eqb_tells (w - 1) p) in a ∙ omega arith)
     (eqb_tells w 0)
@@ -88,10 +88,10 @@ own_sum {A} f g (x ∷ xs) (suc id) me at e h =
 -- ---- how often a number is in a list, and whether it is there
 
 -- a number that stands at a place is there at least once
-pub times_there : (x : ℕ) (l : List ℕ) (i : ℕ) → i < length l → get_or l i 0 ≡ x → 1 ≤ times x l
-times_there x [] i lt e = absurd (omega arith)
-times_there x (y ∷ ys) zero lt e = let c = sum_by-cons (one_if x) y ys in let o = one_same x y e in omega arith
-times_there x (y ∷ ys) (suc i) lt e = let c = sum_by-cons (one_if x) y ys in let r = times_there x ys i (omega arith) e in omega arith
+pub times_there : {x : ℕ} (l : List ℕ) (i : ℕ) → i < length l → get_or l i 0 ≡ x → 1 ≤ times x l
+times_there [] i lt e = absurd (omega arith)
+times_there {x} (y ∷ ys) zero lt e = let c = sum_by-cons (one_if x) y ys in let o = one_same e in omega arith
+times_there {x} (y ∷ ys) (suc i) lt e = let c = sum_by-cons (one_if x) y ys in let r = times_there ys i (omega arith) e in omega arith
 
 -- a number that is there at least once stands at some place
 pub there_times : (x : ℕ) (l : List ℕ) → 1 ≤ times x l → Contains l x
@@ -103,16 +103,16 @@ there_times x (y ∷ ys) some_time = ⊎_elim
     (eqb_tells y x)
 
 -- a number that stands at two places is there at least twice
-pub two_times : (x : ℕ) (l : List ℕ) (i j : ℕ) → i < j → j < length l → get_or l i 0 ≡ x → get_or l j 0 ≡ x → 2 ≤ times x l
-two_times x [] i j a b e f = absurd (omega arith)
-two_times x (y ∷ ys) i zero a b e f = absurd (omega arith)
-two_times x (y ∷ ys) zero (suc j) a b e f = let c = sum_by-cons (one_if x) y ys in let o = one_same x y e in
-    let r = times_there x ys j (omega arith) f in omega arith
-two_times x (y ∷ ys) (suc i) (suc j) a b e f = let c = sum_by-cons (one_if x) y ys in
-    let r = two_times x ys i j (omega arith) (omega arith) e f in omega arith
+pub two_times : {x : ℕ} (l : List ℕ) (i j : ℕ) → i < j → j < length l → get_or l i 0 ≡ x → get_or l j 0 ≡ x → 2 ≤ times x l
+two_times [] i j a b e f = absurd (omega arith)
+two_times (y ∷ ys) i zero a b e f = absurd (omega arith)
+two_times {x} (y ∷ ys) zero (suc j) a b e f = let c = sum_by-cons (one_if x) y ys in let o = one_same e in
+    let r = times_there ys j (omega arith) f in omega arith
+two_times {x} (y ∷ ys) (suc i) (suc j) a b e f = let c = sum_by-cons (one_if x) y ys in
+    let r = two_times ys i j (omega arith) (omega arith) e f in omega arith
 
 contains_times : (x : ℕ) (l : List ℕ) → Contains l x → 1 ≤ times x l
-contains_times x l h = times_there x l h.0 h.1 (sym (get_or_default l h.0 x 0 h.1) ∙ h.2)
+contains_times x l h = times_there l h.0 h.1 (sym (get_or_default l h.0 x 0 h.1) ∙ h.2)
 
 -- numbers that don't fall, each once, rise
 pub rising : (l : List ℕ) → IsNonDecreasingBy (λ (n : ℕ). n) l → ((p : ℕ) → times p l ≤ 1) → AllPairs (λ p q. p < q) l
@@ -122,14 +122,13 @@ rising l up once i j d a b =
     let is_i : get_or l i 0 ≡ x = get_or_default l i 0 d (omega arith) in
     let is_j : get_or l j 0 ≡ get_or l j d = get_or_default l j 0 d b in
     dite (ℕ_discrete (get_or l j d) x)
-    (λ e. let two = two_times x l i j a b is_i (is_j ∙ e) in let one = once x in absurd (omega arith))
+    (λ e. let two = two_times l i j a b is_i (is_j ∙ e) in let one = once x in absurd (omega arith))
     (λ differ. omega arith)
 
 -- ---- the one view has all
 
-module _ (room total : ℕ) (words : List ℕ) (views : List SeatRecord) (id : ℕ) (all : SeatRecord)
-    (r : Ruled room total words views) (at : get_elem? views id ≡ some all) (quota : all.quota ≡ total)
-    (pages : List ℕ) (moved : IsPermutation (pages_in words) pages) where
+module _ {room total : ℕ} {words : List ℕ} {views : List SeatRecord} (id : ℕ) (all : SeatRecord) (r : Ruled room total words views)
+    (at : get_elem? views id ≡ some all) (quota : all.quota ≡ total) (pages : List ℕ) (moved : IsPermutation (pages_in words) pages) where
   own_firsts : (p : ℕ) → times p all.firsts ≡ times (p + 1) words
   own_firsts p = sym (own_sum (first_times p) quota_of views id all at (r.shares ∙ sym quota)
       (λ k u a none. let w = r.within k u a in let w1 = w.quota in let w2 = w.firsts in never_there p u.firsts (λ i lt. absurd (omega arith)))) ∙ r.told p
@@ -152,5 +151,5 @@ module _ (room total : ℕ) (words : List ℕ) (views : List SeatRecord) (id : �
   end_pages p = (
     (λ h. let w = r.within id all at in let n = contains_times p pages h in let e = end_firsts p in w.member p (there_times p all.firsts (omega arith))),
     (λ h. let k = r.kept id p all at h in let wide = r.wide in let lt = k.1 in
-        let n = times_there (p + 1) words k.0 (omega arith) k.2 in let e = in_words p in there_times p pages (omega arith)),
+        let n = times_there words k.0 (omega arith) k.2 in let e = in_words p in there_times p pages (omega arith)),
   )

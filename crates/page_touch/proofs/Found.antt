@@ -6,9 +6,8 @@ use Rattle.page_touch.specs.Probes.{IsProbe, IsFound, seen, wrote, stayed, last_
 use Rattle.page_touch.proofs.Probing.{after_seen, after_free}
 
 -- a load that found the page has read it
-pub load_seen : (room page place n : ℕ) (v w : SeatRecord) → IsProbe room page false place v n w → n ≡ page + 1
-    → IsFound room page place v Stands w
-load_seen room page place n v w p e = subst (IsFound room page place v Stands) (sym (p.after ∙ after_seen page false place n v e)) (
+pub load_seen : {room page place n : ℕ} {v w : SeatRecord} → IsProbe room page false place v n w → n ≡ page + 1 → IsFound room page place v Stands w
+load_seen {room} {page} {place} {n} {v} p e = subst (IsFound room page place v Stands) (sym (p.after ∙ after_seen page false place v e)) (
   refl,
   refl,
   refl,
@@ -17,12 +16,12 @@ load_seen room page place n v w p e = subst (IsFound room page place v Stands) (
 )
 
 -- an exchange that failed since another thread wrote the page has read it too
-pub put_seen : (room page place n m : ℕ) (v u w : SeatRecord) → IsProbe room page false place v n u → n ≡ 0
-    → IsProbe room page true place u m w → m ≡ page + 1 → IsFound room page place v Stands w
-put_seen room page place n m v u w p free q e =
-    let first : u ≡ stayed page false place n v = p.after ∙ after_free page false place n v free in
+pub put_seen : {room page place n m : ℕ} {v u w : SeatRecord} → IsProbe room page false place v n u → n ≡ 0 → IsProbe room page true place u m w
+    → m ≡ page + 1 → IsFound room page place v Stands w
+put_seen {room} {page} {place} {n} {m} {v} {u} {w} p free q e =
+    let first : u ≡ stayed page false place n v = p.after ∙ after_free page false place v free in
     let second : w ≡ seen page true place m (stayed page false place n v) = q.after
-    ∙ (after_seen page true place m u e ∙ ap (seen page true place m) first) in
+    ∙ (after_seen page true place u e ∙ ap (seen page true place m) first) in
     subst (IsFound room page place v Stands) (sym second) (
       refl,
       refl,
@@ -39,12 +38,12 @@ put_seen room page place n m v u w p free q e =
     )
 
 -- an exchange that found the word free has written the page
-pub put_wrote : (room page place n m : ℕ) (v u w : SeatRecord) → IsProbe room page false place v n u → n ≡ 0
-    → IsProbe room page true place u m w → m ≡ 0 → IsFound room page place v Wrote w
-put_wrote room page place n m v u w p free q e =
-    let first : u ≡ stayed page false place n v = p.after ∙ after_free page false place n v free in
+pub put_wrote : {room page place n m : ℕ} {v u w : SeatRecord} → IsProbe room page false place v n u → n ≡ 0 → IsProbe room page true place u m w → m ≡ 0
+    → IsFound room page place v Wrote w
+put_wrote {room} {page} {place} {n} {m} {v} {u} {w} p free q e =
+    let first : u ≡ stayed page false place n v = p.after ∙ after_free page false place v free in
     let second : w ≡ wrote page true place m (stayed page false place n v) = q.after
-    ∙ (after_free page true place m u e ∙ ap (wrote page true place m) first) in
+    ∙ (after_free page true place u e ∙ ap (wrote page true place m) first) in
     subst (IsFound room page place v Wrote) (sym second) (
       refl,
       refl,

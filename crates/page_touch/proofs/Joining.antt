@@ -11,8 +11,8 @@ use Rattle.page_touch.specs.Touched.{IsTouchTable, IsWithin, IsIn, AreOthers, be
 use Rattle.page_touch.specs.Gathering.{gathered}
 use Rattle.page_touch.specs.Starting.{sum_after, begin_within, none_in}
 
-both_within : (v w : SeatRecord) → IsWithin v → IsWithin w → IsWithin (gathered v w)
-both_within v w a b =
+both_within : {v w : SeatRecord} → IsWithin v → IsWithin w → IsWithin (gathered v w)
+both_within {v} {w} a b =
     let t = length-append v.touched w.touched in
     let f = length-append v.firsts w.firsts in
     let a1 = a.quota in let a2 = a.firsts in let b1 = b.quota in let b2 = b.firsts in
@@ -42,7 +42,7 @@ joins room total id other v w s r at differ there =
       some_room = r.some_room;
       enough = r.enough;
       shares = sums quota_of (omega arith) ∙ r.shares;
-      within = of_view IsWithin (both_within v w (r.within id v at) (r.within other w was)) (begin_within 0) r.within;
+      within = of_view IsWithin (both_within (r.within id v at) (r.within other w was)) (begin_within 0) r.within;
       full = r.full ∙ sym (sums first_count (let l = length-append v.firsts w.firsts in omega arith));
       told = λ page. sums (first_times page) (let l : times page
           (v.firsts ++ w.firsts) ≡ times page v.firsts + times page w.firsts = sum_by-append

@@ -33,8 +33,8 @@ some_words_on room s i a b = dite (dec_le s i) (λ le. (i - s, omega arith, inl 
 
 -- ---- what a call knows
 
-module _ (room total : ℕ) (words : List ℕ) (views : List SeatRecord) (r : Ruled room total words views) (page k i : ℕ)
-    (others : AreOthers room words page k) (low : k < room) (within : i < room) (on : IsOn room (page % room) k i) where
+module _ {room total : ℕ} {words : List ℕ} {views : List SeatRecord} (r : Ruled room total words views) (page k i : ℕ) (others : AreOthers room words page k)
+    (low : k < room) (within : i < room) (on : IsOn room (page % room) k i) where
   -- a free word behind the others shows that the page stands nowhere
   pub nowhere : get_or words i 0 ≡ 0 → (j : ℕ) → j < room → get_or words j 0 ≡ page + 1 → ⊥
   nowhere free j lt is =
@@ -69,12 +69,11 @@ module _ (room total : ℕ) (words : List ℕ) (views : List SeatRecord) (r : Ru
 -- ---- a step that changes no word
 
 -- a step that changes no word keeps the rule, where what belongs to its seat is still right
-pub view_only : (room total : ℕ) (words : List ℕ) (views : List SeatRecord) (id : ℕ) (v w : SeatRecord)
-    → Ruled room total words views → get_elem? views id ≡ some v
-    → w.quota ≡ v.quota → w.firsts ≡ v.firsts → IsWithin w → ((l : Looking) → w.looking ≡ Some l
-    → AreOthers room words l.page l.count) → ((q : ℕ) → Contains w.touched q → IsIn room words q)
+pub view_only : {room total : ℕ} {words : List ℕ} {views : List SeatRecord} (id : ℕ) (v w : SeatRecord) → Ruled room total words views
+    → get_elem? views id ≡ some v → w.quota ≡ v.quota → w.firsts ≡ v.firsts → IsWithin w
+    → ((l : Looking) → w.looking ≡ Some l → AreOthers room words l.page l.count) → ((q : ℕ) → Contains w.touched q → IsIn room words q)
     → Ruled room total words (set views id w)
-view_only room total words views id v w r at quota firsts within looked kept =
+view_only {views} id v w r at quota firsts within looked kept =
     let kept_sum : (f : SeatRecord → ℕ) → f w ≡ f v → sum_by f (set views id w) ≡ sum_by f views = λ f e.
     let s = sum_after f views id v w at in omega arith in
     record {
@@ -142,7 +141,7 @@ module _ (room total : ℕ) (words : List ℕ) (views : List SeatRecord) (id : �
 
   only_here : (j : ℕ) → j < room → get_or words' j 0 ≡ page + 1 → j ≡ i
   only_here j lt is = dite (ℕ_discrete j i) (λ e. e)
-      (λ n. absurd (nowhere room total words views r page k i others low within on free j lt (sym (elsewhere j n) ∙ is)))
+      (λ n. absurd (nowhere r page k i others low within on free j lt (sym (elsewhere j n) ∙ is)))
 
   now_alone : (a b : ℕ) → a < room → b < room → get_or words' a 0 ≡ get_or words' b 0 → get_or words' a 0 ≢ 0 → a ≡ b
   now_alone a b la lb same some_page = dite (ℕ_discrete a i)
@@ -162,7 +161,7 @@ module _ (room total : ℕ) (words : List ℕ) (views : List SeatRecord) (id : �
     within = λ j u e. ⊎_elim (λ t. subst IsWithin t.1 inside) (λ t. r.within j u t.1) (at_set views id j w u e);
     full = let s = sum_after first_count views id v w at in
         let t = sum_by-set full_word words i (page + 1) 0 there in
-        let a = full_none (get_or words i 0) free in
+        let a = full_none free in
         let b = full_some (page + 1) (λ z. omega arith) in
         let c : length w.firsts ≡ length v.firsts + 1 = ap (λ l. length l) firsts ∙ length-append v.firsts (page ∷ []) in
         let d = r.full in omega arith;
@@ -191,18 +190,17 @@ module _ (room total : ℕ) (words : List ℕ) (views : List SeatRecord) (id : �
 -- ---- each step
 
 -- what a call has looked at, whether it has begun or not
-known : (room total : ℕ) (words : List ℕ) (views : List SeatRecord) (id page : ℕ) (v : SeatRecord)
-    → Ruled room total words views → get_elem? views id ≡ some v → IsFor page v.looking → AreOthers room words page (count_of v.looking)
-known room total words views id page v r at for = by v.looking refl for
+known : {room total : ℕ} {words : List ℕ} {views : List SeatRecord} (id page : ℕ) (v : SeatRecord) → Ruled room total words views
+    → get_elem? views id ≡ some v → IsFor page v.looking → AreOthers room words page (count_of v.looking)
+known {room} {words} id page v r at for = by v.looking refl for
   where
     by : (o : Option Looking) → v.looking ≡ o → IsFor page o → AreOthers room words page (count_of o)
     by None e f = λ j d a b c. absurd (omega arith)
     by (Some l) e f = subst (λ p. AreOthers room words p l.count) f (r.looked id v l at e)
 
-more_within : (page : ℕ) (v w : SeatRecord) → IsWithin v → length v.touched < v.quota → w.quota ≡ v.quota
-    → w.touched ≡ v.touched ++ page ∷ [] → ((q : ℕ) → Contains w.firsts q → Contains v.firsts q ⊎ (page ≡ q))
-    → length w.firsts ≤ length v.firsts + 1 → IsWithin w
-more_within page v w i left quota touched member count =
+more_within : (page : ℕ) {v : SeatRecord} (w : SeatRecord) → IsWithin v → length v.touched < v.quota → w.quota ≡ v.quota → w.touched ≡ v.touched ++ page ∷ []
+    → ((q : ℕ) → Contains w.firsts q → Contains v.firsts q ⊎ (page ≡ q)) → length w.firsts ≤ length v.firsts + 1 → IsWithin w
+more_within page {v} w i left quota touched member count =
     let long : length w.touched ≡ length v.touched + 1 = ap (λ l. length l) touched ∙ length-append v.touched (page ∷ []) in
     let a = i.firsts in
     record {
@@ -214,15 +212,15 @@ more_within page v w i left quota touched member count =
     }
 
 -- what the view after is, by what was found
-pub after_seen : (page : ℕ) (puts : Bool) (i n : ℕ) (v : SeatRecord) → n ≡ page + 1 → after_probe page puts i n v ≡ seen page puts i n v
-after_seen page puts i n v e = ⊎_elim
+pub after_seen : (page : ℕ) (puts : Bool) (i : ℕ) {n : ℕ} (v : SeatRecord) → n ≡ page + 1 → after_probe page puts i n v ≡ seen page puts i n v
+after_seen page puts i {n} v e = ⊎_elim
     (λ t. ap (λ b. cond b (seen page puts i n v) (cond (eqb n 0) (at_free page puts i n v) (passed page puts i n v))) t.0)
     (λ t. absurd (t.1 e))
     (eqb_tells n (page + 1))
 
 -- a free word: it is written by an exchange, and left as it is by a load
-pub after_free : (page : ℕ) (puts : Bool) (i n : ℕ) (v : SeatRecord) → n ≡ 0 → after_probe page puts i n v ≡ at_free page puts i n v
-after_free page puts i n v e = ⊎_elim
+pub after_free : (page : ℕ) (puts : Bool) (i : ℕ) {n : ℕ} (v : SeatRecord) → n ≡ 0 → after_probe page puts i n v ≡ at_free page puts i n v
+after_free page puts i {n} v e = ⊎_elim
     (λ t. let z = t.1 in absurd (omega arith))
     (λ t. ap (λ b. cond b (seen page puts i n v) (cond (eqb n 0) (at_free page puts i n v) (passed page puts i n v))) t.0 ∙ ⊎_elim
     (λ u. ap (λ b. cond b (at_free page puts i n v) (passed page puts i n v)) u.0)
@@ -243,11 +241,11 @@ module _ (room total : ℕ) (words : List ℕ) (views : List SeatRecord) (id : �
     (r : Ruled room total words views) (at : get_elem? views id ≡ some v) (page i : ℕ) (puts : Bool)
     (may : MayProbe room page i v) (n : ℕ) (is : get_or words i 0 ≡ n) where
   others : AreOthers room words page (count_of v.looking)
-  others = known room total words views id page v r at may.same
+  others = known id page v r at may.same
 
   found_it : n ≡ page + 1 → Ruled room total words (set views id (seen page puts i n v))
-  found_it e = view_only room total words views id v (seen page puts i n v) r at refl refl
-      (more_within page v (seen page puts i n v) (r.within id v at) may.left refl refl (λ q h. inl h) (omega arith))
+  found_it e = view_only id v (seen page puts i n v) r at refl refl
+      (more_within page (seen page puts i n v) (r.within id v at) may.left refl refl (λ q h. inl h) (omega arith))
       (λ l no. absurd cc)
       (λ q has. ⊎_elim (λ old. r.kept id q v at old) (λ same. (i, may.within, is ∙ (e ∙ ap (λ p. p + 1) same)))
       (Contains-push_cases v.touched page q has))
@@ -260,17 +258,17 @@ module _ (room total : ℕ) (words : List ℕ) (views : List SeatRecord) (id : �
       (λ differ. others j d lt (omega arith) on)
 
   passed_by : n ≢ 0 → n ≢ page + 1 → Ruled room total words (set views id (passed page puts i n v))
-  passed_by a b = view_only room total words views id v (passed page puts i n v) r at refl refl
+  passed_by a b = view_only id v (passed page puts i n v) r at refl refl
       (let w = r.within id v at in record { quota = w.quota; firsts = w.firsts; member = w.member })
       (λ l e. let same : record { page = page; count = count_of v.looking + 1 } ≡ l = cc in subst
       (λ (x : Looking). AreOthers room words x.page x.count) same (more_others a b))
       (λ q has. r.kept id q v at has)
 
   left_over : n ≢ 0 → n ≢ page + 1 → count_of v.looking + 1 < room
-  left_over a b = words_left room total words views r page (count_of v.looking) i others may.below may.within may.on id v at may.left (λ z. a (sym is ∙ z))
+  left_over a b = words_left r page (count_of v.looking) i others may.below may.within may.on id v at may.left (λ z. a (sym is ∙ z))
 
   free_stays : Ruled room total words (set views id (stayed page puts i n v))
-  free_stays = view_only room total words views id v (stayed page puts i n v) r at refl refl
+  free_stays = view_only id v (stayed page puts i n v) r at refl refl
       (let w = r.within id v at in record { quota = w.quota; firsts = w.firsts; member = w.member })
       (λ l e. r.looked id v l at e)
       (λ q has. r.kept id q v at has)
@@ -278,51 +276,48 @@ module _ (room total : ℕ) (words : List ℕ) (views : List SeatRecord) (id : �
   free_taken : n ≡ 0 → Ruled room total (set words i (page + 1)) (set views id (wrote page puts i n v))
   free_taken e = written room total words views id v (wrote page puts i n v) r at page
       (count_of v.looking) i others may.below may.within may.on (is ∙ e) refl refl refl
-      (more_within page v (wrote page puts i n v) (r.within id v at) may.left refl refl
-      (λ q h. Contains-push_cases v.firsts page q h) (let l = length-append v.firsts (page ∷ []) in omega arith))
+      (more_within page (wrote page puts i n v) (r.within id v at) may.left refl refl (λ q h. Contains-push_cases v.firsts page q h)
+      (let l = length-append v.firsts (page ∷ []) in omega arith))
       (λ q has. Contains-push_cases v.touched page q has)
 
   -- where the word has a page it stays, whichever step it was
   stays : n ≢ 0 → Ruled room total words (set views id (after_probe page puts i n v))
   stays a = dite (ℕ_discrete n (page + 1))
-      (λ e. subst (λ w. Ruled room total words (set views id w)) (sym (after_seen page puts i n v e)) (found_it e))
+      (λ e. subst (λ w. Ruled room total words (set views id w)) (sym (after_seen page puts i v e)) (found_it e))
       (λ b. subst (λ w. Ruled room total words (set views id w)) (sym (after_other page puts i n v b a)) (passed_by a b))
 
 -- what a step says, in the words of its play
-says : (room page i n : ℕ) (puts : Bool) (me : Me (Unit {0}) SeatRecord) (room' page' : ℕ) (puts' : Bool)
-    → room' ≡ room → page' ≡ page → puts' ≡ puts → IsProbe room page puts i me.0 n (after_probe page puts i n me.0)
-    → probe_play room' page' puts' i me n (after_probe page puts i n me.0, me.1)
-says room page i n puts me room' page' puts' er ep eb told = (
+says : {room page i n : ℕ} {puts : Bool} (me : Me (Unit {0}) SeatRecord) {room' page' : ℕ} {puts' : Bool} → room' ≡ room → page' ≡ page → puts' ≡ puts
+    → IsProbe room page puts i me.0 n (after_probe page puts i n me.0) → probe_play room' page' puts' i me n (after_probe page puts i n me.0, me.1)
+says {page} {i} {n} {puts} me er ep eb told = (
   refl,
   subst (λ (z : ℕ × (ℕ × Bool)). IsProbe z.0 z.1.0 z.1.1 i me.0 n (after_probe page puts i n me.0))
       (λ j. (sym er j, (sym ep j, sym eb j))) told,
 )
 
 -- a load may be made
-pub load_allows : (room total slots id i page : ℕ) (me : Me (Unit {0}) SeatRecord) (room' page' : ℕ) (puts' : Bool)
-    → room' ≡ room → page' ≡ page → puts' ≡ false → MayProbe room page i me.0
-    → Allows (IsTouchTable room total) slots id me i (λ n. n) (probe_play room' page' puts' i me)
-load_allows room total slots id i page me room' page' puts' er ep eb may s r _ at small =
+pub load_allows : {room : ℕ} (total slots id : ℕ) {i page : ℕ} (me : Me (Unit {0}) SeatRecord) {room' page' : ℕ} {puts' : Bool} → room' ≡ room → page' ≡ page
+    → puts' ≡ false → MayProbe room page i me.0 → Allows (IsTouchTable room total) slots id me i (λ n. n) (probe_play room' page' puts' i me)
+load_allows {room} total slots id {i} {page} me er ep eb may s r _ at small =
     let v : SeatRecord = me.0 in
     let n : ℕ = get_or s.words i 0 in
     let w : SeatRecord = after_probe page false i n v in
     let kept : Ruled room total s.words (set s.views id w) = dite (ℕ_discrete n 0)
-    (λ e. subst (λ u. Ruled room total s.words (set s.views id u)) (sym (after_free page false i n v e))
+    (λ e. subst (λ u. Ruled room total s.words (set s.views id u)) (sym (after_free page false i v e))
     (free_stays room total s.words s.views id v r at page i false may n refl))
     (λ a. stays room total s.words s.views id v r at page i false may n refl a) in (
       w,
       keeps,
       tt,
       subst (λ l. Ruled room total l (set s.views id w)) (sym (set-get_or s.words i 0)) kept,
-      says room page i n false me room' page' puts' er ep eb
-          (record { after = refl; more = λ a b. left_over room total s.words s.views id v r at page i false may n refl a b }),
+      says me er ep eb (record { after = refl; more = λ a b. left_over room total s.words s.views id v r at page i false may n refl a b }),
     )
 
 -- an exchange from 0 to the page plus 1 may be made
-pub put_allows : (room total slots id i page : ℕ) (me : Me (Unit {0}) SeatRecord) (room' page' : ℕ) (puts' : Bool)
-    → room' ≡ room → page' ≡ page → puts' ≡ true → MayProbe room page i me.0
+pub put_allows : {room : ℕ} (total slots id : ℕ) {i page : ℕ} (me : Me (Unit {0}) SeatRecord) {room' page' : ℕ} {puts' : Bool} → room' ≡ room → page' ≡ page
+    → puts' ≡ true → MayProbe room page i me.0
     → Allows (IsTouchTable room total) slots id me i (λ n. either (eqb n 0) (page + 1) n) (probe_play room' page' puts' i me)
-put_allows room total slots id i page me room' page' puts' er ep eb may s r _ at small =
+put_allows {room} total slots id {i} {page} me er ep eb may s r _ at small =
     let v : SeatRecord = me.0 in
     let n : ℕ = get_or s.words i 0 in
     let w : SeatRecord = after_probe page true i n v in (
@@ -331,13 +326,12 @@ put_allows room total slots id i page me room' page' puts' er ep eb may s r _ at
       tt,
       exchanged n 0 (page + 1) (λ m. Ruled room total (set s.words i m) (set s.views id w))
           (λ e. subst (λ u. Ruled room total (set s.words i (page + 1)) (set s.views id u))
-          (sym (after_free page true i n v e)) (free_taken room total s.words s.views id v r at page i true may n refl e))
+          (sym (after_free page true i v e)) (free_taken room total s.words s.views id v r at page i true may n refl e))
           (λ a. subst (λ l. Ruled room total l (set s.views id w)) (sym (set-get_or s.words i 0))
           (stays room total s.words s.views id v r at page i true may n refl a)),
-      says room page i n true me room' page' puts' er ep eb
-          (record { after = refl; more = λ a b. left_over room total s.words s.views id v r at page i true may n refl a b }),
+      says me er ep eb (record { after = refl; more = λ a b. left_over room total s.words s.views id v r at page i true may n refl a b }),
     )
 
 -- the word is one of the table's
-pub word_there : (words now place : ℕ) → words ≡ now → place < now → place < words
-word_there words now place e low = omega arith
+pub word_there : {words now : ℕ} (place : ℕ) → words ≡ now → place < now → place < words
+word_there place e low = omega arith

@@ -1,12 +1,11 @@
 -- The text of a call is read as the call: each argument with the comma behind it, and then the end of the line.
-use Rattle.std.proofs.Common.{rules, ◌≡◌, ◌≢◌, ℕ, zero, suc, ◌^◌, ◌<◌, ◌≤◌, List, [], ◌∷◌, ◌++◌, length, get_or, codes}
-use Rattle.std.proofs.Common.{decimal, if◌then◌else◌, ◌==◌, false, Option, Some, None, refl, sym, ap, subst, ◌∙◌, arith}
+use Rattle.std.proofs.Common.{rules, ◌≡◌, ℕ, zero, suc, ◌^◌, ◌<◌, ◌≤◌, List, [], ◌∷◌, ◌++◌, length, codes}
+use Rattle.std.proofs.Common.{decimal, if◌then◌else◌, ◌==◌, false, Option, Some, None, refl, sym, subst, ◌∙◌, arith}
 use Rattle.std.proofs.Common.{append_assoc, append-nil, Bool, true}
 use Rattle.std.proofs.lemmas.List.{length-append}
 use Rattle.std.proofs.lemmas.Bool.Decides.{nat_tests}
 use Rattle.std.proofs.lemmas.Fmt.{length-decimal-le}
 use Rattle.maps_printer.proofs.Hex.{length-hex_digits}
-use Rattle.std.proofs.Math.Seq.{get_or-append_seam}
 use Rattle.line_parts.specs.declared.refusal.What.{What}
 use Rattle.line_parts.specs.declared.refusal.What.TheVariants.{Number}
 use Rattle.line_parts.specs.Parts.{Part, chain, arm, done, starts}
@@ -27,6 +26,7 @@ use Rattle.strace_reader.specs.Calls.{munmap_arguments, mprotect_arguments, faul
 use Rattle.strace_reader.specs.Calls.{optional, is_more, alone, hex_number, moving, brk_arguments, remap_lengths, remap_behind, mremap_arguments}
 use Rattle.strace_reader.specs.Grammar.{Spells, IsBody, NeverReturned, EndsWith, unfinished}
 use Rattle.strace_reader.proofs.BodyAnswers.{call_cut}
+use Rattle.strace_reader.proofs.FormFacts.{last_same}
 use Rattle.maps_printer.specs.Calls.{call_text, hint_text}
 use Rattle.maps_printer.specs.Numbers.{address_text, prefixed_hex}
 use Rattle.maps_printer.specs.Words.{prot_text, flags_text, access_text, move_text}
@@ -273,23 +273,15 @@ mmap_takes a n p f small_a small_n small_p small_f =
 
 -- ---- the whole line
 
--- two texts that end with different bytes differ
-last_differs : (xs ys : List ℕ) (a b : ℕ) → xs ++ a ∷ [] ≡ ys ++ b ∷ [] → a ≢ b → ⊥
-last_differs xs ys a b e differ =
-    let same : length xs ≡ length ys = omega (arith, simp length-append at (ap length e)) in
-    let at_a = get_or-append_seam xs a [] 0 in
-    let at_b = get_or-append_seam ys b [] 0 in
-    differ (sym at_a ∙ ap (λ l. get_or l (length xs) 0) e ∙ ap (λ i. get_or (ys ++ b ∷ []) i 0) same ∙ at_b)
-
 -- a line that ends with a closing parenthesis is no half, and it returned
 no_half : (text body : List ℕ) → text ≡ body ++ codes ")" → EndsWith unfinished text → ⊥
 no_half text body e h =
-    last_differs body (h.0 ++ codes "<unfinished ...") 41 62 (sym e ∙ h.1 ∙ sym (append_assoc h.0 (codes "<unfinished ...") (62 ∷ []))) (λ x. omega arith)
+    let k = last_same body (h.0 ++ codes "<unfinished ...") 41 62 (sym e ∙ h.1 ∙ sym (append_assoc h.0 (codes "<unfinished ...") (62 ∷ []))) in cc
 
 did_return : (text body : List ℕ) → text ≡ body ++ codes ")" → NeverReturned text → ⊥
 did_return text body e h =
     let before = h.0 ++ (codes "<unfinished ...>)" ++ ((32 ∷ h.1) ++ codes "= ")) in
-    last_differs body before 41 63 (sym e ∙ h.3 ∙ simp append_assoc) (λ x. omega arith)
+    let k = last_same body before 41 63 (sym e ∙ h.3 ∙ simp append_assoc) in cc
 
 -- a line of the name and arguments that are read
 spelled : (name : Name) (args text body : List ℕ) (c : Call) → (arguments name).takes args [] (unrecorded c)
@@ -316,12 +308,6 @@ nest_map o a c n p f t = simp append_assoc
 nest_protect : (o a c n p t : List ℕ) → o ++ a ++ c ++ n ++ c ++ p ++ t ≡ o ++ (a ++ (c ++ (n ++ (c ++ (p ++ t)))))
 nest_protect o a c n p t = simp append_assoc
 
-nest_remap : (o a c n m w h t : List ℕ) → o ++ a ++ c ++ n ++ c ++ m ++ c ++ w ++ h ++ t ≡ o ++ (a ++ (c ++ (n ++ (c ++ (m ++ (c ++ (w ++ (h ++ t))))))))
-nest_remap o a c n m w h t = simp append_assoc
-
-nest_unmap : (o a c n t : List ℕ) → o ++ a ++ c ++ n ++ t ≡ o ++ (a ++ (c ++ (n ++ t)))
-nest_unmap o a c n t = simp append_assoc
-
 -- what is written of a call spells the call
 pub call_text_spells : (c : Call) → IsNamedCall c → FitsCall c → Spells (call_text c) (Played 0 c None)
 call_text_spells (Map a n p f) named fits =
@@ -332,35 +318,24 @@ call_text_spells (Map a n p f) named fits =
     (sym (append_assoc body (codes ", -1, 0") (codes ")")))
 call_text_spells (Unmap a n) named fits =
     spelled Munmap _ (call_text (Unmap a n)) (codes "munmap(" ++ address_text a ++ codes ", " ++ decimal n) _
-    (munmap_takes a n fits.0 fits.1)
-    (nest_unmap (codes "munmap(") (address_text a) (codes ", ") (decimal n) (codes ")"))
-    refl
+    (munmap_takes a n fits.0 fits.1) (simp append_assoc) refl
 call_text_spells (Protect a n p) named fits =
     spelled Mprotect _ (call_text (Protect a n p)) (codes "mprotect(" ++ address_text a ++ codes ", " ++ decimal n ++ codes ", " ++ prot_text p) _
     (mprotect_takes a n p.0 fits.0 fits.1 named)
-    (nest_protect (codes "mprotect(") (address_text a) (codes ", ") (decimal n) (prot_text p) (codes ")"))
-    refl
+    (nest_protect (codes "mprotect(") (address_text a) (codes ", ") (decimal n) (prot_text p) (codes ")")) refl
 call_text_spells (Fault a which) named fits =
     spelled FaultName _ (call_text (Fault a which)) (codes "fault(" ++ address_text a ++ codes ", " ++ access_text which) _
-    (fault_takes a which fits)
-    (nest_unmap (codes "fault(") (address_text a) (codes ", ") (access_text which) (codes ")"))
-    refl
+    (fault_takes a which fits) (simp append_assoc) refl
 call_text_spells (Seal a n f) named fits =
     spelled Mseal _ (call_text (Seal a n f)) (codes "mseal(" ++ address_text a ++ codes ", " ++ decimal n ++ codes ", " ++ decimal f) _
-    (mseal_takes a n f fits.0 fits.1 fits.2)
-    (nest_protect (codes "mseal(") (address_text a) (codes ", ") (decimal n) (decimal f) (codes ")"))
-    refl
+    (mseal_takes a n f fits.0 fits.1 fits.2) (simp append_assoc) refl
 call_text_spells (Brk b a) named fits =
     spelled BrkName _ (call_text (Brk b a)) (codes "brk(" ++ address_text a ++ codes ", " ++ address_text b) _
-    (brk_takes b a fits.0 fits.1)
-    (nest_unmap (codes "brk(") (address_text a) (codes ", ") (address_text b) (codes ")"))
-    refl
+    (brk_takes b a fits.0 fits.1) (simp append_assoc) refl
 call_text_spells (Remap a o n may h) named fits =
     let body = codes "mremap(" ++ address_text a ++ codes ", " ++ decimal o ++ codes ", " ++ decimal n ++ codes ", " ++ move_text may ++ hint_text h in
     spelled Mremap _ (call_text (Remap a o n may h)) body _
-    (mremap_takes a o n may h fits.0 fits.1 fits.2 fits.3)
-    (nest_remap (codes "mremap(") (address_text a) (codes ", ") (decimal o) (decimal n) (move_text may) (hint_text h) (codes ")"))
-    refl
+    (mremap_takes a o n may h fits.0 fits.1 fits.2 fits.3) (simp append_assoc) refl
 
 -- ---- how long a text is
 

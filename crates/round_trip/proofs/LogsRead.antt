@@ -10,6 +10,7 @@ use Rattle.std.proofs.lemmas.Bool.Decides.{eqb_tells}
 use Rattle.std.proofs.lemmas.List.{get_or_default}
 use Rattle.std.proofs.lemmas.Fmt.{decimal_injective}
 use Rattle.line_parts.specs.Leaves.{worth, AllDigits, value}
+use Rattle.line_parts.proofs.Leaves.{is_same}
 use Rattle.page_types.specs.declared.TheConstants.{LIMIT}
 use Rattle.page_types.specs.declared.calls.Call.{Call}
 use Rattle.page_types.specs.declared.calls.Call.TheVariants.{Map, Unmap, Protect, Fault, Seal, Brk, Remap}
@@ -50,7 +51,8 @@ abbrev pub lacks : ℕ → List ℕ → Bool
 lacks b [] = true
 lacks b (x ∷ xs) = not (x == b) && lacks b xs
 
-both : (p q : Bool) → p ≡ true → q ≡ true → p && q ≡ true
+-- two tests both pass where each does
+pub both : (p q : Bool) → p ≡ true → q ≡ true → p && q ≡ true
 both true q a b = b
 both false q a b = absurd cc
 
@@ -64,8 +66,10 @@ pub second_of : (p q : Bool) → p && q ≡ true → q ≡ true
 second_of true q a = a
 second_of false q a = absurd cc
 
-differ : (x b : ℕ) → not (x == b) ≡ true → x ≢ b
-differ x b h = elim (eqb_tells x b) [ inl t ↦ absurd (let no : not (x == b) ≡ false = ap not t.0 in cc) | inr t ↦ t.1 ]
+-- a test fails where its negation passes
+pub not_true : (t : Bool) → not t ≡ true → t ≡ false
+not_true true h = absurd cc
+not_true false h = refl
 
 -- two texts lack the byte where each does
 pub lacks_both : (b : ℕ) (xs ys : List ℕ) → lacks b xs ≡ true → lacks b ys ≡ true → lacks b (xs ++ ys) ≡ true
@@ -112,15 +116,23 @@ clean b text h = record { text = text; lacks_it = h }
 abbrev pub onto : {b : ℕ} → Clean b → (text : List ℕ) → lacks b text ≡ true → Clean b
 onto {b} first text h = record { text = first.text ++ text; lacks_it = lacks_both b first.text text first.lacks_it h }
 
+-- what stands before the first such byte, and what stands behind it
+abbrev split : ℕ → List ℕ → List ℕ × List ℕ
+split b [] = ([], [])
+split b (x ∷ xs) = if x == b then ([], xs) else (x ∷ (split b xs).0, (split b xs).1)
+
+-- a text that lacks the byte is split from what stands behind the byte
+split_is : (b : ℕ) (xs r : List ℕ) → lacks b xs ≡ true → split b (xs ++ b ∷ r) ≡ (xs, r)
+split_is b [] r none = rw (is_same b) refl
+split_is b (x ∷ xs) r none =
+    rw (not_true (x == b) (first_of (not (x == b)) (lacks b xs) none))
+    (ap (λ (p : List ℕ × List ℕ). (x ∷ p.0, p.1)) (split_is b xs r (second_of (not (x == b)) (lacks b xs) none)))
+
 -- two texts that lack a byte and have it behind them: where the wholes are equal the parts are
 pub cut : (b : ℕ) (xs ys r s : List ℕ) → lacks b xs ≡ true → lacks b ys ≡ true → xs ++ b ∷ r ≡ ys ++ b ∷ s → (xs ≡ ys) × (r ≡ s)
-cut b [] [] r s p q e = (refl, ap (drop 1) e)
-cut b [] (y ∷ ys) r s p q e = absurd (differ y b (first_of (not (y == b)) (lacks b ys) q) (sym (ap (λ (l : List ℕ). get_or l 0 0) e)))
-cut b (x ∷ xs) [] r s p q e = absurd (differ x b (first_of (not (x == b)) (lacks b xs) p) (ap (λ (l : List ℕ). get_or l 0 0) e))
-cut b (x ∷ xs) (y ∷ ys) r s p q e =
-    let first : x ≡ y = ap (λ (l : List ℕ). get_or l 0 0) e in
-    let rest = cut b xs ys r s (second_of (not (x == b)) (lacks b xs) p) (second_of (not (y == b)) (lacks b ys) q) (ap (drop 1) e) in
-    ((λ i. first i ∷ rest.0 i), rest.1)
+cut b xs ys r s p q e =
+    let both = sym (split_is b xs r p) ∙ ap (split b) e ∙ split_is b ys s q in
+    (ap (λ (t : List ℕ × List ℕ). t.0) both, ap (λ (t : List ℕ × List ℕ). t.1) both)
 
 none_behind : (a : ℕ) (l : List ℕ) → l ++ a ∷ [] ≡ [] → ⊥
 none_behind a [] e = cc
@@ -156,6 +168,9 @@ hex_lacks b n small none = digits_lack 16 b (hex_digits n) (hex_are_digits n sma
 -- the number that hexadecimal digits write
 hex_back : (n : ℕ) → n < 2 ^ 64 → value 16 0 (hex_digits n) ≡ n
 hex_back n small = sym (hex_are_digits n small).2
+
+decimal_back : (n : ℕ) → n < 2 ^ 64 → value 10 0 (decimal n) ≡ n
+decimal_back n small = sym (decimal_digits n small).2
 
 -- a space is no digit
 pub space_ends : 16 ≤ worth 32
@@ -193,37 +208,31 @@ address_lacks : (b n : ℕ) → n < 2 ^ 64 → lacks b (codes "NULL") ≡ true �
 address_lacks b n small null x none = elim (n == 0) as (λ t. lacks b (cond t (codes "NULL") (prefixed_hex n)) ≡ true)
     [ true ↦ null | false ↦ lacks_both b (codes "0x") (hex_digits n) x (hex_lacks b n small none) ]
 
-prot_words_use : (a b c : Bool)
-    → uses call_bytes (words_or (codes "PROT_NONE") (word_if a (codes "PROT_READ") ++ word_if b (codes "PROT_WRITE") ++ word_if c
-    (codes "PROT_EXEC"))) ≡ true
-prot_words_use true true true = refl
-prot_words_use true true false = refl
-prot_words_use true false true = refl
-prot_words_use true false false = refl
-prot_words_use false true true = refl
-prot_words_use false true false = refl
-prot_words_use false false true = refl
-prot_words_use false false false = refl
+-- a test that passes for both truth values
+abbrev both_ways : (Bool → Bool) → Bool
+both_ways f = f true && f false
 
-flag_words_use : (a b c d : Bool) → uses call_bytes
-    (words_or (codes "0") (word_if a (codes "MAP_SHARED") ++ word_if b (codes "MAP_PRIVATE") ++ word_if c (codes "MAP_FIXED")
-    ++ word_if d (codes "MAP_FIXED_NOREPLACE"))) ≡ true
-flag_words_use true true true true = refl
-flag_words_use true true true false = refl
-flag_words_use true true false true = refl
-flag_words_use true true false false = refl
-flag_words_use true false true true = refl
-flag_words_use true false true false = refl
-flag_words_use true false false true = refl
-flag_words_use true false false false = refl
-flag_words_use false true true true = refl
-flag_words_use false true true false = refl
-flag_words_use false true false true = refl
-flag_words_use false true false false = refl
-flag_words_use false false true true = refl
-flag_words_use false false true false = refl
-flag_words_use false false false true = refl
-flag_words_use false false false false = refl
+either_way : (f : Bool → Bool) → both_ways f ≡ true → (a : Bool) → f a ≡ true
+either_way f h true = first_of (f true) (f false) h
+either_way f h false = second_of (f true) (f false) h
+
+-- a test of four truth values that passes for all sixteen passes for these
+each_of_four : (f : Bool → Bool → Bool → Bool → Bool)
+    → both_ways (λ a. both_ways (λ b. both_ways (λ c. both_ways (f a b c)))) ≡ true → (a b c d : Bool) → f a b c d ≡ true
+each_of_four f h a b c d =
+    let one = either_way (λ x. both_ways (λ y. both_ways (λ z. both_ways (f x y z)))) h a in
+    let two = either_way (λ y. both_ways (λ z. both_ways (f a y z))) one b in
+    either_way (f a b c) (either_way (λ z. both_ways (f a b z)) two c) d
+
+prot_uses : (p : Prot) → uses call_bytes (prot_text p) ≡ true
+prot_uses p = each_of_four (λ a b c d. uses call_bytes (words_or (codes "PROT_NONE")
+    (word_if a (codes "PROT_READ") ++ word_if b (codes "PROT_WRITE") ++ word_if c (codes "PROT_EXEC")))) refl
+    (has_bits (prot_bits p) 1) (has_bits (prot_bits p) 2) (has_bits (prot_bits p) 4) true
+
+flags_use : (f : MapFlags) → uses call_bytes (flags_text f) ≡ true
+flags_use f = each_of_four (λ a b c d. uses call_bytes (words_or (codes "0") (word_if a (codes "MAP_SHARED")
+    ++ word_if b (codes "MAP_PRIVATE") ++ word_if c (codes "MAP_FIXED") ++ word_if d (codes "MAP_FIXED_NOREPLACE")))) refl
+    (has_bits (flag_bits f) 1) (has_bits (flag_bits f) 2) (has_bits (flag_bits f) 4) (has_bits (flag_bits f) 8)
 
 access_uses : (a : Access) → uses call_bytes (access_text a) ≡ true
 access_uses Read = refl
@@ -279,10 +288,8 @@ module _ (b : ℕ) (apart : IsApart b) where
   body_of (Map a n p f) fits =
       let first = onto (word (codes "mmap(") refl) (address_text a) (address a fits.0) in
       let len = onto (more first (codes ", ") refl) (decimal n) (number n fits.1) in
-      let prot = more (more len (codes ", ") refl) (prot_text p)
-      (prot_words_use (has_bits (prot_bits p) 1) (has_bits (prot_bits p) 2) (has_bits (prot_bits p) 4)) in
-      let flags = more (more prot (codes ", ") refl) (flags_text f)
-      (flag_words_use (has_bits (flag_bits f) 1) (has_bits (flag_bits f) 2) (has_bits (flag_bits f) 4) (has_bits (flag_bits f) 8)) in
+      let prot = more (more len (codes ", ") refl) (prot_text p) (prot_uses p) in
+      let flags = more (more prot (codes ", ") refl) (flags_text f) (flags_use f) in
       of_clean b (Map a n p f) (more flags (codes ", -1, 0") refl) (sym (append_assoc flags.text (codes ", -1, 0") (41 ∷ [])))
   body_of (Unmap a n) fits =
       let first = onto (word (codes "munmap(") refl) (address_text a) (address a fits.0) in
@@ -290,8 +297,7 @@ module _ (b : ℕ) (apart : IsApart b) where
   body_of (Protect a n p) fits =
       let first = onto (word (codes "mprotect(") refl) (address_text a) (address a fits.0) in
       let len = onto (more first (codes ", ") refl) (decimal n) (number n fits.1) in
-      let prot = more (more len (codes ", ") refl) (prot_text p)
-      (prot_words_use (has_bits (prot_bits p) 1) (has_bits (prot_bits p) 2) (has_bits (prot_bits p) 4)) in
+      let prot = more (more len (codes ", ") refl) (prot_text p) (prot_uses p) in
       of_clean b (Protect a n p) prot refl
   body_of (Fault a which) fits =
       let first = onto (word (codes "fault(") refl) (address_text a) (address a fits) in
@@ -400,10 +406,7 @@ kind_told k named =
       sealed = seal_told r w x s k.sealed i;
     }
 
-kind_tells : (k j : Kind) → IsNamedKind k → IsNamedKind j → log_kind k ≡ log_kind j → k ≡ j
-kind_tells k j a b e = sym (kind_told k a) ∙ ap kind_back e ∙ kind_told j b
-
--- what a text says of a refused argument, a want and a refusal, by the bytes that tell them apart
+-- what a text says of a refused argument, a want, a refusal and a reply, by the bytes that tell them apart
 field_back : List ℕ → Field
 field_back text = if get_or text 0 0 == 97 then Addr else if get_or text 0 0 == 108 then Len else if get_or text 0 0 == 102 then Flags else End
 
@@ -421,80 +424,41 @@ hex_tells n m low high e = sym (hex_back n low) ∙ ap (value 16 0) e ∙ hex_ba
 apart : (place : ℕ) (xs ys : List ℕ) → get_or xs place 0 ≢ get_or ys place 0 → xs ≡ ys → ⊥
 apart place xs ys differ e = differ (ap (λ (l : List ℕ). get_or l place 0) e)
 
-short_tells : (s t : Short) → FitsShort s → FitsShort t → short_text s ≡ short_text t → s ≡ t
-short_tells (Missing p) (Missing q) a b e = ap Missing (hex_tells p q a b (ap (drop 15) e))
-short_tells (Missing p) (PastEnd q) a b e = absurd (apart 0 _ _ (λ x. omega (arith, x)) e)
-short_tells (Missing p) (NoGap q) a b e = absurd (apart 0 _ _ (λ x. omega (arith, x)) e)
-short_tells (Missing p) (Rows q) a b e = absurd (apart 0 _ _ (λ x. omega (arith, x)) e)
-short_tells (PastEnd p) (Missing q) a b e = absurd (apart 0 _ _ (λ x. omega (arith, x)) e)
-short_tells (PastEnd p) (PastEnd q) a b e = ap PastEnd (hex_tells p q a b (ap (drop 11) e))
-short_tells (PastEnd p) (NoGap q) a b e = absurd (apart 0 _ _ (λ x. omega (arith, x)) e)
-short_tells (PastEnd p) (Rows q) a b e = absurd (apart 0 _ _ (λ x. omega (arith, x)) e)
-short_tells (NoGap p) (Missing q) a b e = absurd (apart 0 _ _ (λ x. omega (arith, x)) e)
-short_tells (NoGap p) (PastEnd q) a b e = absurd (apart 0 _ _ (λ x. omega (arith, x)) e)
-short_tells (NoGap p) (NoGap q) a b e = ap NoGap (cut_number p q (codes "pages") (codes "pages") a b (ap (drop 10) e)).0
-short_tells (NoGap p) (Rows q) a b e = absurd (apart 0 _ _ (λ x. omega (arith, x)) e)
-short_tells (Rows p) (Missing q) a b e = absurd (apart 0 _ _ (λ x. omega (arith, x)) e)
-short_tells (Rows p) (PastEnd q) a b e = absurd (apart 0 _ _ (λ x. omega (arith, x)) e)
-short_tells (Rows p) (NoGap q) a b e = absurd (apart 0 _ _ (λ x. omega (arith, x)) e)
-short_tells (Rows p) (Rows q) a b e = ap Rows (decimal_injective p q a b (ap (drop 5) e))
+short_back : List ℕ → Short
+short_back text = if get_or text 0 0 == 109 then Missing (value 16 0 (drop 15 text))
+    else if get_or text 0 0 == 101 then PastEnd (value 16 0 (drop 11 text))
+    else if get_or text 0 0 == 110 then NoGap (value 10 0 (split 32 (drop 10 text)).0)
+    else Rows (value 10 0 (drop 5 text))
 
-acc_err : (p q : ℕ) (k j : Kind) → why_text (AccErr p k) ≡ why_text (AccErr q j) → hex_digits p ++ 32 ∷ log_kind k ≡ hex_digits q ++ 32 ∷ log_kind j
-acc_err p q k j e =
-    sym (append_assoc (hex_digits p) (codes " ") (log_kind k)) ∙ ap (drop 22) e ∙ append_assoc (hex_digits q) (codes " ") (log_kind j)
+short_told : (s : Short) → FitsShort s → short_back (short_text s) ≡ s
+unfolding short_back
+short_told (Missing p) a = ap Missing (hex_back p a)
+short_told (PastEnd p) a = ap PastEnd (hex_back p a)
+short_told (NoGap n) a =
+    let parts = split_is 32 (decimal n) (codes "pages") (decimal_lacks 32 n a (omega (arith, space_ends))) in
+    ap (λ (t : List ℕ × List ℕ). NoGap (value 10 0 t.0)) parts ∙ ap NoGap (decimal_back n a)
+short_told (Rows n) a = ap Rows (decimal_back n a)
 
-why_tells : (w v : Why) → FitsWhy w → FitsWhy v → IsNamedWhy w → IsNamedWhy v → why_text w ≡ why_text v → w ≡ v
-why_tells (Einval f) (Einval g) a b c d e = ap Einval (sym (field_told f) ∙ ap field_back (ap (drop 10) e) ∙ field_told g)
-why_tells (Einval f) (Enomem g) a b c d e = absurd (apart 4 _ _ (λ x. omega (arith, x)) e)
-why_tells (Einval f) (Eexist q) a b c d e = absurd (apart 4 _ _ (λ x. omega (arith, x)) e)
-why_tells (Einval f) (Eperm q) a b c d e = absurd (apart 4 _ _ (λ x. omega (arith, x)) e)
-why_tells (Einval f) (Efault q) a b c d e = absurd (apart 4 _ _ (λ x. omega (arith, x)) e)
-why_tells (Einval f) (MapErr q) a b c d e = absurd (apart 3 _ _ (λ x. omega (arith, x)) e)
-why_tells (Einval f) (AccErr q j) a b c d e = absurd (apart 3 _ _ (λ x. omega (arith, x)) e)
-why_tells (Enomem f) (Einval g) a b c d e = absurd (apart 4 _ _ (λ x. omega (arith, x)) e)
-why_tells (Enomem f) (Enomem g) a b c d e = ap Enomem (short_tells f g a b (ap (drop 10) e))
-why_tells (Enomem f) (Eexist q) a b c d e = absurd (apart 4 _ _ (λ x. omega (arith, x)) e)
-why_tells (Enomem f) (Eperm q) a b c d e = absurd (apart 4 _ _ (λ x. omega (arith, x)) e)
-why_tells (Enomem f) (Efault q) a b c d e = absurd (apart 4 _ _ (λ x. omega (arith, x)) e)
-why_tells (Enomem f) (MapErr q) a b c d e = absurd (apart 3 _ _ (λ x. omega (arith, x)) e)
-why_tells (Enomem f) (AccErr q j) a b c d e = absurd (apart 3 _ _ (λ x. omega (arith, x)) e)
-why_tells (Eexist p) (Einval g) a b c d e = absurd (apart 4 _ _ (λ x. omega (arith, x)) e)
-why_tells (Eexist p) (Enomem g) a b c d e = absurd (apart 4 _ _ (λ x. omega (arith, x)) e)
-why_tells (Eexist p) (Eexist q) a b c d e = ap Eexist (hex_tells p q a b (ap (drop 17) e))
-why_tells (Eexist p) (Eperm q) a b c d e = absurd (apart 4 _ _ (λ x. omega (arith, x)) e)
-why_tells (Eexist p) (Efault q) a b c d e = absurd (apart 4 _ _ (λ x. omega (arith, x)) e)
-why_tells (Eexist p) (MapErr q) a b c d e = absurd (apart 3 _ _ (λ x. omega (arith, x)) e)
-why_tells (Eexist p) (AccErr q j) a b c d e = absurd (apart 3 _ _ (λ x. omega (arith, x)) e)
-why_tells (Eperm p) (Einval g) a b c d e = absurd (apart 4 _ _ (λ x. omega (arith, x)) e)
-why_tells (Eperm p) (Enomem g) a b c d e = absurd (apart 4 _ _ (λ x. omega (arith, x)) e)
-why_tells (Eperm p) (Eexist q) a b c d e = absurd (apart 4 _ _ (λ x. omega (arith, x)) e)
-why_tells (Eperm p) (Eperm q) a b c d e = ap Eperm (hex_tells p q a b (ap (drop 16) e))
-why_tells (Eperm p) (Efault q) a b c d e = absurd (apart 4 _ _ (λ x. omega (arith, x)) e)
-why_tells (Eperm p) (MapErr q) a b c d e = absurd (apart 3 _ _ (λ x. omega (arith, x)) e)
-why_tells (Eperm p) (AccErr q j) a b c d e = absurd (apart 3 _ _ (λ x. omega (arith, x)) e)
-why_tells (Efault p) (Einval g) a b c d e = absurd (apart 4 _ _ (λ x. omega (arith, x)) e)
-why_tells (Efault p) (Enomem g) a b c d e = absurd (apart 4 _ _ (λ x. omega (arith, x)) e)
-why_tells (Efault p) (Eexist q) a b c d e = absurd (apart 4 _ _ (λ x. omega (arith, x)) e)
-why_tells (Efault p) (Eperm q) a b c d e = absurd (apart 4 _ _ (λ x. omega (arith, x)) e)
-why_tells (Efault p) (Efault q) a b c d e = ap Efault (hex_tells p q a b (ap (drop 17) e))
-why_tells (Efault p) (MapErr q) a b c d e = absurd (apart 3 _ _ (λ x. omega (arith, x)) e)
-why_tells (Efault p) (AccErr q j) a b c d e = absurd (apart 3 _ _ (λ x. omega (arith, x)) e)
-why_tells (MapErr p) (Einval g) a b c d e = absurd (apart 3 _ _ (λ x. omega (arith, x)) e)
-why_tells (MapErr p) (Enomem g) a b c d e = absurd (apart 3 _ _ (λ x. omega (arith, x)) e)
-why_tells (MapErr p) (Eexist q) a b c d e = absurd (apart 3 _ _ (λ x. omega (arith, x)) e)
-why_tells (MapErr p) (Eperm q) a b c d e = absurd (apart 3 _ _ (λ x. omega (arith, x)) e)
-why_tells (MapErr p) (Efault q) a b c d e = absurd (apart 3 _ _ (λ x. omega (arith, x)) e)
-why_tells (MapErr p) (MapErr q) a b c d e = ap MapErr (hex_tells p q a b (ap (drop 22) e))
-why_tells (MapErr p) (AccErr q j) a b c d e = absurd (apart 8 _ _ (λ x. omega (arith, x)) e)
-why_tells (AccErr p k) (Einval g) a b c d e = absurd (apart 3 _ _ (λ x. omega (arith, x)) e)
-why_tells (AccErr p k) (Enomem g) a b c d e = absurd (apart 3 _ _ (λ x. omega (arith, x)) e)
-why_tells (AccErr p k) (Eexist q) a b c d e = absurd (apart 3 _ _ (λ x. omega (arith, x)) e)
-why_tells (AccErr p k) (Eperm q) a b c d e = absurd (apart 3 _ _ (λ x. omega (arith, x)) e)
-why_tells (AccErr p k) (Efault q) a b c d e = absurd (apart 3 _ _ (λ x. omega (arith, x)) e)
-why_tells (AccErr p k) (MapErr q) a b c d e = absurd (apart 8 _ _ (λ x. omega (arith, x)) e)
-why_tells (AccErr p k) (AccErr q j) a b c d e = let h =
-    cut 32 (hex_digits p) (hex_digits q) (log_kind k) (log_kind j) (hex_lacks 32 p a space_ends) (hex_lacks 32 q b space_ends)
-    (acc_err p q k j e) in λ i. AccErr (hex_tells p q a b h.0 i) (kind_tells k j c d h.1 i)
+why_back : List ℕ → Why
+why_back text = if get_or text 5 0 == 78 then Einval (field_back (drop 10 text))
+    else if get_or text 5 0 == 79 then Enomem (short_back (drop 10 text))
+    else if get_or text 5 0 == 88 then Eexist (value 16 0 (drop 17 text))
+    else if get_or text 5 0 == 69 then Eperm (value 16 0 (drop 16 text))
+    else if get_or text 5 0 == 65 then Efault (value 16 0 (drop 17 text))
+    else if get_or text 8 0 == 77 then MapErr (value 16 0 (drop 22 text))
+    else AccErr (value 16 0 (split 32 (drop 22 text)).0) (kind_back (split 32 (drop 22 text)).1)
+
+why_told : (w : Why) → FitsWhy w → IsNamedWhy w → why_back (why_text w) ≡ w
+unfolding why_back
+why_told (Einval f) a b = ap Einval (field_told f)
+why_told (Enomem s) a b = ap Enomem (short_told s a)
+why_told (Eexist p) a b = ap Eexist (hex_back p a)
+why_told (Eperm p) a b = ap Eperm (hex_back p a)
+why_told (Efault p) a b = ap Efault (hex_back p a)
+why_told (MapErr p) a b = ap MapErr (hex_back p a)
+why_told (AccErr p k) a b =
+    let parts = ap (split 32) (append_assoc (hex_digits p) (codes " ") (log_kind k)) ∙ split_is 32 (hex_digits p) (log_kind k) (hex_lacks 32 p a space_ends) in
+    ap (λ (t : List ℕ × List ℕ). AccErr (value 16 0 t.0) (kind_back t.1)) parts ∙ (λ i. AccErr (hex_back p a i) (kind_told k b i))
 
 minus : (w : Why) → get_or (why_text w) 0 0 ≡ 45
 minus (Einval f) = refl
@@ -505,23 +469,21 @@ minus (Efault p) = refl
 minus (MapErr p) = refl
 minus (AccErr p k) = refl
 
+reply_back : List ℕ → Reply
+reply_back text = if get_or text 0 0 == 45 then Refused (why_back text)
+    else if get_or text 0 0 == 103 then Granted (kind_back (drop 8 text))
+    else if get_or text 1 0 == 120 then At (value 16 0 (drop 2 text))
+    else Zero
+
+reply_told : (r : Reply) → FitsReply r → IsNamedReply r → reply_back (reply_text r) ≡ r
+unfolding reply_back
+reply_told (At n) a b = ap At (hex_back n a)
+reply_told Zero a b = refl
+reply_told (Granted k) a b = ap Granted (kind_told k b)
+reply_told (Refused w) a b = rw (minus w) (ap Refused (why_told w a b))
+
 reply_tells : (r s : Reply) → FitsReply r → FitsReply s → IsNamedReply r → IsNamedReply s → reply_text r ≡ reply_text s → r ≡ s
-reply_tells (At n) (At m) a b c d e = ap At (hex_tells n m a b (ap (drop 2) e))
-reply_tells (At n) Zero a b c d e = absurd (apart 1 _ _ (λ x. omega (arith, x)) e)
-reply_tells (At n) (Granted j) a b c d e = absurd (apart 0 _ _ (λ x. omega (arith, x)) e)
-reply_tells (At n) (Refused v) a b c d e = absurd (apart 0 _ _ (λ x. omega (arith, x, minus v)) e)
-reply_tells Zero (At m) a b c d e = absurd (apart 1 _ _ (λ x. omega (arith, x)) e)
-reply_tells Zero Zero a b c d e = refl
-reply_tells Zero (Granted j) a b c d e = absurd (apart 0 _ _ (λ x. omega (arith, x)) e)
-reply_tells Zero (Refused v) a b c d e = absurd (apart 0 _ _ (λ x. omega (arith, x, minus v)) e)
-reply_tells (Granted k) (At m) a b c d e = absurd (apart 0 _ _ (λ x. omega (arith, x)) e)
-reply_tells (Granted k) Zero a b c d e = absurd (apart 0 _ _ (λ x. omega (arith, x)) e)
-reply_tells (Granted k) (Granted j) a b c d e = ap Granted (kind_tells k j c d (ap (drop 8) e))
-reply_tells (Granted k) (Refused v) a b c d e = absurd (apart 0 _ _ (λ x. omega (arith, x, minus v)) e)
-reply_tells (Refused w) (At m) a b c d e = absurd (apart 0 _ _ (λ x. omega (arith, x, minus w)) e)
-reply_tells (Refused w) Zero a b c d e = absurd (apart 0 _ _ (λ x. omega (arith, x, minus w)) e)
-reply_tells (Refused w) (Granted j) a b c d e = absurd (apart 0 _ _ (λ x. omega (arith, x, minus w)) e)
-reply_tells (Refused w) (Refused v) a b c d e = ap Refused (why_tells w v a b c d e)
+reply_tells r s a b c d e = sym (reply_told r a c) ∙ ap reply_back e ∙ reply_told s b d
 
 -- ---- what was held
 
@@ -583,26 +545,9 @@ under_lacks Whole a = refl
 
 -- ---- the bytes of a reply
 
-letter_uses : (a b c d : Bool) → uses reply_bytes (letter_if a 114 ∷ letter_if b 119 ∷ letter_if c 120 ∷ (if d then 115 else 112) ∷ []) ≡ true
-letter_uses true true true true = refl
-letter_uses true true true false = refl
-letter_uses true true false true = refl
-letter_uses true true false false = refl
-letter_uses true false true true = refl
-letter_uses true false true false = refl
-letter_uses true false false true = refl
-letter_uses true false false false = refl
-letter_uses false true true true = refl
-letter_uses false true true false = refl
-letter_uses false true false true = refl
-letter_uses false true false false = refl
-letter_uses false false true true = refl
-letter_uses false false true false = refl
-letter_uses false false false true = refl
-letter_uses false false false false = refl
-
 kind_uses : (k : Kind) → uses reply_bytes (kind_text k) ≡ true
-kind_uses k = letter_uses (has_bits (prot_bits k.prot) 1) (has_bits (prot_bits k.prot) 2) (has_bits (prot_bits k.prot) 4) k.shared
+kind_uses k = each_of_four (λ a b c d. uses reply_bytes (letter_if a 114 ∷ letter_if b 119 ∷ letter_if c 120 ∷ (if d then 115 else 112) ∷ [])) refl
+    (has_bits (prot_bits k.prot) 1) (has_bits (prot_bits k.prot) 2) (has_bits (prot_bits k.prot) 4) k.shared
 
 -- a reply lacks a byte that is no digit and stands in none of its words
 module _ (b : ℕ) (no_digit : 16 ≤ worth b) (no_word : lacks b reply_bytes ≡ true) where
@@ -661,12 +606,6 @@ module _ (b : ℕ) (no_digit : 16 ≤ worth b) (no_word : lacks b reply_bytes �
 
 -- ---- a line
 
--- joined from the left or from the right, the parts of a line are one text
-nest_line : (sp n w l c q r u h nl rest : List ℕ)
-    → n ++ sp ++ w ++ sp ++ l ++ sp ++ c ++ q ++ r ++ u ++ h ++ nl ++ rest ≡ n
-    ++ (sp ++ (w ++ (sp ++ (l ++ (sp ++ (c ++ (q ++ (r ++ (u ++ (h ++ (nl ++ rest)))))))))))
-nest_line sp n w l c q r u h nl rest = simp append_assoc
-
 -- what stands behind the call of a line
 behind_call : Entry → List ℕ → List ℕ
 behind_call e rest = codes " = " ++ (reply_text e.reply ++ (codes " under " ++ (under_text e.under ++ 10 ∷ rest)))
@@ -674,8 +613,7 @@ behind_call e rest = codes " = " ++ (reply_text e.reply ++ (codes " under " ++ (
 line_parts : (e : Entry) (rest : List ℕ) → entry_line e ++ rest ≡ decimal e.number ++ 32
     ∷ (decimal e.worker ++ 32 ∷ (decimal e.line ++ 32 ∷ (call_text e.call ++ behind_call e rest)))
 unfolding behind_call
-line_parts e rest = nest_line (codes " ") (decimal e.number) (decimal e.worker) (decimal e.line) (call_text e.call) (codes " = ")
-    (reply_text e.reply) (codes " under ") (under_text e.under) (codes "\n") rest
+line_parts e rest = simp append_assoc
 
 reply_parts : (r rest : List ℕ) → r ++ (codes " under " ++ rest) ≡ (r ++ 32 ∷ []) ++ 117 ∷ (codes "nder " ++ rest)
 reply_parts r rest = sym (append_assoc r (32 ∷ []) (117 ∷ (codes "nder " ++ rest)))
@@ -718,10 +656,12 @@ no_empty_line e rest is = none_then 32 (decimal e.number) _ (sym (line_parts e r
     none_then b [] more e = cc
     none_then b (x ∷ l) more e = cc
 
-all_first : {X : Type 0} (P : X → Type 0) (x : X) (xs : List X) → All P (x ∷ xs) → P x
+-- what holds of all items holds of the first
+pub all_first : {X : Type 0} (P : X → Type 0) (x : X) (xs : List X) → All P (x ∷ xs) → P x
 all_first P x xs all = all 0 x (omega arith)
 
-all_rest : {X : Type 0} (P : X → Type 0) (x : X) (xs : List X) → All P (x ∷ xs) → All P xs
+-- and of all behind it
+pub all_rest : {X : Type 0} (P : X → Type 0) (x : X) (xs : List X) → All P (x ∷ xs) → All P xs
 all_rest P x xs all k d low = all (suc k) d (omega arith)
 
 -- a log tells its entries

@@ -1,5 +1,6 @@
 -- Words joined by bars are read as the bits that they stand for.
-use Rattle.std.proofs.Common.{rules, ◌≡◌, ℕ, zero, suc, ◌<◌, ◌≤◌, List, [], ◌∷◌, ◌++◌, length, codes, false, Option, Some, refl, sym, subst, arith, append-nil}
+use Rattle.std.proofs.Common.{rules, ◌≡◌, ℕ, zero, suc, ◌<◌, ◌≤◌, List, [], ◌∷◌, ◌++◌, length, codes}
+use Rattle.std.proofs.Common.{true, false, if◌then◌else◌, Option, Some, refl, sym, subst, arith, append-nil}
 use Rattle.std.specs.Int.RustNames.{bit_or}
 use Rattle.std.specs.List.{join_with_byte}
 use Rattle.line_parts.specs.Parts.{Part, chain, starts}
@@ -8,7 +9,8 @@ use Rattle.line_parts.specs.Lists.{listed}
 use Rattle.line_parts.proofs.Numerals.{NoNumeral, zero_number}
 use Rattle.strace_reader.specs.Words.{prot_of, flag_of}
 use Rattle.strace_reader.specs.Calls.{word, known, prot_word, prot, flag_word, flags}
-use Rattle.maps_printer.specs.Words.{prot_text, flags_text}
+use Rattle.maps_printer.specs.Words.{prot_text, flags_text, words_or}
+use Rattle.page_types.specs.Sets.{has_bits}
 
 -- a text ends a word, a list of words and a number
 pub record Ends (rest : List ℕ) : Type 0 where
@@ -44,6 +46,26 @@ joined item bits w (u ∷ words) rest reads ends =
     let later = joined item (bit_or bits w.1) u words rest reads.1 ends in
     (w.1 ∷ later.0, (w.0, join_with_byte 124 (texts (u ∷ words)), refl, reads.0 (124 ∷ (join_with_byte 124 (texts (u ∷ words)) ++ rest)) refl, later.1))
 
+-- these words are read as all their bits, or where there is none the other text
+abbrev TakesAs : Part (Option ℕ) → List ℕ → List (List ℕ × ℕ) → List ℕ → Type 0
+TakesAs item none words rest = (listed item 0).takes (words_or none (texts words)) rest (Some (all_bits 0 words))
+
+words_take : (item : Part (Option ℕ)) (none : List ℕ) (words : List (List ℕ × ℕ)) (rest : List ℕ) → EachReads item words → Ends rest
+    → TakesAs item none [] rest → TakesAs item none words rest
+words_take item none [] rest reads ends alone = alone
+words_take item none (w ∷ words) rest reads ends alone = joined item 0 w words rest reads ends
+
+-- the words whose bits are among these
+abbrev chosen : ℕ → List (List ℕ × ℕ) → List (List ℕ × ℕ)
+chosen bits [] = []
+chosen bits (w ∷ words) = if has_bits bits w.1 then w ∷ chosen bits words else chosen bits words
+
+each_chosen : (item : Part (Option ℕ)) (bits : ℕ) (words : List (List ℕ × ℕ)) → EachReads item words → EachReads item (chosen bits words)
+each_chosen item bits [] reads = tt
+each_chosen item bits (w ∷ words) reads =
+    let more = each_chosen item bits words reads.1 in
+    elim (has_bits bits w.1) as (λ t. EachReads item (if t then w ∷ chosen bits words else chosen bits words)) [ true ↦ (reads.0, more) | false ↦ more ]
+
 -- a known word, whatever item it is
 known_reads : (of : List ℕ → Option ℕ) (w rest : List ℕ) (bits : ℕ) → IsRun is_capital is_word_byte w → of w ≡ Some bits → starts is_word_byte rest ≡ false
     → (chain word (λ v. known (of v))).takes w rest (Some bits)
@@ -66,26 +88,27 @@ prot_none : ReadsAs prot_word (codes "PROT_NONE", 0)
 unfolding prot_of
 prot_none rest ends = known_reads prot_of (codes "PROT_NONE") rest 0 (search rules) refl ends
 
+-- the words of protections, with their bits
+abbrev prot_list : List (List ℕ × ℕ)
+prot_list = (codes "PROT_READ", 1) ∷ (codes "PROT_WRITE", 2) ∷ (codes "PROT_EXEC", 4) ∷ []
+
+prot_of_bits : (bits : ℕ) (rest : List ℕ) → Ends rest → TakesAs prot_word (codes "PROT_NONE") (chosen bits prot_list) rest
+prot_of_bits bits rest ends =
+    words_take prot_word (codes "PROT_NONE") (chosen bits prot_list) rest (each_chosen prot_word bits prot_list (prot_reads, (prot_writes, (prot_execs, tt))))
+    ends (joined prot_word 0 (codes "PROT_NONE", 0) [] rest (prot_none, tt) ends)
+
 -- each protection is read as its bits, begins with no space, and has at most 30 bytes
 pub prot_takes : (bits : ℕ) (rest : List ℕ) → bits < 8 → Ends rest
     → prot.takes (prot_text (record { 0 = bits })) rest (Some bits)
     × (starts (is 32) (prot_text (record { 0 = bits }) ++ rest) ≡ false) × (length (prot_text (record { 0 = bits })) ≤ 30)
-prot_takes zero rest small ends = (joined prot_word 0 (codes "PROT_NONE", 0) [] rest (prot_none, tt) ends, refl, omega arith)
-prot_takes (suc zero) rest small ends = (joined prot_word 0 (codes "PROT_READ", 1) [] rest (prot_reads, tt) ends, refl, omega arith)
-prot_takes (suc (suc zero)) rest small ends = (joined prot_word 0 (codes "PROT_WRITE", 2) [] rest (prot_writes, tt) ends, refl, omega arith)
-prot_takes (suc (suc (suc zero))) rest small ends =
-    (joined prot_word 0 (codes "PROT_READ", 1) ((codes "PROT_WRITE", 2) ∷ []) rest (prot_reads, (prot_writes, tt)) ends, refl, omega arith)
-prot_takes (suc (suc (suc (suc zero)))) rest small ends = (joined prot_word 0 (codes "PROT_EXEC", 4) [] rest (prot_execs, tt) ends, refl, omega arith)
-prot_takes (suc (suc (suc (suc (suc zero))))) rest small ends =
-    (joined prot_word 0 (codes "PROT_READ", 1) ((codes "PROT_EXEC", 4) ∷ []) rest (prot_reads, (prot_execs, tt)) ends, refl, omega arith)
-prot_takes (suc (suc (suc (suc (suc (suc zero)))))) rest small ends =
-    (joined prot_word 0 (codes "PROT_WRITE", 2) ((codes "PROT_EXEC", 4) ∷ []) rest (prot_writes, (prot_execs, tt)) ends, refl, omega arith)
-prot_takes (suc (suc (suc (suc (suc (suc (suc zero))))))) rest small ends = (
-  joined prot_word 0 (codes "PROT_READ", 1) ((codes "PROT_WRITE", 2) ∷ (codes "PROT_EXEC", 4) ∷ []) rest
-      (prot_reads, (prot_writes, (prot_execs, tt))) ends,
-  refl,
-  omega arith,
-)
+prot_takes zero rest small ends = (prot_of_bits 0 rest ends, refl, omega arith)
+prot_takes (suc zero) rest small ends = (prot_of_bits 1 rest ends, refl, omega arith)
+prot_takes (suc (suc zero)) rest small ends = (prot_of_bits 2 rest ends, refl, omega arith)
+prot_takes (suc (suc (suc zero))) rest small ends = (prot_of_bits 3 rest ends, refl, omega arith)
+prot_takes (suc (suc (suc (suc zero)))) rest small ends = (prot_of_bits 4 rest ends, refl, omega arith)
+prot_takes (suc (suc (suc (suc (suc zero))))) rest small ends = (prot_of_bits 5 rest ends, refl, omega arith)
+prot_takes (suc (suc (suc (suc (suc (suc zero)))))) rest small ends = (prot_of_bits 6 rest ends, refl, omega arith)
+prot_takes (suc (suc (suc (suc (suc (suc (suc zero))))))) rest small ends = (prot_of_bits 7 rest ends, refl, omega arith)
 prot_takes (suc (suc (suc (suc (suc (suc (suc (suc k)))))))) rest small ends = absurd (omega arith)
 
 flag_shared : ReadsAs flag_word (codes "MAP_SHARED", 1)
@@ -119,80 +142,34 @@ flags_none rest =
     let zero_is = zero_number (44 ∷ rest) (comma_ends_number rest) in
     ([], (Some 0, (48 ∷ [], [], 0, refl, zero_is, ([], [], tt, refl, (refl, refl), (refl, refl))), refl, refl))
 
+-- the words of flags, with their bits
+abbrev flag_list : List (List ℕ × ℕ)
+flag_list = (codes "MAP_SHARED", 1) ∷ (codes "MAP_PRIVATE", 2) ∷ (codes "MAP_FIXED", 4) ∷ (codes "MAP_FIXED_NOREPLACE", 8) ∷ []
+
+flags_of_bits : (bits : ℕ) (rest : List ℕ) → TakesAs flag_word (codes "0") (chosen bits flag_list) (44 ∷ rest)
+flags_of_bits bits rest =
+    words_take flag_word (codes "0") (chosen bits flag_list) (44 ∷ rest)
+    (each_chosen flag_word bits flag_list (flag_shared, (flag_private, (flag_fixed, (flag_noreplace, tt))))) (comma_ends rest) (flags_none rest)
+
 -- all flags are read as their bits, begin with no space, and have at most 52 bytes
 pub flags_takes : (bits : ℕ) (rest : List ℕ) → bits < 16
     → flags.takes (flags_text (record { 0 = bits })) (44 ∷ rest) (Some bits)
     × (starts (is 32) (flags_text (record { 0 = bits }) ++ 44 ∷ rest) ≡ false) × (length (flags_text (record { 0 = bits })) ≤ 52)
-flags_takes zero rest small = (flags_none rest, refl, omega arith)
-flags_takes (suc zero) rest small =
-    (joined flag_word 0 (codes "MAP_SHARED", 1) [] (44 ∷ rest) (flag_shared, tt) (comma_ends rest), refl, omega arith)
-flags_takes (suc (suc zero)) rest small =
-    (joined flag_word 0 (codes "MAP_PRIVATE", 2) [] (44 ∷ rest) (flag_private, tt) (comma_ends rest), refl, omega arith)
-flags_takes (suc (suc (suc zero))) rest small = (
-  joined flag_word 0 (codes "MAP_SHARED", 1) ((codes "MAP_PRIVATE", 2) ∷ []) (44 ∷ rest) (flag_shared, (flag_private, tt))
-      (comma_ends rest),
-  refl,
-  omega arith,
-)
-flags_takes (suc (suc (suc (suc zero)))) rest small =
-    (joined flag_word 0 (codes "MAP_FIXED", 4) [] (44 ∷ rest) (flag_fixed, tt) (comma_ends rest), refl, omega arith)
-flags_takes (suc (suc (suc (suc (suc zero))))) rest small =
-    (joined flag_word 0 (codes "MAP_SHARED", 1) ((codes "MAP_FIXED", 4) ∷ []) (44 ∷ rest) (flag_shared, (flag_fixed, tt)) (comma_ends rest), refl, omega arith)
-flags_takes (suc (suc (suc (suc (suc (suc zero)))))) rest small = (
-  joined flag_word 0 (codes "MAP_PRIVATE", 2) ((codes "MAP_FIXED", 4) ∷ []) (44 ∷ rest) (flag_private, (flag_fixed, tt))
-      (comma_ends rest),
-  refl,
-  omega arith,
-)
-flags_takes (suc (suc (suc (suc (suc (suc (suc zero))))))) rest small = (
-  joined flag_word 0 (codes "MAP_SHARED", 1) ((codes "MAP_PRIVATE", 2) ∷ (codes "MAP_FIXED", 4) ∷ []) (44 ∷ rest)
-      (flag_shared, (flag_private, (flag_fixed, tt))) (comma_ends rest),
-  refl,
-  omega arith,
-)
-flags_takes (suc (suc (suc (suc (suc (suc (suc (suc zero)))))))) rest small =
-    (joined flag_word 0 (codes "MAP_FIXED_NOREPLACE", 8) [] (44 ∷ rest) (flag_noreplace, tt) (comma_ends rest), refl, omega arith)
-flags_takes (suc (suc (suc (suc (suc (suc (suc (suc (suc zero))))))))) rest small = (
-  joined flag_word 0 (codes "MAP_SHARED", 1) ((codes "MAP_FIXED_NOREPLACE", 8) ∷ []) (44 ∷ rest)
-      (flag_shared, (flag_noreplace, tt)) (comma_ends rest),
-  refl,
-  omega arith,
-)
-flags_takes (suc (suc (suc (suc (suc (suc (suc (suc (suc (suc zero)))))))))) rest small = (
-  joined flag_word 0 (codes "MAP_PRIVATE", 2) ((codes "MAP_FIXED_NOREPLACE", 8) ∷ []) (44 ∷ rest)
-      (flag_private, (flag_noreplace, tt)) (comma_ends rest),
-  refl,
-  omega arith,
-)
-flags_takes (suc (suc (suc (suc (suc (suc (suc (suc (suc (suc (suc zero))))))))))) rest small = (
-  joined flag_word 0 (codes "MAP_SHARED", 1) ((codes "MAP_PRIVATE", 2) ∷ (codes "MAP_FIXED_NOREPLACE", 8) ∷ []) (44 ∷ rest)
-      (flag_shared, (flag_private, (flag_noreplace, tt))) (comma_ends rest),
-  refl,
-  omega arith,
-)
-flags_takes (suc (suc (suc (suc (suc (suc (suc (suc (suc (suc (suc (suc zero)))))))))))) rest small = (
-  joined flag_word 0 (codes "MAP_FIXED", 4) ((codes "MAP_FIXED_NOREPLACE", 8) ∷ []) (44 ∷ rest)
-      (flag_fixed, (flag_noreplace, tt)) (comma_ends rest),
-  refl,
-  omega arith,
-)
-flags_takes (suc (suc (suc (suc (suc (suc (suc (suc (suc (suc (suc (suc (suc zero))))))))))))) rest small = (
-  joined flag_word 0 (codes "MAP_SHARED", 1) ((codes "MAP_FIXED", 4) ∷ (codes "MAP_FIXED_NOREPLACE", 8) ∷ []) (44 ∷ rest)
-      (flag_shared, (flag_fixed, (flag_noreplace, tt))) (comma_ends rest),
-  refl,
-  omega arith,
-)
-flags_takes (suc (suc (suc (suc (suc (suc (suc (suc (suc (suc (suc (suc (suc (suc zero)))))))))))))) rest small = (
-  joined flag_word 0 (codes "MAP_PRIVATE", 2) ((codes "MAP_FIXED", 4) ∷ (codes "MAP_FIXED_NOREPLACE", 8) ∷ []) (44 ∷ rest)
-      (flag_private, (flag_fixed, (flag_noreplace, tt))) (comma_ends rest),
-  refl,
-  omega arith,
-)
-flags_takes (suc (suc (suc (suc (suc (suc (suc (suc (suc (suc (suc (suc (suc (suc (suc zero))))))))))))))) rest small = (
-  joined flag_word 0 (codes "MAP_SHARED", 1) ((codes "MAP_PRIVATE", 2) ∷ (codes "MAP_FIXED", 4)
-      ∷ (codes "MAP_FIXED_NOREPLACE", 8) ∷ []) (44 ∷ rest) (flag_shared, (flag_private, (flag_fixed, (flag_noreplace, tt))))
-      (comma_ends rest),
-  refl,
-  omega arith,
-)
+flags_takes zero rest small = (flags_of_bits 0 rest, refl, omega arith)
+flags_takes (suc zero) rest small = (flags_of_bits 1 rest, refl, omega arith)
+flags_takes (suc (suc zero)) rest small = (flags_of_bits 2 rest, refl, omega arith)
+flags_takes (suc (suc (suc zero))) rest small = (flags_of_bits 3 rest, refl, omega arith)
+flags_takes (suc (suc (suc (suc zero)))) rest small = (flags_of_bits 4 rest, refl, omega arith)
+flags_takes (suc (suc (suc (suc (suc zero))))) rest small = (flags_of_bits 5 rest, refl, omega arith)
+flags_takes (suc (suc (suc (suc (suc (suc zero)))))) rest small = (flags_of_bits 6 rest, refl, omega arith)
+flags_takes (suc (suc (suc (suc (suc (suc (suc zero))))))) rest small = (flags_of_bits 7 rest, refl, omega arith)
+flags_takes (suc (suc (suc (suc (suc (suc (suc (suc zero)))))))) rest small = (flags_of_bits 8 rest, refl, omega arith)
+flags_takes (suc (suc (suc (suc (suc (suc (suc (suc (suc zero))))))))) rest small = (flags_of_bits 9 rest, refl, omega arith)
+flags_takes (suc (suc (suc (suc (suc (suc (suc (suc (suc (suc zero)))))))))) rest small = (flags_of_bits 10 rest, refl, omega arith)
+flags_takes (suc (suc (suc (suc (suc (suc (suc (suc (suc (suc (suc zero))))))))))) rest small = (flags_of_bits 11 rest, refl, omega arith)
+flags_takes (suc (suc (suc (suc (suc (suc (suc (suc (suc (suc (suc (suc zero)))))))))))) rest small = (flags_of_bits 12 rest, refl, omega arith)
+flags_takes (suc (suc (suc (suc (suc (suc (suc (suc (suc (suc (suc (suc (suc zero))))))))))))) rest small = (flags_of_bits 13 rest, refl, omega arith)
+flags_takes (suc (suc (suc (suc (suc (suc (suc (suc (suc (suc (suc (suc (suc (suc zero)))))))))))))) rest small = (flags_of_bits 14 rest, refl, omega arith)
+flags_takes (suc (suc (suc (suc (suc (suc (suc (suc (suc (suc (suc (suc (suc (suc (suc zero))))))))))))))) rest small =
+    (flags_of_bits 15 rest, refl, omega arith)
 flags_takes (suc (suc (suc (suc (suc (suc (suc (suc (suc (suc (suc (suc (suc (suc (suc (suc k)))))))))))))))) rest small = absurd (omega arith)

@@ -52,19 +52,18 @@ WordEnds v q = starts is_word_byte q ≡ false
 abbrev pub not_space : ℕ → Bool
 not_space c = if is 32 c then false else true
 
+-- a text that begins with this byte begins as a test says of the byte
+pub starts_as : (b : ℕ) (test : ℕ → Bool) (q : List ℕ) → starts (is b) q ≡ true → starts test q ≡ test b
+starts_as b test [] h = absurd cc
+starts_as b test (c ∷ q) h = ap test (same_is b c h)
+
 -- a text that begins with a comma may follow a list
 pub comma_closes : (q : List ℕ) → starts (is 44) q ≡ true → starts is_close q ≡ true
-comma_closes [] h = cc
-comma_closes (c ∷ q) h = rw h refl
-
-either_close : (a b : Bool) → b ≡ true → (if a then true else b) ≡ true
-either_close true b h = refl
-either_close false b h = h
+comma_closes q h = starts_as 44 is_close q h
 
 -- a text that begins with a closing parenthesis may follow a list
 pub paren_closes : (q : List ℕ) → starts (is 41) q ≡ true → starts is_close q ≡ true
-paren_closes [] h = cc
-paren_closes (c ∷ q) h = either_close (is 44 c) (is 41 c) h
+paren_closes q h = starts_as 41 is_close q h
 
 not_space_byte : (b : Bool) → (if b then false else true) ≡ true → b ≡ false
 not_space_byte true h = cc
@@ -75,22 +74,18 @@ pub not_space_ends : (q : List ℕ) → starts not_space q ≡ true → starts (
 not_space_ends [] h = refl
 not_space_ends (c ∷ q) h = not_space_byte (is 32 c) h
 
-digit_byte_space : (c : ℕ) (b : Bool) → is 32 c ≡ b → is_digit c ≡ true → (if b then false else true) ≡ true
-digit_byte_space c true e h = let k = same_is 32 c e in let no : is_digit c ≡ false = ap is_digit k in cc
-digit_byte_space c false e h = refl
+space_byte : (test : ℕ → Bool) → test 32 ≡ false → (c : ℕ) (b : Bool) → is 32 c ≡ b → test c ≡ true → (if b then false else true) ≡ true
+space_byte test x c true e h = let no = ap test (same_is 32 c e) ∙ x in cc
+space_byte test x c false e h = refl
+
+-- a text whose first byte passes a test that a space fails begins with a byte that is no space
+pub no_space_first : (test : ℕ → Bool) → test 32 ≡ false → (q : List ℕ) → starts test q ≡ true → starts not_space q ≡ true
+no_space_first test x [] h = absurd cc
+no_space_first test x (c ∷ q) h = space_byte test x c (is 32 c) refl h
 
 -- a text that begins with a digit begins with a byte that is no space
 pub digit_not_space : (q : List ℕ) → starts is_digit q ≡ true → starts not_space q ≡ true
-digit_not_space [] h = h
-digit_not_space (c ∷ q) h = digit_byte_space c (is 32 c) refl h
-
-capital_byte_space : (c : ℕ) (b : Bool) → is 32 c ≡ b → is_capital c ≡ true → (if b then false else true) ≡ true
-capital_byte_space c true e h = let k = same_is 32 c e in let no : is_capital c ≡ false = ap is_capital k in cc
-capital_byte_space c false e h = refl
-
-capital_not_space : (q : List ℕ) → starts is_capital q ≡ true → starts not_space q ≡ true
-capital_not_space [] h = h
-capital_not_space (c ∷ q) h = capital_byte_space c (is 32 c) refl h
+digit_not_space q h = no_space_first is_digit refl q h
 
 -- ---- commas
 
@@ -133,13 +128,9 @@ addr_closed =
 pub addr_good : Good addr CommaEnds addr_at
 addr_good = narrower (λ v q h. comma_closes q h) addr_closed
 
-n_not_space : (q : List ℕ) → starts (is 78) q ≡ true → starts not_space q ≡ true
-n_not_space [] h = h
-n_not_space (c ∷ q) h = ap not_space (same_is 78 c h)
-
 addr_starts : (b q : List ℕ) (n : ℕ) (x : Bool) → starts (is 78) (b ++ q) ≡ x
     → (arm (chain (letters (codes "NULL") Number) (λ u. done 0)) (number Number) x).takes b q n → starts not_space (b ++ q) ≡ true
-addr_starts b q n true e h = n_not_space (b ++ q) e
+addr_starts b q n true e h = starts_as 78 not_space (b ++ q) e
 addr_starts b q n false e h = digit_not_space (b ++ q) (number_heads Number b q n h)
 
 -- an address begins with a byte that is no space
@@ -152,10 +143,6 @@ addr_heads b q n h = addr_starts b q n (starts (is 78) (b ++ q)) refl h
 abbrev pub ParenEnds : {A : Type 0} → A → List ℕ → Type 0
 ParenEnds v q = starts (is 41) q ≡ true
 
-paren_no_comma : (q : List ℕ) → starts (is 41) q ≡ true → starts (is 44) q ≡ false
-paren_no_comma [] h = refl
-paren_no_comma (c ∷ q) h = ap (is 44) (same_is 41 c h)
-
 comma_full : {B : Type 0} (next : Unit {0} → Part B) → Full (chain comma next)
 comma_full next = chain_full comma next (chain_full (byte 44 Comma) (λ u. spaces) (byte_full 44 Comma))
 
@@ -165,8 +152,8 @@ unfolding optional_at
 optional_good =
     good_choice (is 44) (good_then comma_good (λ u. narrower (λ v q h. paren_closes q h) addr_closed)
     (λ v b q w h hq. not_space_ends (b ++ q) (addr_heads b q w h))) (done_good 0 ParenEnds)
-    (full_nonempty (is 44) (chain comma (λ u. addr)) (comma_full (λ u. addr))) (λ rest q v h hq. paren_no_comma q hq)
-    ([], 0, λ q h. subst (λ (x : Bool). (arm (chain comma (λ u. addr)) (done 0) x).takes [] q 0) (sym (paren_no_comma q h)) (refl, refl))
+    (full_nonempty (is 44) (chain comma (λ u. addr)) (comma_full (λ u. addr))) (λ rest q v h hq. starts_as 41 (is 44) q hq)
+    ([], 0, λ q h. subst (λ (x : Bool). (arm (chain comma (λ u. addr)) (done 0) x).takes [] q 0) (sym (starts_as 41 (is 44) q h)) (refl, refl))
 
 optional_starts : (x more : List ℕ) (n : ℕ) (t : Bool) → starts (is 44) (x ++ more) ≡ t
     → (arm (chain comma (λ u. addr)) (done 0) t).takes x more n → starts (is 41) more ≡ true → starts is_close (x ++ more) ≡ true
@@ -214,7 +201,7 @@ known_word_full f = chain_full word (λ w. known (f w)) (run_full is_capital is_
 
 -- a word begins with a byte that is no space
 pub word_heads : Heads not_space word
-word_heads b q w h = capital_not_space (b ++ q) (run_starts is_capital is_word_byte b q h.1)
+word_heads b q w h = no_space_first is_capital refl (b ++ q) (run_starts is_capital is_word_byte b q h.1)
 
 -- ---- protections
 
@@ -316,9 +303,9 @@ operand_good =
     (chain_full word (λ w. done tt) (run_full is_capital is_word_byte Word)))
     (65 ∷ [], tt, λ q h. (65 ∷ [], [], 65 ∷ [], refl, (refl, (refl, tt), operand_fails is_word_byte refl refl refl refl q h), (refl, refl)))
 
-space_ends : (q : List ℕ) → starts (is 32) q ≡ true → starts is_operand_end q ≡ true
-space_ends [] h = h
-space_ends (c ∷ q) h = rw h refl
+either_close : (a b : Bool) → b ≡ true → (if a then true else b) ≡ true
+either_close true b h = refl
+either_close false b h = h
 
 join_ends : (q : List ℕ) → starts is_join q ≡ true → starts is_operand_end q ≡ true
 join_ends [] h = h
@@ -327,7 +314,7 @@ join_ends (c ∷ q) h = either_close (is 32 c) (is_join c) h
 -- behind an operand stands a comment, or what ends an item
 commented_starts : (b q : List ℕ) (w : Unit {0}) (x : Bool) → starts (is 32) (b ++ q) ≡ x → (arm comment (done tt) x).takes b q w
     → starts is_join q ≡ true → starts is_operand_end (b ++ q) ≡ true
-commented_starts b q w true e h hq = space_ends (b ++ q) e
+commented_starts b q w true e h hq = starts_as 32 is_operand_end (b ++ q) e
 commented_starts b q w false e h hq = ap (λ (y : List ℕ). starts is_operand_end (y ++ q)) h.0 ∙ join_ends q hq
 
 abbrev shift : Part (Unit {0})
@@ -394,15 +381,11 @@ flags_heads = listed_heads not_space flag_word 0
 
 -- ---- descriptors
 
-comma_fails : (test : ℕ → Bool) → test 44 ≡ false → (q : List ℕ) → starts (is 44) q ≡ true → starts test q ≡ false
-comma_fails test x [] h = refl
-comma_fails test x (c ∷ q) h = ap test (same_is 44 c h) ∙ x
-
 abbrev named : Part (Unit {0})
 named = chain (byte 60 Comma) (λ u. until 62 44 Comma)
 
 path_empty : (q : List ℕ) → starts (is 44) q ≡ true → path.takes [] q tt
-path_empty q h = subst (λ (x : Bool). (arm named (done tt) x).takes [] q tt) (sym (comma_fails (is 60) refl q h)) (refl, refl)
+path_empty q h = subst (λ (x : Bool). (arm named (done tt) x).takes [] q tt) (sym (starts_as 44 (is 60) q h)) (refl, refl)
 
 path_good : Good path CommaEnds path_at
 unfolding path_at
@@ -410,16 +393,12 @@ path_good =
     good_choice (is 60) (good_then (byte_good 60 Comma) (λ u. until_good 62 44 Comma refl) (λ v b q w h hq. tt))
     (done_good tt CommaEnds) (full_nonempty (is 60) named
     (chain_full (byte 60 Comma) (λ u. until 62 44 Comma) (byte_full 60 Comma)))
-    (λ rest q v h hq. comma_fails (is 60) refl q hq) ([], tt, path_empty)
-
-angle_no_digit : (q : List ℕ) → starts (is 60) q ≡ true → starts is_digit q ≡ false
-angle_no_digit [] h = refl
-angle_no_digit (c ∷ q) h = ap is_digit (same_is 60 c h)
+    (λ rest q v h hq. starts_as 44 (is 60) q hq) ([], tt, path_empty)
 
 path_starts : (b q : List ℕ) (w : Unit {0}) (x : Bool) → starts (is 60) (b ++ q) ≡ x → (arm named (done tt) x).takes b q w
     → starts (is 44) q ≡ true → starts is_digit (b ++ q) ≡ false
-path_starts b q w true e h hq = angle_no_digit (b ++ q) e
-path_starts b q w false e h hq = ap (λ (y : List ℕ). starts is_digit (y ++ q)) h.0 ∙ comma_fails is_digit refl q hq
+path_starts b q w true e h hq = starts_as 60 is_digit (b ++ q) e
+path_starts b q w false e h hq = ap (λ (y : List ℕ). starts is_digit (y ++ q)) h.0 ∙ starts_as 44 is_digit q hq
 
 digits_full : Full (many_digits Number)
 digits_full = chain_full (run is_digit is_digit Number) (λ d. done tt) (run_full is_digit is_digit Number)
@@ -433,16 +412,12 @@ descriptor_good =
     (full_nonempty (is 45) (chain (letters (codes "-1") Number) (λ u. path))
     (chain_full (letters (codes "-1") Number) (λ u. path) (letters_full 45 (codes "1") Number)))
     (full_stays (is 45) (chain (many_digits Number) (λ u. path)) CommaEnds (chain_full (many_digits Number) (λ u. path) digits_full))
-    (48 ∷ [], tt, λ q h. (48 ∷ [], [], tt, refl, (48 ∷ [], [], 48 ∷ [], refl, (refl, (refl, tt), comma_fails is_digit refl q h), (refl, refl)), path_empty q h))
-
-minus_not_space : (q : List ℕ) → starts (is 45) q ≡ true → starts not_space q ≡ true
-minus_not_space [] h = h
-minus_not_space (c ∷ q) h = ap not_space (same_is 45 c h)
+    (48 ∷ [], tt, λ q h. (48 ∷ [], [], tt, refl, (48 ∷ [], [], 48 ∷ [], refl, (refl, (refl, tt), starts_as 44 is_digit q h), (refl, refl)), path_empty q h))
 
 descriptor_starts : (b q : List ℕ) (w : Unit {0}) (x : Bool) → starts (is 45) (b ++ q) ≡ x
     → (arm (chain (letters (codes "-1") Number) (λ u. path)) (chain (many_digits Number) (λ u. path)) x).takes b q w
     → starts not_space (b ++ q) ≡ true
-descriptor_starts b q w true e h = minus_not_space (b ++ q) e
+descriptor_starts b q w true e h = starts_as 45 not_space (b ++ q) e
 descriptor_starts b q w false e h = heads_then not_space (many_digits Number) (λ u. path)
     (heads_then not_space (run is_digit is_digit Number) (λ d. done tt)
     (λ a t v k. digit_not_space (a ++ t) (run_starts is_digit is_digit a t k.1))) b q w h
@@ -537,7 +512,7 @@ access_good = record {
 
 -- an access begins with a byte that is no space
 pub access_heads : Heads not_space access
-access_heads b q w h = capital_not_space (b ++ q) (run_starts is_capital is_word_byte b q h.0)
+access_heads b q w h = no_space_first is_capital refl (b ++ q) (run_starts is_capital is_word_byte b q h.0)
 
 -- ---- what takes the rest of a line leaves nothing
 

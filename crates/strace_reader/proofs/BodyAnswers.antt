@@ -1,8 +1,8 @@
 -- What the reader of bodies owes at each of its returns: the forms exclude each other, since a body's first bytes tell
 -- most of them apart, and a call has one name.
-use Rattle.std.proofs.Common.{◌≡◌, ◌≢◌, ℕ, ◌+◌, ◌-◌, ◌<◌, ◌≤◌, List, [], ◌∷◌, ◌++◌, length, drop, codes, Result, Ok}
+use Rattle.std.proofs.Common.{◌≡◌, ◌≢◌, ℕ, ◌+◌, ◌-◌, ◌<◌, ◌≤◌, List, [], ◌∷◌, ◌++◌, length, get_or, drop, codes, Result, Ok}
 use Rattle.std.proofs.Common.{Err, true, refl, sym, ap, subst, ◌∙◌, append_assoc, inl, inr, arith}
-use Rattle.std.specs.Prelude.{◌⊎◌, IfOk, IfErr, if◌then◌else◌}
+use Rattle.std.specs.Prelude.{◌⊎◌, ◌==◌, IfOk, IfErr, if◌then◌else◌}
 use Rattle.std.proofs.lemmas.Bool.Decides.{nat_tests}
 use Rattle.std.proofs.lemmas.List.{length-append, append_cancel_left}
 use Rattle.line_parts.specs.declared.refusal.Refusal.{Refusal}
@@ -22,7 +22,7 @@ use Rattle.strace_reader.specs.Grammar.{IsBehindSpaces, IsCut, IsCall, IsHalf, I
 use Rattle.strace_reader.specs.Grammar.{RefusesBody, IsNamedBody}
 use Rattle.strace_reader.specs.Reading.{arguments_at}
 use Rattle.strace_reader.proofs.ResultParts.{IsSound}
-use Rattle.strace_reader.proofs.WholeCalls.{IsWhole, IsRefused, call_values, call_whole, call_refused, arguments_good}
+use Rattle.strace_reader.proofs.WholeCalls.{IsWhole, IsRefused, call_closes, call_whole, call_refused, arguments_good}
 use Rattle.strace_reader.proofs.FormFacts.{last_same, behind_same, behind_length, half_same, half_ends}
 
 abbrev is_body : Body → Result Body Refusal
@@ -54,23 +54,21 @@ kind [] = 0
 kind (c ∷ text) = if is 45 c then 1 else if is 43 c then 1 else if is 60 c then 3 else if is 109 c then 4 else if is 102 c then 4
     else if is 98 c then 4 else if is 91 c then 2 else if is_digit c then 2 else 5
 
+-- what holds of each of the seven names holds of a name
+pub each_name : (P : Name → Type 0) → P Mmap × P Munmap × P Mprotect × P Fault × P Mseal × P Brk × P Mremap → (name : Name) → P name
+each_name P all Mmap = all.0
+each_name P all Munmap = all.1
+each_name P all Mprotect = all.2
+each_name P all Fault = all.3
+each_name P all Mseal = all.4
+each_name P all Brk = all.5
+each_name P all Mremap = all.6
+
 call_head_kind : (name : Name) (text : List ℕ) → BeginsWith (call_head name) text → kind text ≡ 4
-call_head_kind Mmap text h = ap kind h.1
-call_head_kind Munmap text h = ap kind h.1
-call_head_kind Mprotect text h = ap kind h.1
-call_head_kind Fault text h = ap kind h.1
-call_head_kind Mseal text h = ap kind h.1
-call_head_kind Brk text h = ap kind h.1
-call_head_kind Mremap text h = ap kind h.1
+call_head_kind name text h = ap kind h.1 ∙ each_name (λ n. kind (call_head n ++ h.0) ≡ 4) (refl, refl, refl, refl, refl, refl, refl) name
 
 resumed_head_kind : (name : Name) (text : List ℕ) → BeginsWith (resumed_head name) text → kind text ≡ 3
-resumed_head_kind Mmap text h = ap kind h.1
-resumed_head_kind Munmap text h = ap kind h.1
-resumed_head_kind Mprotect text h = ap kind h.1
-resumed_head_kind Fault text h = ap kind h.1
-resumed_head_kind Mseal text h = ap kind h.1
-resumed_head_kind Brk text h = ap kind h.1
-resumed_head_kind Mremap text h = ap kind h.1
+resumed_head_kind name text h = ap kind h.1 ∙ each_name (λ n. kind (resumed_head n ++ h.0) ≡ 3) (refl, refl, refl, refl, refl, refl, refl) name
 
 digit_kind : (b : ℕ) (text : List ℕ) → is_digit b ≡ true → kind (b ∷ text) ≡ 2
 digit_kind b text h = grind (arith, nat_tests)
@@ -89,96 +87,26 @@ call_cut name text h = inr (refl, refl, λ n rest p. let k = prefix_kind text n 
 
 -- ---- a call has one name
 
--- the first two bytes together tell the names apart
-abbrev lead : List ℕ → ℕ
-lead [] = 0
-lead (a ∷ []) = 0
-lead (a ∷ b ∷ text) = a + b
+-- the name of which a text has the first two bytes: their sum tells it
+abbrev name_by : List ℕ → Name
+name_by text =
+    let sum = get_or text 0 0 + get_or text 1 0 in
+    if sum == 218 then Mmap else if sum == 226 then Munmap else if sum == 221 then Mprotect else if sum == 199 then Fault
+    else if sum == 224 then Mseal else if sum == 212 then Brk else Mremap
 
-abbrev lead_of : Name → ℕ
-lead_of Mmap = 218
-lead_of Munmap = 226
-lead_of Mprotect = 221
-lead_of Fault = 199
-lead_of Mseal = 224
-lead_of Brk = 212
-lead_of Mremap = 223
-
-call_head_lead : (name : Name) (text : List ℕ) → BeginsWith (call_head name) text → lead text ≡ lead_of name
-call_head_lead Mmap text h = ap lead h.1
-call_head_lead Munmap text h = ap lead h.1
-call_head_lead Mprotect text h = ap lead h.1
-call_head_lead Fault text h = ap lead h.1
-call_head_lead Mseal text h = ap lead h.1
-call_head_lead Brk text h = ap lead h.1
-call_head_lead Mremap text h = ap lead h.1
-
-by_lead : (m n : Name) → lead_of m ≡ lead_of n → m ≡ n
-by_lead Mmap Mmap e = refl
-by_lead Mmap Munmap e = absurd (omega arith)
-by_lead Mmap Mprotect e = absurd (omega arith)
-by_lead Mmap Fault e = absurd (omega arith)
-by_lead Mmap Mseal e = absurd (omega arith)
-by_lead Mmap Brk e = absurd (omega arith)
-by_lead Mmap Mremap e = absurd (omega arith)
-by_lead Munmap Mmap e = absurd (omega arith)
-by_lead Munmap Munmap e = refl
-by_lead Munmap Mprotect e = absurd (omega arith)
-by_lead Munmap Fault e = absurd (omega arith)
-by_lead Munmap Mseal e = absurd (omega arith)
-by_lead Munmap Brk e = absurd (omega arith)
-by_lead Munmap Mremap e = absurd (omega arith)
-by_lead Mprotect Mmap e = absurd (omega arith)
-by_lead Mprotect Munmap e = absurd (omega arith)
-by_lead Mprotect Mprotect e = refl
-by_lead Mprotect Fault e = absurd (omega arith)
-by_lead Mprotect Mseal e = absurd (omega arith)
-by_lead Mprotect Brk e = absurd (omega arith)
-by_lead Mprotect Mremap e = absurd (omega arith)
-by_lead Fault Mmap e = absurd (omega arith)
-by_lead Fault Munmap e = absurd (omega arith)
-by_lead Fault Mprotect e = absurd (omega arith)
-by_lead Fault Fault e = refl
-by_lead Fault Mseal e = absurd (omega arith)
-by_lead Fault Brk e = absurd (omega arith)
-by_lead Fault Mremap e = absurd (omega arith)
-by_lead Mseal Mmap e = absurd (omega arith)
-by_lead Mseal Munmap e = absurd (omega arith)
-by_lead Mseal Mprotect e = absurd (omega arith)
-by_lead Mseal Fault e = absurd (omega arith)
-by_lead Mseal Mseal e = refl
-by_lead Mseal Brk e = absurd (omega arith)
-by_lead Mseal Mremap e = absurd (omega arith)
-by_lead Brk Mmap e = absurd (omega arith)
-by_lead Brk Munmap e = absurd (omega arith)
-by_lead Brk Mprotect e = absurd (omega arith)
-by_lead Brk Fault e = absurd (omega arith)
-by_lead Brk Mseal e = absurd (omega arith)
-by_lead Brk Brk e = refl
-by_lead Brk Mremap e = absurd (omega arith)
-by_lead Mremap Mmap e = absurd (omega arith)
-by_lead Mremap Munmap e = absurd (omega arith)
-by_lead Mremap Mprotect e = absurd (omega arith)
-by_lead Mremap Fault e = absurd (omega arith)
-by_lead Mremap Mseal e = absurd (omega arith)
-by_lead Mremap Brk e = absurd (omega arith)
-by_lead Mremap Mremap e = refl
+call_head_name : (name : Name) (text : List ℕ) → BeginsWith (call_head name) text → name_by text ≡ name
+call_head_name name text h = ap name_by h.1 ∙ each_name (λ n. name_by (call_head n ++ h.0) ≡ n) (refl, refl, refl, refl, refl, refl, refl) name
 
 -- a text begins with the name of one call at most
 pub one_name : (m n : Name) (text : List ℕ) → BeginsWith (call_head m) text → BeginsWith (call_head n) text → m ≡ n
-one_name m n text h g = by_lead m n (sym (call_head_lead m text h) ∙ call_head_lead n text g)
+one_name m n text h g = sym (call_head_name m text h) ∙ call_head_name n text g
 
-resumed_lead : (name : Name) (text : List ℕ) → BeginsWith (resumed_head name) text → lead (drop 5 text) ≡ lead_of name
-resumed_lead Mmap text h = ap (λ (x : List ℕ). lead (drop 5 x)) h.1
-resumed_lead Munmap text h = ap (λ (x : List ℕ). lead (drop 5 x)) h.1
-resumed_lead Mprotect text h = ap (λ (x : List ℕ). lead (drop 5 x)) h.1
-resumed_lead Fault text h = ap (λ (x : List ℕ). lead (drop 5 x)) h.1
-resumed_lead Mseal text h = ap (λ (x : List ℕ). lead (drop 5 x)) h.1
-resumed_lead Brk text h = ap (λ (x : List ℕ). lead (drop 5 x)) h.1
-resumed_lead Mremap text h = ap (λ (x : List ℕ). lead (drop 5 x)) h.1
+resumed_name : (name : Name) (text : List ℕ) → BeginsWith (resumed_head name) text → name_by (drop 5 text) ≡ name
+resumed_name name text h = ap (λ (x : List ℕ). name_by (drop 5 x)) h.1
+    ∙ each_name (λ n. name_by (drop 5 (resumed_head n ++ h.0)) ≡ n) (refl, refl, refl, refl, refl, refl, refl) name
 
 one_resumption : (m n : Name) (text : List ℕ) → BeginsWith (resumed_head m) text → BeginsWith (resumed_head n) text → m ≡ n
-one_resumption m n text h g = by_lead m n (sym (resumed_lead m text h) ∙ resumed_lead n text g)
+one_resumption m n text h g = sym (resumed_name m text h) ∙ resumed_name n text g
 
 no_same : (a b : ℕ) → a ≡ 63 → b ≡ 62 → a ≡ b → ⊥
 no_same a b h g e = omega arith
@@ -358,7 +286,7 @@ refused_there name text refusal c h = (h.1, subst (λ (x : Name). Refused (call 
 -- a body in the form of a call that is taken whole as one item is that item alone, and isn't refused
 pub call_body : (name : Name) (text : List ℕ) (body : Body) → IsCall name text → IsWhole (call name) text body → BodyAnswers text (Ok body)
 call_body name text body c w =
-    let s = call_values name text [] body w.spelled in
+    let s = (call_closes name).values text [] body w.spelled in
     record {
       found = spelled_call name text c body w.spelled s;
       only = λ other h. ap (λ (x : Body). is_body x) (sym (w.only other (call_spells name text c other h)));
@@ -430,22 +358,12 @@ some_begun word text h b = let k = ap length b.1 ∙ length-append word b.0 in o
 
 -- a call's name has a byte at least
 pub head_some : (name : Name) → 0 < length (call_head name)
-head_some Mmap = omega arith
-head_some Munmap = omega arith
-head_some Mprotect = omega arith
-head_some Fault = omega arith
-head_some Mseal = omega arith
-head_some Brk = omega arith
-head_some Mremap = omega arith
+head_some name = each_name (λ n. 0 < length (call_head n))
+    (omega arith, omega arith, omega arith, omega arith, omega arith, omega arith, omega arith) name
 
 resumed_some : (name : Name) → 0 < length (resumed_head name)
-resumed_some Mmap = omega arith
-resumed_some Munmap = omega arith
-resumed_some Mprotect = omega arith
-resumed_some Fault = omega arith
-resumed_some Mseal = omega arith
-resumed_some Brk = omega arith
-resumed_some Mremap = omega arith
+resumed_some name = each_name (λ n. 0 < length (resumed_head n))
+    (omega arith, omega arith, omega arith, omega arith, omega arith, omega arith, omega arith) name
 
 -- a text that begins with a call's name has a byte at least
 pub some_head : (name : Name) (text : List ℕ) → BeginsWith (call_head name) text → 0 < length text

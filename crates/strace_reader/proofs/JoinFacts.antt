@@ -1,7 +1,7 @@
 -- What a joiner answers and keeps, from what its parts do: by process, over the texts that were fed.
-use Rattle.std.proofs.Common.{◌≡◌, ◌≢◌, ℕ, ◌-◌, ◌<◌, ◌≤◌, List, [], ◌∷◌, ◌++◌, length, take, drop, codes, Option, Some}
+use Rattle.std.proofs.Common.{rules, ◌≡◌, ◌≢◌, ℕ, ◌-◌, ◌<◌, ◌≤◌, List, [], ◌∷◌, ◌++◌, length, take, drop, codes, Option, Some}
 use Rattle.std.proofs.Common.{None, Result, Ok, Err, refl, sym, ap, subst, ◌∙◌, append_assoc, inl, inr, arith}
-use Rattle.std.specs.Prelude.{◌⊎◌, is_some, if◌then◌else◌}
+use Rattle.std.specs.Prelude.{◌⊎◌, Bool, true, false, is_some, if◌then◌else◌}
 use Rattle.std.proofs.lemmas.Bool.{cases_eq}
 use Rattle.std.proofs.lemmas.List.{length-append}
 use Rattle.std.proofs.lemmas.Map.Keys.{IsStrictlyIncreasing-from_sorted}
@@ -19,7 +19,6 @@ use Rattle.strace_reader.specs.declared.item.Body.TheVariants.{FirstHalf}
 use Rattle.strace_reader.specs.declared.item.Item.{Item}
 use Rattle.strace_reader.specs.declared.item.Item.TheVariants.{Played, Unfinished, Resumed, Other as Passed, Blank as Nothing}
 use Rattle.strace_reader.specs.declared.item.Name.{Name}
-use Rattle.strace_reader.specs.declared.item.Name.TheVariants.{Mmap, Munmap, Mprotect, Fault, Mseal, Brk, Mremap}
 use Rattle.strace_reader.specs.declared.half.Half.{Half}
 use Rattle.strace_reader.specs.declared.joiner.Joiner.{Joiner}
 use Rattle.strace_reader.specs.declared.joiner.Fed.{Fed}
@@ -30,7 +29,7 @@ use Rattle.strace_reader.specs.Grammar.{BeginsWith, IsPrefixed, PidThen, IsCut, 
 use Rattle.strace_reader.specs.Joining.{CountsKept, IsOf, IsSilent, IsKept, Drops, IsJoined, IsAnswer, IsFeedFault}
 use Rattle.strace_reader.specs.Joiner.{half_of, Holds, HoldsTheSame, IsFed, answer_of, IsJoinAnswer, IsJoinFault}
 use Rattle.strace_reader.proofs.FormFacts.{cut_same}
-use Rattle.strace_reader.proofs.BodyAnswers.{call_cut, head_some, no_resumed_call}
+use Rattle.strace_reader.proofs.BodyAnswers.{call_cut, each_name, head_some, no_resumed_call}
 use Rattle.strace_reader.proofs.LineAnswers.{body_fits}
 use Rattle.strace_reader.proofs.OneOutcome.{one_outcome}
 
@@ -249,92 +248,25 @@ drops j fed p count f c = drops_by j fed p count (half_of j p) refl f c
 
 -- ---- a kept half begins with its call's name
 
--- no byte is a space or begins the ending of a first half
-abbrev NoEnding : List ℕ → Type 0
-NoEnding [] = Unit {0}
-NoEnding (b ∷ text) = ((b ≢ 32) × (b ≢ 60)) × NoEnding text
+-- a byte that is no space and doesn't begin the ending of a first half
+abbrev inside : ℕ → Bool
+inside b = if is 32 b then false else if is 60 b then false else true
 
-head_no_ending : (n : Name) → NoEnding (call_head n)
-head_no_ending Mmap = (
-  (omega arith, omega arith),
-  ((omega arith, omega arith), ((omega arith, omega arith), ((omega arith, omega arith), ((omega arith, omega arith), tt)))),
-)
-head_no_ending Munmap = (
-  (omega arith, omega arith),
-  (
-    (omega arith, omega arith),
-    (
-      (omega arith, omega arith),
-      ((omega arith, omega arith), ((omega arith, omega arith), ((omega arith, omega arith), ((omega arith, omega arith), tt)))),
-    ),
-  ),
-)
-head_no_ending Mprotect = (
-  (omega arith, omega arith),
-  (
-    (omega arith, omega arith),
-    (
-      (omega arith, omega arith),
-      (
-        (omega arith, omega arith),
-        (
-          (omega arith, omega arith),
-          (
-            (omega arith, omega arith),
-            (
-              (omega arith, omega arith),
-              ((omega arith, omega arith), ((omega arith, omega arith), tt)),
-            ),
-          ),
-        ),
-      ),
-    ),
-  ),
-)
-head_no_ending Fault = (
-  (omega arith, omega arith),
-  (
-    (omega arith, omega arith),
-    (
-      (omega arith, omega arith),
-      ((omega arith, omega arith), ((omega arith, omega arith), ((omega arith, omega arith), tt))),
-    ),
-  ),
-)
-head_no_ending Mseal = (
-  (omega arith, omega arith),
-  (
-    (omega arith, omega arith),
-    (
-      (omega arith, omega arith),
-      ((omega arith, omega arith), ((omega arith, omega arith), ((omega arith, omega arith), tt))),
-    ),
-  ),
-)
-head_no_ending Brk = (
-  (omega arith, omega arith),
-  ((omega arith, omega arith), ((omega arith, omega arith), ((omega arith, omega arith), tt))),
-)
-head_no_ending Mremap = (
-  (omega arith, omega arith),
-  (
-    (omega arith, omega arith),
-    (
-      (omega arith, omega arith),
-      ((omega arith, omega arith), ((omega arith, omega arith), ((omega arith, omega arith), ((omega arith, omega arith), tt)))),
-    ),
-  ),
-)
+head_inside : (n : Name) → EachIs inside (call_head n)
+head_inside n = each_name (λ n. EachIs inside (call_head n))
+    (search rules, search rules, search rules, search rules, search rules, search rules, search rules) n
 
-front_of : (word a half spaces : List ℕ) → NoEnding word → EachIs (is 32) spaces → word ++ a ≡ half ++ (spaces ++ unfinished) → BeginsWith word half
+front_of : (word a half spaces : List ℕ) → EachIs inside word → EachIs (is 32) spaces → word ++ a ≡ half ++ (spaces ++ unfinished) → BeginsWith word half
 front_of [] a half spaces w each e = (half, refl)
 front_of (c ∷ word) a (d ∷ half) spaces w each e =
     let k : c ≡ d = cc in
     let t : word ++ a ≡ half ++ (spaces ++ unfinished) = cc in
     let b = front_of word a half spaces w.1 each t in
     (b.0, ap (λ (x : List ℕ). d ∷ x) b.1 ∙ ap (λ (x : ℕ). x ∷ (word ++ b.0)) (sym k))
-front_of (c ∷ word) a [] [] w each e = let k : c ≡ 60 = cc in absurd (w.0.1 k)
-front_of (c ∷ word) a [] (d ∷ spaces) w each e = let k : c ≡ d = cc in absurd (w.0.0 (k ∙ same_is 32 d each.0))
+front_of (c ∷ word) a [] [] w each e = let k : c ≡ 60 = cc in absurd (let no : inside c ≡ false = ap inside k in cc)
+front_of (c ∷ word) a [] (d ∷ spaces) w each e =
+    let k : c ≡ d = cc in
+    absurd (let no : inside c ≡ false = ap inside (k ∙ same_is 32 d each.0) in cc)
 
 pid_front : (word text : List ℕ) (pid : ℕ) (rest : List ℕ) → PidThen word text pid rest → (front : List ℕ) × (text ≡ front ++ rest)
 pid_front word text pid rest h = (h.0 ++ word, h.2 ∙ sym (append_assoc h.0 word rest))
@@ -376,7 +308,7 @@ slice_half text p n from to h =
     let is_from : from ≡ length f.0 = omega arith in
     let is_to : to - from ≡ length half = omega arith in
     let e = slice_is text f.0 body half (i.spaces ++ unfinished) from to f.1 i.parts is_from is_to in
-    subst (BeginsWith (call_head n)) (sym e) (front_of (call_head n) h.3.1.0 half i.spaces (head_no_ending n) i.only_spaces (sym h.3.1.1 ∙ i.parts))
+    subst (BeginsWith (call_head n)) (sym e) (front_of (call_head n) h.3.1.0 half i.spaces (head_inside n) i.only_spaces (sym h.3.1.1 ∙ i.parts))
 
 kept_begins : (fed : List (List ℕ)) (p : ℕ) (n : Name) (half : List ℕ) → IsKept fed p n half → BeginsWith (call_head n) half
 kept_begins fed p n half k = subst (BeginsWith (call_head n)) (sym k.bytes) (slice_half k.text p n k.from k.to k.is_half)

@@ -29,8 +29,8 @@ then_yes (Some x) f y h = (x, refl, h)
 
 -- ---- addresses
 
-some_pair : (p q : ℕ × List ℕ) → Some p ≡ Some q → p ≡ q
-some_pair p q h = cc
+some_same : {A : Type 0} (p q : A) → Some p ≡ Some q → p ≡ q
+some_same p q h = cc
 
 address_some : (text : List ℕ) (p : ℕ × List ℕ) (n : ℕ) (rest : List ℕ) → address_of text p ≡ Some (n, rest)
     → (length p.1 ≢ length text) × (p.0 < 2 ^ 64) × (p.0 % 4096 ≡ 0) × (p ≡ (n, rest))
@@ -39,7 +39,7 @@ address_some text p n rest h =
       | inl a ↦ let k = rw a.0 at h in absurd cc
       | inr a ↦ elim (cases_lt p.0 (2 ^ 64)) [
         | inl b ↦ elim (eqb_tells (p.0 % 4096) 0) [
-          | inl d ↦ (a.1, b, d.1, some_pair p (n, rest) (rw (a.0, lt-ltb p.0 (2 ^ 64) b, d.0) at h))
+          | inl d ↦ (a.1, b, d.1, some_same p (n, rest) (rw (a.0, lt-ltb p.0 (2 ^ 64) b, d.0) at h))
           | inr d ↦ let k = rw (a.0, lt-ltb p.0 (2 ^ 64) b, d.0) at h in absurd cc
         ]
         | inr b ↦ let k = rw (a.0, le-ltb p.0 (2 ^ 64) b) at h in absurd cc
@@ -110,10 +110,10 @@ unfolding mark_at
 mark_yes letter bit [] rest v h = absurd cc
 mark_yes letter bit (c ∷ text) rest v h =
     elim (eqb_tells c letter) [
-      | inl k ↦ let g : (bit, text) ≡ (v, rest) = some_pair (bit, text) (v, rest) (rw k.0 at h) in
+      | inl k ↦ let g : (bit, text) ≡ (v, rest) = some_same (bit, text) (v, rest) (rw k.0 at h) in
           (c, ap (λ (x : ℕ × List ℕ). c ∷ x.1) g, inl (k.1, sym (ap (λ (x : ℕ × List ℕ). x.0) g)))
       | inr k ↦ elim (eqb_tells c 45) [
-        | inl l ↦ let g : (0, text) ≡ (v, rest) = some_pair (0, text) (v, rest) (rw (k.0, l.0) at h) in
+        | inl l ↦ let g : (0, text) ≡ (v, rest) = some_same (0, text) (v, rest) (rw (k.0, l.0) at h) in
             (c, ap (λ (x : ℕ × List ℕ). c ∷ x.1) g, inr (l.1, sym (ap (λ (x : ℕ × List ℕ). x.0) g)))
         | inr l ↦ let g = rw (k.0, l.0) at h in absurd cc
       ]
@@ -128,19 +128,16 @@ unfolding mark_at
 mark_no letter bit c v rest other (inl h) = rw (h.0, h.1, is_same letter) refl
 mark_no letter bit c v rest other (inr h) = rw (h.0, h.1) (dash_no letter bit rest other)
 
-some_shared : (p q : Bool × List ℕ) → Some p ≡ Some q → p ≡ q
-some_shared p q h = cc
-
 sharing_yes : (text rest : List ℕ) (v : Bool) → sharing_at text ≡ Some (v, rest)
     → (c : ℕ) × (text ≡ c ∷ rest) × (((c ≡ 115) × (v ≡ true)) ⊎ ((c ≡ 112) × (v ≡ false)))
 unfolding sharing_at
 sharing_yes [] rest v h = absurd cc
 sharing_yes (c ∷ text) rest v h =
     elim (eqb_tells c 115) [
-      | inl k ↦ let g : (true, text) ≡ (v, rest) = some_shared (true, text) (v, rest) (rw k.0 at h) in
+      | inl k ↦ let g : (true, text) ≡ (v, rest) = some_same (true, text) (v, rest) (rw k.0 at h) in
           (c, ap (λ (x : Bool × List ℕ). c ∷ x.1) g, inl (k.1, sym (ap (λ (x : Bool × List ℕ). x.0) g)))
       | inr k ↦ elim (eqb_tells c 112) [
-        | inl l ↦ let g : (false, text) ≡ (v, rest) = some_shared (false, text) (v, rest) (rw (k.0, l.0) at h) in
+        | inl l ↦ let g : (false, text) ≡ (v, rest) = some_same (false, text) (v, rest) (rw (k.0, l.0) at h) in
             (c, ap (λ (x : Bool × List ℕ). c ∷ x.1) g, inr (l.1, sym (ap (λ (x : Bool × List ℕ). x.0) g)))
         | inr l ↦ let g = rw (k.0, l.0) at h in absurd cc
       ]
@@ -151,13 +148,10 @@ unfolding sharing_at
 sharing_no c v rest (inl h) = rw (h.0, h.1) refl
 sharing_no c v rest (inr h) = rw (h.0, h.1) refl
 
-some_kind : (p q : Kind) → Some p ≡ Some q → p ≡ q
-some_kind p q h = cc
-
 ended_yes : (kind k : Kind) (text : List ℕ) → ended_at kind text ≡ Some k → (kind ≡ k) × ((text ≡ []) ⊎ (starts (is 32) text ≡ true))
 unfolding ended_at
-ended_yes kind k [] h = (some_kind kind k h, inl refl)
-ended_yes kind k (c ∷ text) h = elim (eqb_tells c 32) [ inl a ↦ (some_kind kind k (rw a.0 at h), inr a.0) | inr a ↦ let g = rw a.0 at h in absurd cc ]
+ended_yes kind k [] h = (some_same kind k h, inl refl)
+ended_yes kind k (c ∷ text) h = elim (eqb_tells c 32) [ inl a ↦ (some_same kind k (rw a.0 at h), inr a.0) | inr a ↦ let g = rw a.0 at h in absurd cc ]
 
 ended_no : (kind : Kind) (text : List ℕ) → (text ≡ []) ⊎ (starts (is 32) text ≡ true) → ended_at kind text ≡ Some kind
 unfolding ended_at
@@ -178,10 +172,13 @@ pub record KindFound (text : List ℕ) (kind : Kind) : Type 0 where
   -- behind them the text ends or goes on with a space
   pub behind : (tail ≡ []) ⊎ (starts (is 32) tail ≡ true)
 
+-- the kind that three bits and the sharing make
+abbrev kind_of : ℕ → ℕ → ℕ → Bool → Kind
+kind_of read write exec shared = record { prot = record { 0 = bit_or (bit_or read write) exec }; shared = shared; sealed = false }
+
 -- what is read behind the first character, the second and the third
 abbrev behind_third : ℕ → ℕ → ℕ → List ℕ → Option Kind
-behind_third read write exec text = then_some (sharing_at text)
-    (λ s. ended_at (record { prot = record { 0 = bit_or (bit_or read write) exec }; shared = s.0; sealed = false }) s.1)
+behind_third read write exec text = then_some (sharing_at text) (λ s. ended_at (kind_of read write exec s.0) s.1)
 
 abbrev behind_second : ℕ → ℕ → List ℕ → Option Kind
 behind_second read write text = then_some (mark_at 120 4 text) (λ x. behind_third read write x.0 x.1)
@@ -189,124 +186,73 @@ behind_second read write text = then_some (mark_at 120 4 text) (λ x. behind_thi
 abbrev behind_first : ℕ → List ℕ → Option Kind
 behind_first read text = then_some (mark_at 119 2 text) (λ w. behind_second read w.0 w.1)
 
--- the fourth character, behind three that have these bits
-pub record Fourth (read write exec : ℕ) (text : List ℕ) (kind : Kind) : Type 0 where
-  -- the fourth character
-  pub s : ℕ
-  -- what stands behind it
-  pub tail : List ℕ
-  -- the text is these two
-  pub parts : text ≡ s ∷ tail
-  -- the kind has the bits of the three characters
-  pub rights : kind.prot ≡ record { 0 = bit_or (bit_or read write) exec }
-  -- the fourth character says whether writes are shared
-  pub sharing : ((s ≡ 115) × (kind.shared ≡ true)) ⊎ ((s ≡ 112) × (kind.shared ≡ false))
-  -- the kind isn't sealed
-  pub unsealed : kind.sealed ≡ false
-  -- behind it the text ends or goes on with a space
-  pub behind : (tail ≡ []) ⊎ (starts (is 32) tail ≡ true)
-
-fourth_is : (read write exec s : ℕ) (shared : Bool) (text tail : List ℕ) (kind : Kind) → text ≡ s ∷ tail
-    → ((s ≡ 115) × (shared ≡ true)) ⊎ ((s ≡ 112) × (shared ≡ false))
-    → record { prot = record { 0 = bit_or (bit_or read write) exec }; shared = shared; sealed = false } ≡ kind
-    → (tail ≡ []) ⊎ (starts (is 32) tail ≡ true) → Fourth read write exec text kind
-fourth_is read write exec s shared text tail kind parts sharing same behind = record {
-  s = s;
-  tail = tail;
-  parts = parts;
-  rights = ap (λ (x : Kind). x.prot) (sym same);
-  sharing = subst (λ (x : Kind). ((s ≡ 115) × (x.shared ≡ true)) ⊎ ((s ≡ 112) × (x.shared ≡ false))) same sharing;
-  unsealed = ap (λ (x : Kind). x.sealed) (sym same);
-  behind = behind;
-}
-
-fourth_yes : (read write exec : ℕ) (text : List ℕ) (kind : Kind) → behind_third read write exec text ≡ Some kind → Fourth read write exec text kind
-fourth_yes read write exec text kind h =
-    let a = then_yes (sharing_at text)
-    (λ s. ended_at (record { prot = record { 0 = bit_or (bit_or read write) exec }; shared = s.0; sealed = false }) s.1) kind h in
-    let b = sharing_yes text a.0.1 a.0.0 a.1 in
-    let c = ended_yes (record { prot = record { 0 = bit_or (bit_or read write) exec }; shared = a.0.0; sealed = false }) kind a.0.1 a.2 in
-    fourth_is read write exec b.0 a.0.0 text a.0.1 kind b.1 b.2 c.0 c.1
-
--- the third character, and the fourth
-pub record Third (read write : ℕ) (text : List ℕ) (kind : Kind) : Type 0 where
-  -- the third character
-  pub x : ℕ
+-- a character that is this letter or a dash, and the kind behind it
+pub record Marked (letter bit : ℕ) (next : ℕ → List ℕ → Option Kind) (text : List ℕ) (kind : Kind) : Type 0 where
+  -- the character
+  pub char : ℕ
   -- its bit
-  pub exec : ℕ
+  pub value : ℕ
   -- what stands behind it
   pub rest : List ℕ
   -- the text is these two
-  pub parts : text ≡ x ∷ rest
-  -- the character is x with the bit, or a dash without
-  pub exec_mark : IsMark 120 4 x exec
-  -- the fourth character stands behind it
-  pub fourth : Fourth read write exec rest kind
+  pub parts : text ≡ char ∷ rest
+  -- the character is the letter with the bit, or a dash without
+  pub mark : IsMark letter bit char value
+  -- with this bit the kind is read behind it
+  pub behind : next value rest ≡ Some kind
 
-third_yes : (read write : ℕ) (text : List ℕ) (kind : Kind) → behind_second read write text ≡ Some kind → Third read write text kind
-third_yes read write text kind h =
-    let a = then_yes (mark_at 120 4 text) (λ x. behind_third read write x.0 x.1) kind h in
-    let b = mark_yes 120 4 text a.0.1 a.0.0 a.1 in
-    record { x = b.0; exec = a.0.0; rest = a.0.1; parts = b.1; exec_mark = b.2; fourth = fourth_yes read write a.0.0 a.0.1 kind a.2 }
-
--- the second character, and the third and the fourth
-pub record Second (read : ℕ) (text : List ℕ) (kind : Kind) : Type 0 where
-  -- the second character
-  pub w : ℕ
-  -- its bit
-  pub write : ℕ
-  -- what stands behind it
-  pub rest : List ℕ
-  -- the text is these two
-  pub parts : text ≡ w ∷ rest
-  -- the character is w with the bit, or a dash without
-  pub write_mark : IsMark 119 2 w write
-  -- the third and the fourth character stand behind it
-  pub third : Third read write rest kind
-
-second_yes : (read : ℕ) (text : List ℕ) (kind : Kind) → behind_first read text ≡ Some kind → Second read text kind
-second_yes read text kind h =
-    let a = then_yes (mark_at 119 2 text) (λ w. behind_second read w.0 w.1) kind h in
-    let b = mark_yes 119 2 text a.0.1 a.0.0 a.1 in
-    record { w = b.0; write = a.0.0; rest = a.0.1; parts = b.1; write_mark = b.2; third = third_yes read a.0.0 a.0.1 kind a.2 }
+marked : (letter bit : ℕ) (next : ℕ → List ℕ → Option Kind) (text : List ℕ) (kind : Kind)
+    → then_some (mark_at letter bit text) (λ x. next x.0 x.1) ≡ Some kind → Marked letter bit next text kind
+marked letter bit next text kind h =
+    let a = then_yes (mark_at letter bit text) (λ x. next x.0 x.1) kind h in
+    let b = mark_yes letter bit text a.0.1 a.0.0 a.1 in
+    record { char = b.0; value = a.0.0; rest = a.0.1; parts = b.1; mark = b.2; behind = a.2 }
 
 four_parts : (text one two three tail : List ℕ) (r w x s : ℕ) → text ≡ r ∷ one → one ≡ w ∷ two → two ≡ x ∷ three
     → three ≡ s ∷ tail → text ≡ (r ∷ w ∷ x ∷ s ∷ []) ++ tail
 four_parts text one two three tail r w x s a b c d = rw (a, b, c, d) refl
 
-kind_is : (text rest : List ℕ) (r read : ℕ) (kind : Kind) → text ≡ r ∷ rest → IsMark 114 1 r read → Second read rest kind → KindFound text kind
-kind_is text rest r read kind parts read_mark second =
-    let third = second.third in
-    let fourth = third.fourth in
-    record {
-      chars = r ∷ second.w ∷ third.x ∷ fourth.s ∷ [];
-      tail = fourth.tail;
-      parts = four_parts text rest second.rest third.rest fourth.tail r second.w third.x fourth.s parts second.parts third.parts fourth.parts;
-      is_kind = record {
-        r = r;
-        w = second.w;
-        x = third.x;
-        s = fourth.s;
-        read = read;
-        write = second.write;
-        exec = third.exec;
-        four = refl;
-        read_mark = read_mark;
-        write_mark = second.write_mark;
-        exec_mark = third.exec_mark;
-        rights = fourth.rights;
-        sharing = fourth.sharing;
-        unsealed = fourth.unsealed;
-      };
-      behind = fourth.behind;
-    }
+-- three characters, and the kind that is read behind them
+module _ (text : List ℕ) (kind : Kind) (r : Marked 114 1 behind_first text kind) (w : Marked 119 2 (behind_second r.value) r.rest kind)
+    (x : Marked 120 4 (behind_third r.value w.value) w.rest kind) where
+  kind_is : (s : ℕ) (tail : List ℕ) (shared : Bool) → x.rest ≡ s ∷ tail → ((s ≡ 115) × (shared ≡ true)) ⊎ ((s ≡ 112) × (shared ≡ false))
+      → kind_of r.value w.value x.value shared ≡ kind → (tail ≡ []) ⊎ (starts (is 32) tail ≡ true) → KindFound text kind
+  kind_is s tail shared parts sharing same behind = record {
+    chars = r.char ∷ w.char ∷ x.char ∷ s ∷ [];
+    tail = tail;
+    parts = four_parts text r.rest w.rest x.rest tail r.char w.char x.char s r.parts w.parts x.parts parts;
+    is_kind = record {
+      r = r.char;
+      w = w.char;
+      x = x.char;
+      s = s;
+      read = r.value;
+      write = w.value;
+      exec = x.value;
+      four = refl;
+      read_mark = r.mark;
+      write_mark = w.mark;
+      exec_mark = x.mark;
+      rights = ap (λ (k : Kind). k.prot) (sym same);
+      sharing = subst (λ (k : Kind). ((s ≡ 115) × (k.shared ≡ true)) ⊎ ((s ≡ 112) × (k.shared ≡ false))) same sharing;
+      unsealed = ap (λ (k : Kind). k.sealed) (sym same);
+    };
+    behind = behind;
+  }
+
+  kind_behind : KindFound text kind
+  kind_behind =
+      let a = then_yes (sharing_at x.rest) (λ s. ended_at (kind_of r.value w.value x.value s.0) s.1) kind x.behind in
+      let b = sharing_yes x.rest a.0.1 a.0.0 a.1 in
+      let c = ended_yes (kind_of r.value w.value x.value a.0.0) kind a.0.1 a.2 in
+      kind_is b.0 a.0.1 a.0.0 b.1 b.2 c.0 c.1
 
 kind_yes : (text : List ℕ) (kind : Kind) → kind_at text ≡ Some kind → KindFound text kind
 unfolding kind_at
 kind_yes text kind h =
-    let a = then_yes (mark_at 114 1 text) (λ r. behind_first r.0 r.1) kind h in
-    let b = mark_yes 114 1 text a.0.1 a.0.0 a.1 in
-    kind_is text a.0.1 b.0 a.0.0 kind b.1 b.2 (second_yes a.0.0 a.0.1 kind a.2)
+    let r = marked 114 1 behind_first text kind h in
+    let w = marked 119 2 (behind_second r.value) r.rest kind r.behind in
+    kind_behind text kind r w (marked 120 4 (behind_third r.value w.value) w.rest kind w.behind)
 
 kind_no : (chars tail : List ℕ) (kind : Kind) → IsKind chars kind → (tail ≡ []) ⊎ (starts (is 32) tail ≡ true) → kind_at (chars ++ tail) ≡ Some kind
 unfolding kind_at
@@ -316,18 +262,10 @@ kind_no chars tail kind k behind =
     let q = mark_no 119 2 k.w k.write (k.x ∷ k.s ∷ tail) (λ z. cc) k.write_mark in
     let r = mark_no 120 4 k.x k.exec (k.s ∷ tail) (λ z. cc) k.exec_mark in
     let s = sharing_no k.s kind.shared tail k.sharing in
-    let t : record { prot = record { 0 = bit_or (bit_or k.read k.write) k.exec }; shared = kind.shared; sealed = false } ≡ kind =
-    λ i. record { prot = sym k.rights i; shared = kind.shared; sealed = sym k.unsealed i } in
-    rw e (rw p (rw q (rw r (rw s (ended_no (record {
-      prot = record { 0 = bit_or (bit_or k.read k.write) k.exec };
-      shared = kind.shared;
-      sealed = false;
-    }) tail behind ∙ ap (λ (x : Kind). Some x) t)))))
+    let t : kind_of k.read k.write k.exec kind.shared ≡ kind = λ i. record { prot = sym k.rights i; shared = kind.shared; sealed = sym k.unsealed i } in
+    rw e (rw p (rw q (rw r (rw s (ended_no (kind_of k.read k.write k.exec kind.shared) tail behind ∙ ap (λ (x : Kind). Some x) t)))))
 
 -- ---- lines
-
-some_triple : (p q : ℕ × ℕ × Kind) → Some p ≡ Some q → p ≡ q
-some_triple p q h = cc
 
 -- what is read behind the two addresses, behind the first with its dash, and behind the first
 abbrev behind_stop : ℕ → ℕ → List ℕ → Option (ℕ × ℕ × Kind)
@@ -339,91 +277,63 @@ behind_dash start text = then_some (address_at text) (λ b. behind_stop start b.
 abbrev behind_start : ℕ → List ℕ → Option (ℕ × ℕ × Kind)
 behind_start start text = then_some (behind_byte 45 text) (λ u. behind_dash start u)
 
--- the kind behind the two addresses, which are these
-pub record Behind (start stop : ℕ) (text : List ℕ) (line : ℕ × ℕ × Kind) : Type 0 where
-  -- the four characters
-  pub chars : List ℕ
-  -- what stands behind them
-  pub tail : List ℕ
-  -- the text is a space and these two
-  pub parts : text ≡ 32 ∷ (chars ++ tail)
-  -- the characters are those of the line's kind
-  pub is_kind : IsKind chars line.2
-  -- behind them the text ends or goes on with a space
-  pub behind : (tail ≡ []) ⊎ (starts (is 32) tail ≡ true)
-  -- the first address is the line's start
-  pub starts_at : start ≡ line.0
-  -- the second address is the line's end
-  pub stops_at : stop ≡ line.1
-
-behind_is : (start stop : ℕ) (text rest : List ℕ) (kind : Kind) (line : ℕ × ℕ × Kind) → text ≡ 32 ∷ rest → KindFound rest kind → (start, stop, kind) ≡ line
-    → Behind start stop text line
-behind_is start stop text rest kind line parts found same = record {
-  chars = found.chars;
-  tail = found.tail;
-  parts = parts ∙ ap (λ (x : List ℕ). 32 ∷ x) found.parts;
-  is_kind = subst (IsKind found.chars) (ap (λ (x : ℕ × ℕ × Kind). x.2) same) found.is_kind;
-  behind = found.behind;
-  starts_at = ap (λ (x : ℕ × ℕ × Kind). x.0) same;
-  stops_at = ap (λ (x : ℕ × ℕ × Kind). x.1) same;
-}
-
-behind_stop_yes : (start stop : ℕ) (text : List ℕ) (line : ℕ × ℕ × Kind) → behind_stop start stop text ≡ Some line → Behind start stop text line
-behind_stop_yes start stop text line h =
-    let a = then_yes (behind_byte 32 text) (λ v. then_some (kind_at v) (λ k. Some (start, stop, k))) line h in
-    let b = then_yes (kind_at a.0) (λ k. Some (start, stop, k)) line a.2 in
-    behind_is start stop text a.0 b.0 line (behind_yes 32 text a.0 a.1) (kind_yes a.0 b.0 b.1) (some_triple (start, stop, b.0) line b.2)
-
--- the second address and what is behind it
-pub record Stop (start : ℕ) (text : List ℕ) (line : ℕ × ℕ × Kind) : Type 0 where
-  -- the digits of the second address
-  pub second : List ℕ
-  -- what stands behind them
+-- an address, and the line that is read behind it
+pub record Addressed (next : ℕ → List ℕ → Option (ℕ × ℕ × Kind)) (text : List ℕ) (line : ℕ × ℕ × Kind) : Type 0 where
+  -- its digits
+  pub digits : List ℕ
+  -- the address
+  pub number : ℕ
+  -- what stands behind the digits
   pub rest : List ℕ
-  -- the second address
-  pub stop : ℕ
   -- the text is the digits and the rest
-  pub parts : text ≡ second ++ rest
+  pub parts : text ≡ digits ++ rest
   -- the digits are those of the address
-  pub is_address : IsAddress second stop
-  -- the kind stands behind, and the addresses are the line's
-  pub found : Behind start stop rest line
+  pub is_address : IsAddress digits number
+  -- with this address the line is read behind it
+  pub behind : next number rest ≡ Some line
 
-behind_dash_yes : (start : ℕ) (text : List ℕ) (line : ℕ × ℕ × Kind) → behind_dash start text ≡ Some line → Stop start text line
-behind_dash_yes start text line h =
-    let a = then_yes (address_at text) (λ b. behind_stop start b.0 b.1) line h in
+addressed : (next : ℕ → List ℕ → Option (ℕ × ℕ × Kind)) (text : List ℕ) (line : ℕ × ℕ × Kind)
+    → then_some (address_at text) (λ b. next b.0 b.1) ≡ Some line → Addressed next text line
+addressed next text line h =
+    let a = then_yes (address_at text) (λ b. next b.0 b.1) line h in
     let b = address_yes text a.0.1 a.0.0 a.1 in
-    record { second = b.0; rest = a.0.1; stop = a.0.0; parts = b.2; is_address = b.1; found = behind_stop_yes start a.0.0 a.0.1 line a.2 }
+    record { digits = b.0; number = a.0.0; rest = a.0.1; parts = b.2; is_address = b.1; behind = a.2 }
 
-line_parts_are : (text first one two second three chars tail : List ℕ) → text ≡ first ++ one → one ≡ 45 ∷ two
-    → two ≡ second ++ three → three ≡ 32 ∷ (chars ++ tail)
+line_parts_are : (text first one two second three four chars tail : List ℕ) → text ≡ first ++ one → one ≡ 45 ∷ two
+    → two ≡ second ++ three → three ≡ 32 ∷ four → four ≡ chars ++ tail
     → text ≡ first ++ (45 ∷ (second ++ (32 ∷ (chars ++ tail))))
-line_parts_are text first one two second three chars tail a b c d = rw (a, b, c, d) refl
+line_parts_are text first one two second three four chars tail a b c d e = rw (a, b, c, d, e) refl
 
-line_is : (text first one two : List ℕ) (start : ℕ) (line : ℕ × ℕ × Kind) → text ≡ first ++ one → IsAddress first start → one ≡ 45 ∷ two → Stop start two line
-    → IsMapsLine text line.0 line.1 line.2
-line_is text first one two start line parts is_first dash second =
-    let found = second.found in
-    record {
-      start_digits = first;
-      stop_digits = second.second;
-      chars = found.chars;
-      tail = found.tail;
-      parts = line_parts_are text first one two second.second second.rest found.chars found.tail parts dash second.parts found.parts;
-      starts_at = subst (IsAddress first) found.starts_at is_first;
-      stops_at = subst (IsAddress second.second) found.stops_at second.is_address;
-      is_kind = found.is_kind;
-      behind = found.behind;
-    }
+-- the two addresses, and the kind that is read behind them
+module _ (text middle : List ℕ) (line : ℕ × ℕ × Kind) (one : Addressed behind_start text line) (dash : one.rest ≡ 45 ∷ middle)
+    (two : Addressed (behind_stop one.number) middle line) where
+  line_is : (last : List ℕ) (kind : Kind) → two.rest ≡ 32 ∷ last → KindFound last kind → (one.number, two.number, kind) ≡ line
+      → IsMapsLine text line.0 line.1 line.2
+  line_is last kind space found same = record {
+    start_digits = one.digits;
+    stop_digits = two.digits;
+    chars = found.chars;
+    tail = found.tail;
+    parts = line_parts_are text one.digits one.rest middle two.digits two.rest last found.chars found.tail one.parts dash two.parts space found.parts;
+    starts_at = subst (IsAddress one.digits) (ap (λ (x : ℕ × ℕ × Kind). x.0) same) one.is_address;
+    stops_at = subst (IsAddress two.digits) (ap (λ (x : ℕ × ℕ × Kind). x.1) same) two.is_address;
+    is_kind = subst (IsKind found.chars) (ap (λ (x : ℕ × ℕ × Kind). x.2) same) found.is_kind;
+    behind = found.behind;
+  }
+
+  line_behind : IsMapsLine text line.0 line.1 line.2
+  line_behind =
+      let a = then_yes (behind_byte 32 two.rest) (λ v. then_some (kind_at v) (λ k. Some (one.number, two.number, k))) line two.behind in
+      let b = then_yes (kind_at a.0) (λ k. Some (one.number, two.number, k)) line a.2 in
+      line_is a.0 b.0 (behind_yes 32 two.rest a.0 a.1) (kind_yes a.0 b.0 b.1) (some_same (one.number, two.number, b.0) line b.2)
 
 -- what maps_at finds is a maps line
 pub maps_yes : (text : List ℕ) (start stop : ℕ) (kind : Kind) → maps_at text ≡ Some (start, stop, kind) → IsMapsLine text start stop kind
 unfolding maps_at
 maps_yes text start stop kind h =
-    let a = then_yes (address_at text) (λ b. behind_start b.0 b.1) (start, stop, kind) h in
-    let b = then_yes (behind_byte 45 a.0.1) (λ u. behind_dash a.0.0 u) (start, stop, kind) a.2 in
-    let c = address_yes text a.0.1 a.0.0 a.1 in
-    line_is text c.0 a.0.1 b.0 a.0.0 (start, stop, kind) c.2 c.1 (behind_yes 45 a.0.1 b.0 b.1) (behind_dash_yes a.0.0 b.0 (start, stop, kind) b.2)
+    let a = addressed behind_start text (start, stop, kind) h in
+    let b = then_yes (behind_byte 45 a.rest) (λ u. behind_dash a.number u) (start, stop, kind) a.behind in
+    line_behind text b.0 (start, stop, kind) a (behind_yes 45 a.rest b.0 b.1) (addressed (behind_stop a.number) b.0 (start, stop, kind) b.2)
 
 dash_stop : (rest : List ℕ) → NoDigit 16 (45 ∷ rest)
 unfolding worth
@@ -474,7 +384,7 @@ no_line text h start stop kind m = let k = sym h ∙ maps_no text start stop kin
 
 one_line : (text : List ℕ) (a b c d : ℕ) (k l : Kind) → maps_at text ≡ Some (a, b, k) → IsMapsLine text c d l → (c ≡ a) × (d ≡ b) × (l ≡ k)
 one_line text a b c d k l h m =
-    let e : (c, d, l) ≡ (a, b, k) = some_triple (c, d, l) (a, b, k) (sym (maps_no text c d l m) ∙ h) in
+    let e : (c, d, l) ≡ (a, b, k) = some_same (c, d, l) (a, b, k) (sym (maps_no text c d l m) ∙ h) in
     (ap (λ (x : ℕ × ℕ × Kind). x.0) e, ap (λ (x : ℕ × ℕ × Kind). x.1) e, ap (λ (x : ℕ × ℕ × Kind). x.2) e)
 
 form_only : (text : List ℕ) → maps_at text ≡ None → (item : MapsItem) → SpellsMaps text item → ⊥

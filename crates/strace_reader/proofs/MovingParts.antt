@@ -14,7 +14,7 @@ use Rattle.line_parts.proofs.Lists.{is_close}
 use Rattle.strace_reader.specs.Words.{may_of}
 use Rattle.strace_reader.specs.Calls.{word, is_more, alone, hex_number, move_number, moved, moving}
 use Rattle.strace_reader.specs.Reading.{word_at, alone_at, hex_number_at, zero_behind_at, move_number_at, moved_at, move_word_at, moving_at}
-use Rattle.strace_reader.proofs.ArgumentParts.{WordEnds, not_space, digit_not_space, word_good, word_heads, rest_nonempty}
+use Rattle.strace_reader.proofs.ArgumentParts.{WordEnds, not_space, starts_as, digit_not_space, word_good, word_heads, rest_nonempty}
 
 -- a comma or a parenthesis follows, and the end behind what took the rest
 abbrev pub MoveEnds : Option Bool → List ℕ → Type 0
@@ -106,13 +106,9 @@ move_number_good =
     (full_nonempty (is 48) behind_zero behind_zero_full) (λ rest q v h hq. move_stays (is 48) refl refl v q hq)
     (48 ∷ [], Some false, zero_takes)
 
-bar_no_word : (q : List ℕ) → starts (is 124) q ≡ true → starts is_word_byte q ≡ false
-bar_no_word [] h = refl
-bar_no_word (c ∷ q) h = ap is_word_byte (same_is 124 c h)
-
 alone_no_word : (may : Bool) (b q : List ℕ) (u : Option Bool) (x : Bool) → starts (is 124) (b ++ q) ≡ x
     → (arm (anything no_byte None) (done (Some may)) x).takes b q u → MoveEnds u q → starts is_word_byte (b ++ q) ≡ false
-alone_no_word may b q u true e h hq = bar_no_word (b ++ q) e
+alone_no_word may b q u true e h hq = starts_as 124 is_word_byte (b ++ q) e
 alone_no_word may b q u false e h hq = ap (λ (y : List ℕ). starts is_word_byte (y ++ q)) h.0
     ∙ close_fails is_word_byte refl refl q (subst (λ (x : Option Bool). MoveEnds x q) h.1 hq)
 

@@ -17,20 +17,16 @@ use Rattle.strace_reader.specs.declared.item.Recorded.TheVariants.{Value, Failed
 use Rattle.strace_reader.specs.Words.{errno_of}
 use Rattle.strace_reader.specs.Calls.{failed, recorded, equals, tail, outcome, closing}
 use Rattle.strace_reader.specs.Reading.{failed_at, recorded_at, equals_at, tail_at, outcome_at, closing_at}
-use Rattle.strace_reader.proofs.ArgumentParts.{SpacesEnd, not_space, not_space_ends, digit_not_space, byte_heads, rest_nonempty, letters_heads}
+use Rattle.strace_reader.proofs.ArgumentParts.{SpacesEnd, not_space, not_space_ends, starts_as, digit_not_space, byte_heads, rest_nonempty, letters_heads}
 
 -- ---- the equals sign
-
-equals_no_space : (q : List ℕ) → starts (is 61) q ≡ true → starts (is 32) q ≡ false
-equals_no_space [] h = refl
-equals_no_space (c ∷ q) h = ap (is 32) (same_is 61 c h)
 
 equals_good : Good equals SpacesEnd equals_at
 unfolding equals_at
 equals_good =
     good_then (byte_good 32 AtResult)
     (λ a. good_then spaces_good (λ b. good_then (letters_good (codes "= ") AtResult) (λ c. spaces_good) (λ v b q w h hq. tt))
-    (λ v b q w h hq. equals_no_space (b ++ q) (heads_then (is 61) (letters (codes "= ") AtResult) (λ c. spaces)
+    (λ v b q w h hq. starts_as 61 (is 32) (b ++ q) (heads_then (is 61) (letters (codes "= ") AtResult) (λ c. spaces)
     (letters_heads 61 (codes " ") AtResult) b q w h)))
     (λ v b q w h hq. tt)
 
@@ -41,9 +37,8 @@ abbrev pub ResultEnds : {A : Type 0} → A → List ℕ → Type 0
 ResultEnds v q = (q ≡ []) ⊎ (starts (is 32) q ≡ true)
 
 result_fails : (test : ℕ → Bool) → test 32 ≡ false → (q : List ℕ) → (q ≡ []) ⊎ (starts (is 32) q ≡ true) → starts test q ≡ false
-result_fails test x [] h = refl
-result_fails test x (c ∷ q) (inl h) = absurd cc
-result_fails test x (c ∷ q) (inr h) = ap test (same_is 32 c h) ∙ x
+result_fails test x q (inl h) = ap (starts test) h
+result_fails test x q (inr h) = starts_as 32 test q h ∙ x
 
 result_no_numeral : (q : List ℕ) → (q ≡ []) ⊎ (starts (is 32) q ≡ true) → NoNumeral q
 unfolding worth
@@ -92,18 +87,14 @@ recorded_good =
     (full_stays (is 63) failed ResultEnds failed_full)
     (63 ∷ [], None, λ q h. (63 ∷ [], [], tt, refl, refl, (refl, refl)))
 
-mark_not_space : (b : ℕ) → not_space b ≡ true → (q : List ℕ) → starts (is b) q ≡ true → starts not_space q ≡ true
-mark_not_space b x [] h = h
-mark_not_space b x (c ∷ q) h = ap not_space (same_is b c h) ∙ x
-
 failed_starts : (b q : List ℕ) (v : Option Recorded) (x : Bool) → starts (is 45) (b ++ q) ≡ x → (arm minus plain x).takes b q v
     → starts not_space (b ++ q) ≡ true
-failed_starts b q v true e h = mark_not_space 45 refl (b ++ q) e
+failed_starts b q v true e h = starts_as 45 not_space (b ++ q) e
 failed_starts b q v false e h = digit_not_space (b ++ q) (heads_then is_digit (number AtResult) (λ n. done (Some (Value n))) (number_heads AtResult) b q v h)
 
 recorded_starts : (b q : List ℕ) (v : Option Recorded) (x : Bool) → starts (is 63) (b ++ q) ≡ x
     → (arm (chain (byte 63 AtResult) (λ u. done None)) failed x).takes b q v → starts not_space (b ++ q) ≡ true
-recorded_starts b q v true e h = mark_not_space 63 refl (b ++ q) e
+recorded_starts b q v true e h = starts_as 63 not_space (b ++ q) e
 recorded_starts b q v false e h = failed_starts b q v (starts (is 45) (b ++ q)) refl h
 
 -- ---- the end of the line
@@ -154,39 +145,11 @@ closing_good call = good_then (byte_good 41 Close) (λ u. outcome_good call) (λ
 pub closing_heads : (call : Call) → Heads (is 41) (closing call)
 closing_heads call = heads_then (is 41) (byte 41 Close) (λ u. outcome call) (byte_heads 41 Close)
 
--- ---- a line is taken to its end
+-- ---- a line is taken to its end, and its value is sound
 
 -- what the part takes ends the text
 abbrev pub Ends : {A : Type 0} → Part A → Type 0
 Ends {A} part = (p q : List ℕ) (v : A) → part.takes p q v → q ≡ []
-
--- two parts, one behind the other, end the text where the second always does
-pub chain_ends : {A B : Type 0} (first : Part A) (next : A → Part B) → ((v : A) → Ends (next v)) → Ends (chain first next)
-chain_ends first next ends p q w h = ends h.2 h.1 q w h.5
-
-tail_end : (item : Body) (p q : List ℕ) (v : Body) (x : Bool) → (arm (anything no_byte item) (end AtResult item) x).takes p q v → q ≡ []
-tail_end item p q v true h = h.0
-tail_end item p q v false h = h.1
-
-outcome_end : (call : Call) (p q : List ℕ) (v : Body) (x : Bool) → (arm (resulted call) (end AtResult (Called call None)) x).takes p q v → q ≡ []
-outcome_end call p q v true h = chain_ends equals (λ u. chain recorded (λ r. tail (Called call r)))
-    (λ u. chain_ends recorded (λ r. tail (Called call r))
-    (λ r p q v h. tail_end (Called call r) p q v (starts (is 32) (p ++ q)) h)) p q v h
-outcome_end call p q v false h = h.1
-
--- the parenthesis and what is behind it end the text
-pub closing_ends : (call : Call) → Ends (closing call)
-closing_ends call = chain_ends (byte 41 Close) (λ u. outcome call) (λ u p q v h. outcome_end call p q v (starts (is 32) (p ++ q)) h)
-
--- ---- the value of a line
-
--- each value of the part has the property
-abbrev pub Values : {A : Type 0} → (A → Type 0) → Part A → Type 0
-Values {A} P part = (p q : List ℕ) (v : A) → part.takes p q v → P v
-
--- each value of two parts, one behind the other, has the property that all values of the second have
-pub chain_values : {A B : Type 0} (P : B → Type 0) (first : Part A) (next : A → Part B) → ((v : A) → Values P (next v)) → Values P (chain first next)
-chain_values P first next values p q w h = values h.2 h.1 q w h.5
 
 -- a call that is played has no bit but the named ones
 abbrev pub IsSound : Body → Type 0
@@ -195,18 +158,32 @@ IsSound (SecondHalf name left) = ⊥
 IsSound Other = Unit {0}
 IsSound (Called c r) = IsNamedCall c
 
-tail_value : (item : Body) (p q : List ℕ) (v : Body) (x : Bool) → (arm (anything no_byte item) (end AtResult item) x).takes p q v → v ≡ item
-tail_value item p q v true h = h.1
-tail_value item p q v false h = h.2
+-- the part takes a text to its end, and only as a sound body
+pub record Closes (part : Part Body) : Type 0 where
+  -- what the part takes ends the text
+  pub ends : Ends part
+  -- each value of the part is sound
+  pub values : (p q : List ℕ) (v : Body) → part.takes p q v → IsSound v
 
-outcome_value : (call : Call) → IsNamedCall call → (p q : List ℕ) (v : Body) (x : Bool)
-    → (arm (resulted call) (end AtResult (Called call None)) x).takes p q v → IsSound v
-outcome_value call named p q v true h =
-    chain_values IsSound equals (λ u. chain recorded (λ r. tail (Called call r)))
-    (λ u. chain_values IsSound recorded (λ r. tail (Called call r))
-    (λ r p q v h. subst IsSound (sym (tail_value (Called call r) p q v (starts (is 32) (p ++ q)) h)) named)) p q v h
-outcome_value call named p q v false h = subst IsSound (sym h.2) named
+-- two parts, one behind the other, close a text where the second always does
+pub chain_closes : {A : Type 0} (first : Part A) {next : A → Part Body} → ((v : A) → Closes (next v)) → Closes (chain first next)
+chain_closes first {next} closes = record { ends = λ p q w h. (closes h.2).ends h.1 q w h.5; values = λ p q w h. (closes h.2).values h.1 q w h.5 }
 
--- what is taken as the closing of a call with named bits alone is a sound body
-pub closing_values : (call : Call) → IsNamedCall call → Values IsSound (closing call)
-closing_values call named = chain_values IsSound (byte 41 Close) (λ u. outcome call) (λ u p q v h. outcome_value call named p q v (starts (is 32) (p ++ q)) h)
+-- one part or the other, told by the first byte, close a text where both do
+choice_closes : (test : ℕ → Bool) {one other : Part Body} → Closes one → Closes other → Closes (choice test one other)
+choice_closes test {one} {other} a b =
+    let both : (x : Bool) → Closes (arm one other x) = λ x. elim x as (λ x. Closes (arm one other x)) [ true ↦ a | false ↦ b ] in
+    record { ends = λ p q w h. (both (starts test (p ++ q))).ends p q w h; values = λ p q w h. (both (starts test (p ++ q))).values p q w h }
+
+end_closes : (item : Body) → IsSound item → Closes (end AtResult item)
+end_closes item sound = record { ends = λ p q w h. h.1; values = λ p q w h. subst IsSound (sym h.2) sound }
+
+tail_closes : (item : Body) → IsSound item → Closes (tail item)
+tail_closes item sound =
+    choice_closes (is 32) {one = anything no_byte item} (record { ends = λ p q w h. h.0; values = λ p q w h. subst IsSound (sym h.1) sound })
+    (end_closes item sound)
+
+-- the parenthesis and what is behind it close the text of a call with named bits alone
+pub closing_closes : (call : Call) → IsNamedCall call → Closes (closing call)
+closing_closes call named = chain_closes (byte 41 Close) (λ u. choice_closes (is 32)
+    (chain_closes equals (λ v. chain_closes recorded (λ r. tail_closes (Called call r) named))) (end_closes (Called call None) named))

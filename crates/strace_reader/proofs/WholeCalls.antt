@@ -1,16 +1,16 @@
 -- A whole line of a call is read as its part says, each refusal at its one place.
-use Rattle.std.proofs.Common.{◌≡◌, ℕ, ◌+◌, ◌<◌, ◌^◌, List, [], ◌∷◌, ◌++◌, length, Ok, Err, Option, Some, None, Bool, true}
-use Rattle.std.proofs.Common.{false, refl, sym, ap, subst, ◌∙◌, append_assoc, arith}
+use Rattle.std.proofs.Common.{◌≡◌, ℕ, ◌+◌, List, [], ◌∷◌, ◌++◌, length, Result, Ok, Err, Option, Some, None, Bool}
+use Rattle.std.proofs.Common.{refl, sym, ap, subst, ◌∙◌, append_assoc, arith}
 use Rattle.std.proofs.lemmas.List.{append-nil, length-append, append_cancel_left}
 use Rattle.line_parts.specs.declared.refusal.Refusal.{Refusal}
 use Rattle.line_parts.specs.declared.refusal.What.{What}
 use Rattle.line_parts.specs.declared.refusal.What.TheVariants.{Number}
-use Rattle.line_parts.specs.Parts.{Part, chain, starts, Refused}
+use Rattle.line_parts.specs.Parts.{Part, chain, Refused}
 use Rattle.line_parts.specs.Leaves.{is, number, begun, is_word_byte}
-use Rattle.line_parts.specs.Reading.{number_at}
+use Rattle.line_parts.specs.Reading.{◌>>=◌, number_at}
 use Rattle.line_parts.proofs.Sequence.{Took, Stuck, Reads, Fine, Good, Follows, Heads, reads_then, good_then, heads_then, alike_same}
 use Rattle.line_parts.proofs.Choices.{narrower}
-use Rattle.line_parts.proofs.Leaves.{Any, Last, done_good, same_is}
+use Rattle.line_parts.proofs.Leaves.{Any, Last, done_good}
 use Rattle.line_parts.proofs.Numerals.{number_good, number_heads}
 use Rattle.line_parts.proofs.Lists.{is_close, ListEnds}
 use Rattle.page_types.specs.Named.{IsNamedCall}
@@ -25,23 +25,18 @@ use Rattle.strace_reader.specs.Calls.{comma, addr, prot, flags, descriptor, acce
 use Rattle.strace_reader.specs.Calls.{protect_behind_prot, mprotect_arguments, fault_arguments, mseal_arguments, map_tail}
 use Rattle.strace_reader.specs.Calls.{map_behind_flags, map_behind_prot, mmap_arguments, arguments, call}
 use Rattle.strace_reader.specs.Calls.{optional, moving, brk_arguments, remap_behind, remap_lengths, mremap_arguments}
-use Rattle.strace_reader.specs.Reading.{munmap_at, protect_behind_prot_at, mprotect_at, fault_call_at, mseal_at, map_tail_at}
+use Rattle.strace_reader.specs.Reading.{comma_at, addr_at, munmap_at, protect_behind_prot_at, mprotect_at, fault_call_at, mseal_at, map_tail_at}
 use Rattle.strace_reader.specs.Reading.{map_behind_flags_at, map_behind_prot_at, mmap_at, arguments_at}
 use Rattle.strace_reader.specs.Reading.{brk_at, remap_behind_at, remap_lengths_at, mremap_at}
-use Rattle.strace_reader.proofs.ArgumentParts.{SpacesEnd, not_space, not_space_ends, digit_not_space, comma_closes}
-use Rattle.strace_reader.proofs.ArgumentParts.{paren_closes, comma_good, comma_heads, addr_good, prot_good, prot_heads}
+use Rattle.strace_reader.proofs.ArgumentParts.{not_space, not_space_ends, digit_not_space, comma_closes}
+use Rattle.strace_reader.proofs.ArgumentParts.{starts_as, paren_closes, comma_good, comma_heads, addr_good, prot_good, prot_heads}
 use Rattle.strace_reader.proofs.ArgumentParts.{flags_good, flags_heads, descriptor_good, descriptor_heads, access_good}
 use Rattle.strace_reader.proofs.ArgumentParts.{access_heads, prot_end, flags_end, Below, prot_below, flags_below}
-use Rattle.strace_reader.proofs.ArgumentParts.{CloseEnds, close_no_numeral, addr_closed, ParenEnds, optional_good, optional_closes}
+use Rattle.strace_reader.proofs.ArgumentParts.{CloseEnds, close_no_numeral, addr_closed, optional_good, optional_closes}
 use Rattle.strace_reader.proofs.MovingParts.{MoveEnds, moving_good, moving_heads, moving_end}
-use Rattle.strace_reader.proofs.ResultParts.{closing_good, closing_heads, Ends, chain_ends, closing_ends, IsSound, Values, chain_values, closing_values}
+use Rattle.strace_reader.proofs.ResultParts.{closing_good, closing_heads, Ends, IsSound, Closes, chain_closes, closing_closes}
 
 -- ---- what stands behind what
-
--- behind a comma and its spaces stands no space
-spaced : {A : Type 0} (part : Part A) → Heads not_space part → {B : Type 0} (next : A → Part B) (last : B → List ℕ → Type 0)
-    → Follows SpacesEnd (λ (u : Unit {0}). chain part next) last
-spaced part heads next last v b q w h hq = not_space_ends (b ++ q) (heads_then not_space part next heads b q w h)
 
 number_starts : Heads not_space (number Number)
 number_starts b q n h = digit_not_space (b ++ q) (number_heads Number b q n h)
@@ -49,24 +44,44 @@ number_starts b q n h = digit_not_space (b ++ q) (number_heads Number b q n h)
 comma_begins : {B : Type 0} (next : Unit {0} → Part B) → Heads (is 44) (chain comma next)
 comma_begins next = heads_then (is 44) comma next comma_heads
 
-paren_no_word : (q : List ℕ) → starts (is 41) q ≡ true → starts is_word_byte q ≡ false
-paren_no_word [] h = refl
-paren_no_word (c ∷ q) h = ap is_word_byte (same_is 41 c h)
+comma_close : {B : Type 0} (next : Unit {0} → Part B) → Heads is_close (chain comma next)
+comma_close next b q w h = comma_closes (b ++ q) (comma_begins next b q w h)
+
+closing_close : (c : Call) → Heads is_close (closing c)
+closing_close c b q w h = paren_closes (b ++ q) (closing_heads c b q w h)
 
 length_good : Good (number Number) CloseEnds (number_at Number)
 length_good = narrower (λ v q h. close_no_numeral q h) (number_good Number)
+
+-- ---- one argument, and what stands behind it
+
+-- a comma, its spaces and a part that begins with no space
+comma_then : {A : Type 0} {part : Part A} {next : A → Part Body} {follow : A → List ℕ → Type 0}
+    {r : List ℕ → Result (A × List ℕ) Refusal} {f : A → List ℕ → Result (Body × List ℕ) Refusal}
+    → Heads not_space part → Good part follow r → ((v : A) → Good (next v) Last (f v)) → Follows follow next Last
+    → Good (chain comma (λ u. chain part next)) Last (λ text. comma_at text >>= λ x. r x.1 >>= λ y. f y.0 y.1)
+comma_then {part = part} {next = next} heads good others follows =
+    good_then comma_good (λ u. good_then good others follows)
+    (λ v b q w h hq. not_space_ends (b ++ q) (heads_then not_space part next heads b q w h))
+
+-- a comma and a length, with a comma or a parenthesis behind it
+length_then : {next : ℕ → Part Body} {f : ℕ → List ℕ → Result (Body × List ℕ) Refusal} → ((n : ℕ) → Good (next n) Last (f n))
+    → ((n : ℕ) → Heads is_close (next n))
+    → Good (chain comma (λ u. chain (number Number) next)) Last (λ text. comma_at text >>= λ x. number_at Number x.1 >>= λ y. f y.0 y.1)
+length_then others heads = comma_then number_starts length_good others (λ n b q w h hq. heads n b q w h)
+
+-- an address with a comma behind it
+addr_then : {f : ℕ → List ℕ → Result (Body × List ℕ) Refusal} (next : ℕ → Unit {0} → Part Body) → ((a : ℕ) → Good (chain comma (next a)) Last (f a))
+    → Good (chain addr (λ a. chain comma (next a))) Last (λ text. addr_at text >>= λ x. f x.0 x.1)
+addr_then next others = good_then addr_good others (λ a b q w h hq. comma_begins (next a) b q w h)
 
 -- ---- munmap
 
 -- the arguments of munmap are read by munmap_at, where nothing follows
 pub munmap_good : Good munmap_arguments Last munmap_at
 unfolding munmap_at
-munmap_good =
-    good_then addr_good
-    (λ a. good_then comma_good (λ u. good_then length_good (λ n. closing_good (Unmap a n))
-    (λ n b q w h hq. paren_closes (b ++ q) (closing_heads (Unmap a n) b q w h)))
-    (spaced (number Number) number_starts (λ n. closing (Unmap a n)) Last))
-    (λ a b q w h hq. comma_begins (λ u. chain (number Number) (λ n. closing (Unmap a n))) b q w h)
+munmap_good = addr_then (λ a u. chain (number Number) (λ n. closing (Unmap a n)))
+    (λ a. length_then (λ n. closing_good (Unmap a n)) (λ n. closing_close (Unmap a n)))
 
 -- ---- mprotect
 
@@ -76,48 +91,32 @@ protect_behind_prot_good a n (Some p) = closing_good (Protect a n (record { 0 = 
 
 protect_behind_prot_follows : (a n : ℕ) → Follows ListEnds (protect_behind_prot a n) Last
 protect_behind_prot_follows a n None b q w h hq = ap (λ (y : List ℕ). y ++ q) h.0 ∙ hq
-protect_behind_prot_follows a n (Some p) b q w h hq = paren_closes (b ++ q) (closing_heads (Protect a n (record { 0 = p })) b q w h)
+protect_behind_prot_follows a n (Some p) b q w h hq = closing_close (Protect a n (record { 0 = p })) b q w h
 
 -- the arguments of mprotect are read by mprotect_at, where nothing follows
 pub mprotect_good : Good mprotect_arguments Last mprotect_at
 unfolding mprotect_at
-mprotect_good =
-    good_then addr_good
-    (λ a. good_then comma_good
-    (λ u. good_then length_good (λ n. good_then comma_good
-    (λ v. good_then prot_good (protect_behind_prot_good a n) (protect_behind_prot_follows a n))
-    (spaced prot prot_heads (protect_behind_prot a n) Last))
-    (λ n b q w h hq. comma_closes (b ++ q) (comma_begins (λ v. chain prot (protect_behind_prot a n)) b q w h)))
-    (spaced (number Number) number_starts (λ n. chain comma (λ v. chain prot (protect_behind_prot a n))) Last))
-    (λ a b q w h hq. comma_begins (λ u. chain (number Number) (λ n. chain comma (λ v. chain prot (protect_behind_prot a n)))) b q w h)
+mprotect_good = addr_then (λ a u. chain (number Number) (λ n. chain comma (λ v. chain prot (protect_behind_prot a n)))) (λ a. length_then
+    (λ n. comma_then prot_heads prot_good (protect_behind_prot_good a n) (protect_behind_prot_follows a n))
+    (λ n. comma_close (λ v. chain prot (protect_behind_prot a n))))
 
 -- ---- fault
 
 -- the arguments of a page fault are read by fault_call_at, where nothing follows
 pub fault_good : Good fault_arguments Last fault_call_at
 unfolding fault_call_at
-fault_good =
-    good_then addr_good
-    (λ a. good_then comma_good (λ u. good_then access_good (λ c. closing_good (FaultCall a c))
-    (λ c b q w h hq. paren_no_word (b ++ q) (closing_heads (FaultCall a c) b q w h)))
-    (spaced access access_heads (λ c. closing (FaultCall a c)) Last))
-    (λ a b q w h hq. comma_begins (λ u. chain access (λ c. closing (FaultCall a c))) b q w h)
+fault_good = addr_then (λ a u. chain access (λ c. closing (FaultCall a c)))
+    (λ a. comma_then access_heads access_good (λ c. closing_good (FaultCall a c))
+    (λ c b q w h hq. starts_as 41 is_word_byte (b ++ q) (closing_heads (FaultCall a c) b q w h)))
 
 -- ---- mseal
 
 -- the arguments of mseal are read by mseal_at, where nothing follows
 pub mseal_good : Good mseal_arguments Last mseal_at
 unfolding mseal_at
-mseal_good =
-    good_then addr_good
-    (λ a. good_then comma_good
-    (λ u. good_then length_good (λ n. good_then comma_good
-    (λ v. good_then length_good (λ f. closing_good (Seal a n f))
-    (λ f b q w h hq. paren_closes (b ++ q) (closing_heads (Seal a n f) b q w h)))
-    (spaced (number Number) number_starts (λ f. closing (Seal a n f)) Last))
-    (λ n b q w h hq. comma_closes (b ++ q) (comma_begins (λ v. chain (number Number) (λ f. closing (Seal a n f))) b q w h)))
-    (spaced (number Number) number_starts (λ n. chain comma (λ v. chain (number Number) (λ f. closing (Seal a n f)))) Last))
-    (λ a b q w h hq. comma_begins (λ u. chain (number Number) (λ n. chain comma (λ v. chain (number Number) (λ f. closing (Seal a n f))))) b q w h)
+mseal_good = addr_then (λ a u. chain (number Number) (λ n. chain comma (λ v. chain (number Number) (λ f. closing (Seal a n f))))) (λ a. length_then
+    (λ n. length_then (λ f. closing_good (Seal a n f)) (λ f. closing_close (Seal a n f)))
+    (λ n. comma_close (λ v. chain (number Number) (λ f. closing (Seal a n f)))))
 
 -- ---- brk
 
@@ -144,37 +143,22 @@ remap_behind_follows a o n (Some may) b q w h hq =
 remap_lengths_good : (a o : ℕ) → Good (remap_lengths a o) Last (remap_lengths_at a o)
 unfolding remap_lengths_at
 remap_lengths_good a o =
-    good_then comma_good
-    (λ u. good_then length_good
-    (λ n. good_then comma_good (λ v. good_then moving_good (remap_behind_good a o n) (remap_behind_follows a o n))
-    (spaced moving moving_heads (remap_behind a o n) Last))
-    (λ n b q w h hq. comma_closes (b ++ q) (comma_begins (λ v. chain moving (remap_behind a o n)) b q w h)))
-    (spaced (number Number) number_starts (λ n. chain comma (λ v. chain moving (remap_behind a o n))) Last)
+    length_then (λ n. comma_then moving_heads moving_good (remap_behind_good a o n) (remap_behind_follows a o n))
+    (λ n. comma_close (λ v. chain moving (remap_behind a o n)))
 
 -- the arguments of mremap are read by mremap_at, where nothing follows
 pub mremap_good : Good mremap_arguments Last mremap_at
 unfolding mremap_at
-mremap_good =
-    good_then addr_good
-    (λ a. good_then comma_good
-    (λ u. good_then length_good (remap_lengths_good a)
-    (λ o b q w h hq. comma_closes (b ++ q)
-    (comma_begins (λ v. chain (number Number) (λ n. chain comma (λ x. chain moving (remap_behind a o n)))) b q w h)))
-    (spaced (number Number) number_starts (remap_lengths a) Last))
-    (λ a b q w h hq. comma_begins (λ u. chain (number Number) (remap_lengths a)) b q w h)
+mremap_good = addr_then (λ a u. chain (number Number) (remap_lengths a)) (λ a. length_then (remap_lengths_good a)
+    (λ o. comma_close (λ v. chain (number Number) (λ n. chain comma (λ x. chain moving (remap_behind a o n))))))
 
 -- ---- mmap
 
 map_tail_good : (c : Call) → Good (map_tail c) Last (map_tail_at c)
 unfolding map_tail_at
 map_tail_good c =
-    good_then comma_good
-    (λ u. good_then descriptor_good
-    (λ v. good_then comma_good (λ w. good_then length_good (λ o. closing_good c)
-    (λ o b q x h hq. paren_closes (b ++ q) (closing_heads c b q x h)))
-    (spaced (number Number) number_starts (λ o. closing c) Last))
-    (λ v b q x h hq. comma_begins (λ w. chain (number Number) (λ o. closing c)) b q x h))
-    (spaced descriptor descriptor_heads (λ v. chain comma (λ w. chain (number Number) (λ o. closing c))) Last)
+    comma_then descriptor_heads descriptor_good (λ v. length_then (λ o. closing_good c) (λ o. closing_close c))
+    (λ v b q x h hq. comma_begins (λ w. chain (number Number) (λ o. closing c)) b q x h)
 
 map_behind_flags_good : (a n p : ℕ) (f : Option ℕ) → Good (map_behind_flags a n p f) Last (map_behind_flags_at a n p f)
 map_behind_flags_good a n p None = done_good Other Last
@@ -182,33 +166,23 @@ map_behind_flags_good a n p (Some f) = map_tail_good (Map a n (record { 0 = p })
 
 map_behind_flags_follows : (a n p : ℕ) → Follows ListEnds (map_behind_flags a n p) Last
 map_behind_flags_follows a n p None b q w h hq = ap (λ (y : List ℕ). y ++ q) h.0 ∙ hq
-map_behind_flags_follows a n p (Some f) b q w h hq =
-    comma_closes (b ++ q)
-    (comma_begins (λ u. chain descriptor (λ v. chain comma
-    (λ w. chain (number Number) (λ o. closing (Map a n (record { 0 = p }) (record { 0 = f })))))) b q w h)
+map_behind_flags_follows a n p (Some f) b q w h hq = comma_close
+    (λ u. chain descriptor (λ v. chain comma (λ w. chain (number Number) (λ o. closing (Map a n (record { 0 = p }) (record { 0 = f })))))) b q w h
 
 map_behind_prot_good : (a n : ℕ) (p : Option ℕ) → Good (map_behind_prot a n p) Last (map_behind_prot_at a n p)
 map_behind_prot_good a n None = done_good Other Last
-map_behind_prot_good a n (Some p) = good_then comma_good
-    (λ u. good_then flags_good (map_behind_flags_good a n p) (map_behind_flags_follows a n p))
-    (spaced flags flags_heads (map_behind_flags a n p) Last)
+map_behind_prot_good a n (Some p) = comma_then flags_heads flags_good (map_behind_flags_good a n p) (map_behind_flags_follows a n p)
 
 map_behind_prot_follows : (a n : ℕ) → Follows ListEnds (map_behind_prot a n) Last
 map_behind_prot_follows a n None b q w h hq = ap (λ (y : List ℕ). y ++ q) h.0 ∙ hq
-map_behind_prot_follows a n (Some p) b q w h hq = comma_closes (b ++ q) (comma_begins (λ u. chain flags (map_behind_flags a n p)) b q w h)
+map_behind_prot_follows a n (Some p) b q w h hq = comma_close (λ u. chain flags (map_behind_flags a n p)) b q w h
 
 -- the arguments of mmap are read by mmap_at, where nothing follows
 pub mmap_good : Good mmap_arguments Last mmap_at
 unfolding mmap_at
-mmap_good =
-    good_then addr_good
-    (λ a. good_then comma_good
-    (λ u. good_then length_good (λ n. good_then comma_good
-    (λ v. good_then prot_good (map_behind_prot_good a n) (map_behind_prot_follows a n))
-    (spaced prot prot_heads (map_behind_prot a n) Last))
-    (λ n b q w h hq. comma_closes (b ++ q) (comma_begins (λ v. chain prot (map_behind_prot a n)) b q w h)))
-    (spaced (number Number) number_starts (λ n. chain comma (λ v. chain prot (map_behind_prot a n))) Last))
-    (λ a b q w h hq. comma_begins (λ u. chain (number Number) (λ n. chain comma (λ v. chain prot (map_behind_prot a n)))) b q w h)
+mmap_good = addr_then (λ a u. chain (number Number) (λ n. chain comma (λ v. chain prot (map_behind_prot a n)))) (λ a. length_then
+    (λ n. comma_then prot_heads prot_good (map_behind_prot_good a n) (map_behind_prot_follows a n))
+    (λ n. comma_close (λ v. chain prot (map_behind_prot a n))))
 
 -- ---- each call
 
@@ -244,72 +218,47 @@ behind_nothing : (b q : List ℕ) → b ≡ [] → b ++ q ≡ [] → q ≡ []
 behind_nothing [] q e h = h
 behind_nothing (c ∷ b) q e h = absurd cc
 
-protect_behind_prot_ends : (a n : ℕ) (p : Option ℕ) (f q : List ℕ) (v : Body) (b : List ℕ) → prot.takes f (b ++ q) p
-    → (protect_behind_prot a n p).takes b q v → q ≡ []
-protect_behind_prot_ends a n None f q v b h k = behind_nothing b q k.0 (prot_end f (b ++ q) None h refl)
-protect_behind_prot_ends a n (Some p) f q v b h k = closing_ends (Protect a n (record { 0 = p })) b q v k
+-- A value that may be missing, which then takes the text to its end: what stands behind closes a text where it does
+-- behind each value that there is.
+option_closes : {A : Type 0} (first : Part (Option A)) (next : Option A → Part Body) (Fits : Option A → Type 0)
+    → ((p q : List ℕ) (v : Option A) → first.takes p q v → v ≡ None → q ≡ []) → ((p q : List ℕ) (v : Option A) → first.takes p q v → Fits v)
+    → ((b q : List ℕ) (w : Body) → (next None).takes b q w → (b ≡ []) × (w ≡ Other))
+    → ((n : A) → Fits (Some n) → Closes (next (Some n))) → Closes (chain first next)
+option_closes {A} first next Fits ends fits none some =
+    record { ends = λ p q w h. (at h.0 h.1 q w h.2 h.4 h.5).0; values = λ p q w h. (at h.0 h.1 q w h.2 h.4 h.5).1 }
+  where
+    at : (a b q : List ℕ) (w : Body) (v : Option A) → first.takes a (b ++ q) v → (next v).takes b q w → (q ≡ []) × IsSound w
+    at a b q w None t n = let e = none b q w n in (behind_nothing b q e.0 (ends a (b ++ q) None t refl), subst IsSound (sym e.1) tt)
+    at a b q w (Some x) t n = let c = some x (fits a (b ++ q) (Some x) t) in (c.ends b q w n, c.values b q w n)
 
-map_tail_ends : (c : Call) → Ends (map_tail c)
-map_tail_ends c = chain_ends comma (λ u. chain descriptor (λ v. chain comma (λ w. chain (number Number) (λ o. closing c))))
-    (λ u. chain_ends descriptor (λ v. chain comma (λ w. chain (number Number) (λ o. closing c)))
-    (λ v. chain_ends comma (λ w. chain (number Number) (λ o. closing c))
-    (λ w. chain_ends (number Number) (λ o. closing c) (λ o. closing_ends c))))
+map_tail_closes : (c : Call) → IsNamedCall c → Closes (map_tail c)
+map_tail_closes c named =
+    chain_closes comma (λ u. chain_closes descriptor (λ v. chain_closes comma (λ w. chain_closes (number Number) (λ o. closing_closes c named))))
 
-map_behind_flags_ends : (a n p : ℕ) (x : Option ℕ) (f q : List ℕ) (v : Body) (b : List ℕ) → flags.takes f (b ++ q) x
-    → (map_behind_flags a n p x).takes b q v → q ≡ []
-map_behind_flags_ends a n p None f q v b h k = behind_nothing b q k.0 (flags_end f (b ++ q) None h refl)
-map_behind_flags_ends a n p (Some x) f q v b h k = map_tail_ends (Map a n (record { 0 = p }) (record { 0 = x })) b q v k
+remap_lengths_closes : (a o : ℕ) → Closes (remap_lengths a o)
+remap_lengths_closes a o = chain_closes comma (λ u. chain_closes (number Number) (λ n. chain_closes comma
+    (λ v. option_closes moving (remap_behind a o n) (λ m. Unit {0}) moving_end (λ p q v h. tt) (λ b q w h. h)
+    (λ may t. chain_closes optional (λ h. closing_closes (Remap a o n may h) tt)))))
 
-map_behind_prot_ends : (a n : ℕ) (p : Option ℕ) (f q : List ℕ) (v : Body) (b : List ℕ) → prot.takes f (b ++ q) p → (map_behind_prot a n p).takes b q v → q ≡ []
-map_behind_prot_ends a n None f q v b h k = behind_nothing b q k.0 (prot_end f (b ++ q) None h refl)
-map_behind_prot_ends a n (Some p) f q v b h k =
-    chain_ends comma (λ u. chain flags (map_behind_flags a n p))
-    (λ u c q w m. map_behind_flags_ends a n p m.2 m.0 q w m.1 m.4 m.5) b q v k
+arguments_close : (name : Name) → Closes (arguments name)
+arguments_close Mmap = chain_closes addr (λ a. chain_closes comma (λ u. chain_closes (number Number) (λ n. chain_closes comma
+    (λ v. option_closes prot (map_behind_prot a n) (Below 3) prot_end prot_below (λ b q w h. h)
+    (λ p low. chain_closes comma (λ x. option_closes flags (map_behind_flags a n p) (Below 4) flags_end flags_below (λ b q w h. h)
+    (λ f few. map_tail_closes (Map a n (record { 0 = p }) (record { 0 = f })) (low, few))))))))
+arguments_close Munmap = chain_closes addr (λ a. chain_closes comma (λ u. chain_closes (number Number) (λ n. closing_closes (Unmap a n) tt)))
+arguments_close Mprotect = chain_closes addr (λ a. chain_closes comma (λ u. chain_closes (number Number) (λ n. chain_closes comma
+    (λ v. option_closes prot (protect_behind_prot a n) (Below 3) prot_end prot_below (λ b q w h. h)
+    (λ p low. closing_closes (Protect a n (record { 0 = p })) low)))))
+arguments_close FaultName = chain_closes addr (λ a. chain_closes comma (λ u. chain_closes access (λ c. closing_closes (FaultCall a c) tt)))
+arguments_close Mseal = chain_closes addr (λ a. chain_closes comma (λ u. chain_closes (number Number) (λ n. chain_closes comma
+    (λ v. chain_closes (number Number) (λ f. closing_closes (Seal a n f) tt)))))
+arguments_close BrkName = chain_closes addr (λ a. chain_closes optional (λ b. closing_closes (Brk b a) tt))
+arguments_close Mremap = chain_closes addr (λ a. chain_closes comma (λ u. chain_closes (number Number) (λ o. remap_lengths_closes a o)))
 
-remap_behind_ends : (a o n : ℕ) (m : Option Bool) (f q : List ℕ) (v : Body) (b : List ℕ) → moving.takes f (b ++ q) m
-    → (remap_behind a o n m).takes b q v → q ≡ []
-remap_behind_ends a o n None f q v b h k = behind_nothing b q k.0 (moving_end f (b ++ q) None h refl)
-remap_behind_ends a o n (Some may) f q v b h k =
-    chain_ends optional (λ x. closing (Remap a o n may x)) (λ x. closing_ends (Remap a o n may x)) b q v k
-
-remap_lengths_ends : (a o : ℕ) → Ends (remap_lengths a o)
-remap_lengths_ends a o = chain_ends comma (λ u. chain (number Number) (λ n. chain comma (λ v. chain moving (remap_behind a o n))))
-    (λ u. chain_ends (number Number) (λ n. chain comma (λ v. chain moving (remap_behind a o n)))
-    (λ n. chain_ends comma (λ v. chain moving (remap_behind a o n))
-    (λ v c q w m. remap_behind_ends a o n m.2 m.0 q w m.1 m.4 m.5)))
-
-arguments_end : (name : Name) → Ends (arguments name)
-arguments_end Mmap = chain_ends addr (λ a. chain comma (λ u. chain (number Number) (λ n. chain comma (λ v. chain prot (map_behind_prot a n)))))
-    (λ a. chain_ends comma (λ u. chain (number Number) (λ n. chain comma (λ v. chain prot (map_behind_prot a n))))
-    (λ u. chain_ends (number Number) (λ n. chain comma (λ v. chain prot (map_behind_prot a n)))
-    (λ n. chain_ends comma (λ v. chain prot (map_behind_prot a n))
-    (λ v c q w m. map_behind_prot_ends a n m.2 m.0 q w m.1 m.4 m.5))))
-arguments_end Munmap = chain_ends addr (λ a. chain comma (λ u. chain (number Number) (λ n. closing (Unmap a n))))
-    (λ a. chain_ends comma (λ u. chain (number Number) (λ n. closing (Unmap a n)))
-    (λ u. chain_ends (number Number) (λ n. closing (Unmap a n)) (λ n. closing_ends (Unmap a n))))
-arguments_end Mprotect = chain_ends addr (λ a. chain comma (λ u. chain (number Number) (λ n. chain comma (λ v. chain prot (protect_behind_prot a n)))))
-    (λ a. chain_ends comma (λ u. chain (number Number) (λ n. chain comma (λ v. chain prot (protect_behind_prot a n))))
-    (λ u. chain_ends (number Number) (λ n. chain comma (λ v. chain prot (protect_behind_prot a n)))
-    (λ n. chain_ends comma (λ v. chain prot (protect_behind_prot a n))
-    (λ v c q w m. protect_behind_prot_ends a n m.2 m.0 q w m.1 m.4 m.5))))
-arguments_end FaultName = chain_ends addr (λ a. chain comma (λ u. chain access (λ c. closing (FaultCall a c))))
-    (λ a. chain_ends comma (λ u. chain access (λ c. closing (FaultCall a c)))
-    (λ u. chain_ends access (λ c. closing (FaultCall a c)) (λ c. closing_ends (FaultCall a c))))
-arguments_end Mseal = chain_ends addr
-    (λ a. chain comma (λ u. chain (number Number) (λ n. chain comma (λ v. chain (number Number) (λ f. closing (Seal a n f))))))
-    (λ a. chain_ends comma (λ u. chain (number Number) (λ n. chain comma (λ v. chain (number Number) (λ f. closing (Seal a n f)))))
-    (λ u. chain_ends (number Number) (λ n. chain comma (λ v. chain (number Number) (λ f. closing (Seal a n f))))
-    (λ n. chain_ends comma (λ v. chain (number Number) (λ f. closing (Seal a n f)))
-    (λ v. chain_ends (number Number) (λ f. closing (Seal a n f)) (λ f. closing_ends (Seal a n f))))))
-arguments_end BrkName = chain_ends addr (λ a. chain optional (λ b. closing (Brk b a)))
-    (λ a. chain_ends optional (λ b. closing (Brk b a)) (λ b. closing_ends (Brk b a)))
-arguments_end Mremap = chain_ends addr (λ a. chain comma (λ u. chain (number Number) (remap_lengths a)))
-    (λ a. chain_ends comma (λ u. chain (number Number) (remap_lengths a))
-    (λ u. chain_ends (number Number) (remap_lengths a) (λ o. remap_lengths_ends a o)))
-
-call_ends : (name : Name) → Ends (call name)
+-- a call's line is taken to its end, and only as a call with named bits alone or as one that is passed over
+pub call_closes : (name : Name) → Closes (call name)
 unfolding call
-call_ends name = chain_ends (begun (call_head name)) (λ u. arguments name) (λ u. arguments_end name)
+call_closes name = chain_closes (begun (call_head name)) (λ u. arguments_close name)
 
 -- ---- a whole line, over any part that takes it to its end
 
@@ -369,7 +318,7 @@ refused_of {A} part text f column place s =
 -- where arguments are read as a body, the call's name with them behind it is that body alone
 pub call_whole : (name : Name) (rest after : List ℕ) (item : Body) → arguments_at name rest ≡ Ok (item, after)
     → IsWhole (call name) (call_head name ++ rest) item
-call_whole name rest after item e = whole_of (call name) (call_head name ++ rest) after item (call_ends name)
+call_whole name rest after item e = whole_of (call name) (call_head name ++ rest) after item (call_closes name).ends
     (subst (Reads (call name) Last (call_head name ++ rest)) e (call_reads name rest))
 
 -- where arguments are refused, the call's name with them behind it is refused at that place alone
@@ -377,72 +326,3 @@ pub call_refused : (name : Name) (rest : List ℕ) (f : Refusal) (column : ℕ) 
     → column + f.left ≡ length (call_head name ++ rest) + 1 → IsRefused (call name) (call_head name ++ rest) column f.what
 call_refused name rest f column e place = refused_of (call name) (call_head name ++ rest) f column place
     (subst (Reads (call name) Last (call_head name ++ rest)) e (call_reads name rest))
-
--- ---- the value of a call's line
-
-protect_behind_prot_values : (a n : ℕ) (p : Option ℕ) → Below 3 p → Values IsSound (protect_behind_prot a n p)
-protect_behind_prot_values a n None b f q v h = subst IsSound (sym h.1) tt
-protect_behind_prot_values a n (Some p) b f q v h = closing_values (Protect a n (record { 0 = p })) b f q v h
-
-map_tail_values : (c : Call) → IsNamedCall c → Values IsSound (map_tail c)
-map_tail_values c named = chain_values IsSound comma (λ u. chain descriptor (λ v. chain comma (λ w. chain (number Number) (λ o. closing c))))
-    (λ u. chain_values IsSound descriptor (λ v. chain comma (λ w. chain (number Number) (λ o. closing c)))
-    (λ v. chain_values IsSound comma (λ w. chain (number Number) (λ o. closing c))
-    (λ w. chain_values IsSound (number Number) (λ o. closing c) (λ o. closing_values c named))))
-
-map_behind_flags_values : (a n p : ℕ) (x : Option ℕ) → p < 2 ^ 3 → Below 4 x → Values IsSound (map_behind_flags a n p x)
-map_behind_flags_values a n p None b c f q v h = subst IsSound (sym h.1) tt
-map_behind_flags_values a n p (Some x) b c f q v h = map_tail_values (Map a n (record { 0 = p }) (record { 0 = x })) (b, c) f q v h
-
-map_behind_prot_values : (a n : ℕ) (p : Option ℕ) → Below 3 p → Values IsSound (map_behind_prot a n p)
-map_behind_prot_values a n None b f q v h = subst IsSound (sym h.1) tt
-map_behind_prot_values a n (Some p) b f q v h =
-    chain_values IsSound comma (λ u. chain flags (map_behind_flags a n p))
-    (λ u g t w m. map_behind_flags_values a n p m.2 b (flags_below m.0 (m.1 ++ t) m.2 m.4) m.1 t w m.5) f q v h
-
-remap_behind_values : (a o n : ℕ) (m : Option Bool) → Values IsSound (remap_behind a o n m)
-remap_behind_values a o n None f q v h = subst IsSound (sym h.1) tt
-remap_behind_values a o n (Some may) f q v h =
-    chain_values IsSound optional (λ x. closing (Remap a o n may x)) (λ x. closing_values (Remap a o n may x) tt) f q v h
-
-remap_lengths_values : (a o : ℕ) → Values IsSound (remap_lengths a o)
-remap_lengths_values a o =
-    chain_values IsSound comma (λ u. chain (number Number) (λ n. chain comma (λ v. chain moving (remap_behind a o n))))
-    (λ u. chain_values IsSound (number Number) (λ n. chain comma (λ v. chain moving (remap_behind a o n)))
-    (λ n. chain_values IsSound comma (λ v. chain moving (remap_behind a o n))
-    (λ v. chain_values IsSound moving (remap_behind a o n) (λ m. remap_behind_values a o n m))))
-
-arguments_values : (name : Name) → Values IsSound (arguments name)
-arguments_values Mmap = chain_values IsSound addr (λ a. chain comma (λ u. chain (number Number) (λ n. chain comma (λ v. chain prot (map_behind_prot a n)))))
-    (λ a. chain_values IsSound comma (λ u. chain (number Number) (λ n. chain comma (λ v. chain prot (map_behind_prot a n))))
-    (λ u. chain_values IsSound (number Number) (λ n. chain comma (λ v. chain prot (map_behind_prot a n)))
-    (λ n. chain_values IsSound comma (λ v. chain prot (map_behind_prot a n))
-    (λ v g t w m. map_behind_prot_values a n m.2 (prot_below m.0 (m.1 ++ t) m.2 m.4) m.1 t w m.5))))
-arguments_values Munmap = chain_values IsSound addr (λ a. chain comma (λ u. chain (number Number) (λ n. closing (Unmap a n))))
-    (λ a. chain_values IsSound comma (λ u. chain (number Number) (λ n. closing (Unmap a n)))
-    (λ u. chain_values IsSound (number Number) (λ n. closing (Unmap a n)) (λ n. closing_values (Unmap a n) tt)))
-arguments_values Mprotect = chain_values IsSound addr
-    (λ a. chain comma (λ u. chain (number Number) (λ n. chain comma (λ v. chain prot (protect_behind_prot a n)))))
-    (λ a. chain_values IsSound comma (λ u. chain (number Number) (λ n. chain comma (λ v. chain prot (protect_behind_prot a n))))
-    (λ u. chain_values IsSound (number Number) (λ n. chain comma (λ v. chain prot (protect_behind_prot a n)))
-    (λ n. chain_values IsSound comma (λ v. chain prot (protect_behind_prot a n))
-    (λ v g t w m. protect_behind_prot_values a n m.2 (prot_below m.0 (m.1 ++ t) m.2 m.4) m.1 t w m.5))))
-arguments_values FaultName = chain_values IsSound addr (λ a. chain comma (λ u. chain access (λ c. closing (FaultCall a c))))
-    (λ a. chain_values IsSound comma (λ u. chain access (λ c. closing (FaultCall a c)))
-    (λ u. chain_values IsSound access (λ c. closing (FaultCall a c)) (λ c. closing_values (FaultCall a c) tt)))
-arguments_values Mseal = chain_values IsSound addr
-    (λ a. chain comma (λ u. chain (number Number) (λ n. chain comma (λ v. chain (number Number) (λ f. closing (Seal a n f))))))
-    (λ a. chain_values IsSound comma (λ u. chain (number Number) (λ n. chain comma (λ v. chain (number Number) (λ f. closing (Seal a n f)))))
-    (λ u. chain_values IsSound (number Number) (λ n. chain comma (λ v. chain (number Number) (λ f. closing (Seal a n f))))
-    (λ n. chain_values IsSound comma (λ v. chain (number Number) (λ f. closing (Seal a n f)))
-    (λ v. chain_values IsSound (number Number) (λ f. closing (Seal a n f)) (λ f. closing_values (Seal a n f) tt)))))
-arguments_values BrkName = chain_values IsSound addr (λ a. chain optional (λ b. closing (Brk b a)))
-    (λ a. chain_values IsSound optional (λ b. closing (Brk b a)) (λ b. closing_values (Brk b a) tt))
-arguments_values Mremap = chain_values IsSound addr (λ a. chain comma (λ u. chain (number Number) (remap_lengths a)))
-    (λ a. chain_values IsSound comma (λ u. chain (number Number) (remap_lengths a))
-    (λ u. chain_values IsSound (number Number) (remap_lengths a) (λ o. remap_lengths_values a o)))
-
--- what a call is read as is a call with named bits alone, or is passed over
-pub call_values : (name : Name) → Values IsSound (call name)
-unfolding call
-call_values name = chain_values IsSound (begun (call_head name)) (λ u. arguments name) (λ u. arguments_values name)

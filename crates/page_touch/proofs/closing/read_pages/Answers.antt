@@ -18,13 +18,12 @@ words-preserved c =
         short = search rules;
         space = search rules;
         pages = ap (λ v. v.items) w.out-is ∙ (w.push_reserved.ensures.items
-            ∙ more_pages (slots_items c.args.closed.now.words) c.words.i c.word-word.result c.words.out.items lt is (search rules) i.pages);
+            ∙ more_pages (slots_items c.args.closed.now.words) c.words.i lt is (search rules) i.pages);
       }
       | else-word-ne0 w ↦ record {
         within = search rules;
         short = search rules;
         space = search rules;
-        pages = ap (λ v. v.items) w.out-is ∙ same_pages
-            (slots_items c.args.closed.now.words) c.words.i c.word-word.result c.words.out.items lt is (search rules) i.pages;
+        pages = ap (λ v. v.items) w.out-is ∙ same_pages (slots_items c.args.closed.now.words) c.words.i lt is (search rules) i.pages;
       }
     ]

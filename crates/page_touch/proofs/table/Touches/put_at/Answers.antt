@@ -1,4 +1,5 @@
-use Rattle.std.proofs.Common.{◌∙◌, ap, sym, subst}
+use Rattle.std.proofs.Common.{ℕ, ◌∙◌, ap, sym, subst}
+use Rattle.page_touch.specs.declared.records.SeatRecord.{SeatRecord}
 use Rattle.page_touch.specs.Probes.{MayProbe}
 use Rattle.page_touch.proofs.Probing.{put_allows, word_there}
 use Rattle.page_touch.proofs.table.Touches.put_at.Goals as goal
@@ -10,9 +11,7 @@ compare_exchange-requires g c =
     let room = c.self.invariant.0 ∙ ap (λ s. s.room) shape in
     let own = ap (λ s. s.own) c.token.view_is in (
       ap (λ s. s.table) c.token.view_is ∙ (c.requires.table ∙ sym (ap (λ s. s.table) shape)),
-      word_there _ _ c.args.place (c.self.invariant.1 ∙ ap (λ s. s.room) shape) c.requires.may.within,
-      put_allows _ _ _ _ c.args.place c.args.page c.token.inside.seat.me _ _ _ (c.requires.picked.0
-          ∙ sym room) c.requires.picked.1 c.requires.picked.2
-          (subst (λ n. MayProbe n c.args.page c.args.place c.token.inside.seat.me.0) (sym room)
-          (subst (MayProbe c.args.self.now.room c.args.page c.args.place) (sym own) c.requires.may)),
+      word_there c.args.place (c.self.invariant.1 ∙ ap (λ s. s.room) shape) c.requires.may.within,
+      put_allows _ _ _ c.token.inside.seat.me (c.requires.picked.0 ∙ sym room) c.requires.picked.1 c.requires.picked.2
+          (subst (λ (z : ℕ × SeatRecord). MayProbe z.0 c.args.page c.args.place z.1) (λ i. (sym room i, sym own i)) c.requires.may),
     )
