@@ -1,13 +1,13 @@
 -- Lines without a newline stay so through each stage of the reading.
-use Rattle.std.proofs.Common.{◌≡◌, ℕ, ◌+◌, ◌*◌, ◌^◌, ◌<◌, List, [], ◌∷◌, ◌++◌, length, codes}
+use Rattle.std.proofs.Common.{◌≡◌, ℕ, ◌+◌, ◌^◌, ◌<◌, List, [], ◌∷◌, ◌++◌, length, codes}
 use Rattle.std.proofs.Common.{Bool, true, false, Option, Some, None, refl, sym, ap, subst, ◌∙◌, inl, inr, arith}
 use Rattle.std.specs.Prelude.{◌==◌, decimal, if◌then◌else◌}
 use Rattle.std.proofs.lemmas.Fmt.{decimal_is_IsNumeral}
 use Rattle.std.proofs.lemmas.Bool.Decides.{nat_tests}
 use Rattle.std.specs.Char.{digit_value}
-use Rattle.std.specs.Str.Parse.{AllDigits as StdDigits, digits_value_after}
+use Rattle.std.specs.Str.Parse.{AllDigits as StdDigits}
 use Rattle.line_parts.specs.Lines.{lines_of, put_first}
-use Rattle.line_parts.specs.Leaves.{EachIs, AllDigits, Digits, worth, value}
+use Rattle.line_parts.specs.Leaves.{EachIs}
 use Rattle.line_parts.proofs.Leaves.{bool_cases}
 use Rattle.strace_reader.specs.Grammar.{IsCut}
 use Rattle.raw_lines.specs.Plain.{IsPlain}
@@ -18,11 +18,11 @@ use Rattle.raw_logs.specs.declared.counts.Sort.TheVariants.{Elsewhere, Earlier}
 use Rattle.raw_logs.specs.declared.numbering.Numbering.{Numbering}
 use Rattle.raw_logs.specs.declared.numbering.Numbering.TheVariants.{AsPrinted, Plain}
 use Rattle.raw_logs.specs.declared.told.Form.{Form}
-use Rattle.raw_logs.specs.declared.told.Form.TheVariants.{Blank, Unknown, Long, TooLong, Whole}
+use Rattle.raw_logs.specs.declared.told.Form.TheVariants.{Whole}
 use Rattle.raw_logs.specs.declared.told.Told.{Told}
 use Rattle.raw_logs.specs.Choosing.{Picked, is_blank, with_own, with_line, picked}
 use Rattle.raw_logs.specs.Counting.{one_more_of}
-use Rattle.raw_logs.specs.Log.{Numbered, texts_of, goes_on, LineKind, Message, OfStack, CutShort, LeftIn, IsKind, Each, Healed, nothing_healed, is_gap, with_kind, healed_from}
+use Rattle.raw_logs.specs.Log.{Numbered, texts_of, goes_on, LineKind, CutShort, LeftIn, IsKind, Each, Healed, nothing_healed, is_gap, with_kind, healed_from}
 use Rattle.raw_logs.specs.Log.{healed, changed, IsStripped}
 use Rattle.raw_logs.specs.Numbering.{StartsAt, IsRoot, ChangesNumber, IsNumbering, LosesBrackets, with_number}
 use Rattle.raw_logs.specs.Numbering.{IsRenumbered}
@@ -90,8 +90,6 @@ are_clean_more (t ∷ texts) text h g = (h.0, are_clean_more texts text h.1 g)
 
 kind_clean : (number : ℕ) (line : List ℕ) (kind : LineKind) (h : Healed) → IsClean line → IsKind line kind → IsCleanState h
     → IsCleanState (with_kind number line kind h)
-kind_clean number line Message h c k s = record { texts = s.texts; part = s.part }
-kind_clean number line OfStack h c k s = record { texts = s.texts; part = s.part }
 kind_clean number line (CutShort front) h c k s =
     let b = k.broken in
     let f = each_parts (isnt 10) front (codes "strace: Process " ++ (b.0 ++ b.1)) (subst IsClean b.5 c) in
@@ -101,22 +99,21 @@ kind_clean number line LeftIn h c k s = by (is_gap h.part line)
     by : (gap : Bool) → IsCleanState (if gap then h else record h { texts = h.texts ++ (goes_on h.part number line ∷ []); part = None })
     by true = s
     by false = record { texts = are_clean_more h.texts (goes_on h.part number line) s.texts (on_clean h.part number line s.part c); part = tt }
+kind_clean number line kind h c k s = record { texts = s.texts; part = s.part }
 
 -- texts of lines have none
 pub healed_clean : (number : ℕ) (h : Healed) (lines : List (List ℕ)) (kinds : List LineKind) → EachLine IsClean lines → Each IsKind lines kinds
     → IsCleanState h → AreClean (healed_from number h lines kinds).texts
-healed_clean number h [] kinds c k s = s.texts
-healed_clean number h (line ∷ lines) [] c k s = s.texts
 healed_clean number h (line ∷ lines) (kind ∷ kinds) c k s =
     healed_clean (number + 1) (with_kind number line kind h) lines kinds c.1 k.1 (kind_clean number line kind h c.0 k.0 s)
+healed_clean number h lines kinds c k s = s.texts
 
 -- texts that change have none, where what each changes to has none
 pub changed_clean : (R : Changing) → ((line : Numbered) (text : List ℕ) → IsClean line.text → R line (Some text) → IsClean text)
     → (lines : List Numbered) (changes : List (Option (List ℕ))) → AreClean lines → Each R lines changes → AreClean (changed lines changes)
-changed_clean R one [] changes h g = tt
-changed_clean R one (line ∷ lines) [] h g = tt
 changed_clean R one (line ∷ lines) (None ∷ changes) h g = (h.0, changed_clean R one lines changes h.1 g.1)
 changed_clean R one (line ∷ lines) (Some text ∷ changes) h g = (one line text h.0 g.0, changed_clean R one lines changes h.1 g.1)
+changed_clean R one lines changes h g = tt
 
 -- what is taken away leaves none
 pub plain_clean : (text plain : List ℕ) → IsClean text → IsPlain text plain → IsClean plain
@@ -127,24 +124,6 @@ plain_clean text plain h (inr g) =
     let b = each_parts (isnt 10) p.between (p.left ++ p.behind) a.1 in
     let c = each_parts (isnt 10) p.left p.behind b.1 in
     subst IsClean (sym p.same) (each_whole (isnt 10) p.front p.left a.0 c.0)
-
--- the two readings of a digit agree
-worth_is : (c : ℕ) → digit_value c < 16 → worth c ≡ digit_value c
-unfolding worth
-worth_is c small = grind (arith, nat_tests)
-
-digits_are : (ds : List ℕ) → StdDigits 10 ds → AllDigits 10 ds
-digits_are [] h = tt
-digits_are (c ∷ ds) h = let w = worth_is c (omega (arith, h.0)) in (omega (arith, h.0), digits_are ds h.1)
-
-value_is : (n : ℕ) (ds : List ℕ) → StdDigits 10 ds → value 10 n ds ≡ digits_value_after 10 n ds
-value_is n [] h = refl
-value_is n (c ∷ ds) h = let w = worth_is c (omega (arith, h.0)) in ap (λ d. value 10 (n * 10 + d) ds) w ∙ value_is (n * 10 + digit_value c) ds h.1
-
--- the digits that are written of a number
-pub decimal_digits : (n : ℕ) → n < 2 ^ 64 → Digits 10 (decimal n) n
-decimal_digits n small =
-    let h = decimal_is_IsNumeral n small in (h.0.0, digits_are (decimal n) h.0.1, sym (value_is 0 (decimal n) h.0.1 ∙ h.1))
 
 -- a digit of std's is no newline
 digit_clean : (c : ℕ) → digit_value c < 10 → isnt 10 c ≡ true
@@ -179,9 +158,9 @@ loses_clean text line h g =
 -- a changed number brings none in
 changes_clean : (numbering : Numbering) (text line : List ℕ) → IsSmall numbering → IsClean text → ChangesNumber numbering text line → IsClean line
 changes_clean AsPrinted text line small h g = absurd g
-changes_clean (Plain None) text line small h g = loses_clean text line h g
-changes_clean (Plain (Some pid)) text line small h (inl g) = loses_clean text line h g
 changes_clean (Plain (Some pid)) text line small h (inr g) = subst IsClean (sym g.3) (number_clean pid text small h)
+changes_clean (Plain (Some pid)) text line small h (inl g) = loses_clean text line h g
+changes_clean (Plain None) text line small h g = loses_clean text line h g
 
 cut_small : (text : List ℕ) (pid : ℕ) (body : List ℕ) → IsCut text pid body → pid < 2 ^ 32
 cut_small text pid body (inl (rest, inl p, b)) = p.1.1
@@ -198,9 +177,8 @@ root_small lines texts pid (inr h) = h.1.is.4.1.1
 
 -- the number of lines without one is one of 32 bits
 pub numbering_small : (lines texts : List (List ℕ)) (numbering : Numbering) → IsNumbering lines texts numbering → IsSmall numbering
-numbering_small lines texts AsPrinted h = tt
-numbering_small lines texts (Plain None) h = tt
 numbering_small lines texts (Plain (Some pid)) h = root_small lines texts pid h.1
+numbering_small lines texts numbering h = tt
 
 -- ---- the texts that are written
 
@@ -209,26 +187,20 @@ with_line_clean : (here : Bool) (line : Numbered) (told : Told) (p : Picked) →
 with_line_clean here line told p l h = by (is_blank told.form) here p.ended told.form
   where
     own : (form : Form) → AreClean (with_own form line told.making p).lines
-    own Blank = h
-    own Unknown = h
-    own Long = h
-    own TooLong = h
     own Whole = (l, h)
+    own form = h
 
     by : (blank here ended : Bool) (form : Form) → AreClean (if blank then p
         else if here then (if ended then record p { counts = one_more_of Earlier p.counts } else with_own form line told.making p)
         else record p { counts = one_more_of Elsewhere p.counts }).lines
-    by true here ended form = h
-    by false true true form = h
     by false true false form = own form
-    by false false ended form = h
+    by blank here ended form = h
 
 picked_clean : (here : ℕ → Told → Bool) (place : ℕ) (lines : List Numbered) (tolds : List Told) → AreClean lines
     → AreClean (picked here place lines tolds).lines
-picked_clean here place [] tolds h = tt
-picked_clean here place (line ∷ lines) [] h = tt
 picked_clean here place (line ∷ lines) (told ∷ tolds) h =
     with_line_clean (here place told) line told (picked here (place + 1) lines tolds) h.0 (picked_clean here (place + 1) lines tolds h.1)
+picked_clean here place lines tolds h = tt
 
 -- the texts alone
 pub each_clean : (lines : List Numbered) → AreClean lines → EachLine IsClean (texts_of lines)

@@ -1,7 +1,6 @@
 -- Numbers in a set, one more at a time.
-use Rattle.std.proofs.Common.{◌≡◌, ◌⊎◌, ℕ, zero, suc, Bool, true, false, not, cond, eqb, [], ◌∷◌, refl, sym, ap, subst, ◌∙◌, inl, inr, arith}
+use Rattle.std.proofs.Common.{◌≡◌, ◌⊎◌, ℕ, zero, suc, Bool, true, false, cond, eqb, [], ◌∷◌, refl, sym, ap, subst, ◌∙◌, inl, inr, arith}
 use Rattle.std.specs.Prelude.{◌↔◌, Contains, nat_lt}
-use Rattle.std.specs.Bool.{Decides}
 use Rattle.std.specs.BTreeMap.{is_at}
 use Rattle.std.specs.BTreeSet.{BTreeSet, contains, Updates}
 use Rattle.std.specs.Ordering.{nat_cmp, is_eq}
@@ -14,9 +13,8 @@ use Rattle.raw_logs.specs.Stages.{Has}
 
 key_test : (l e : Bool) → (l ≡ true → e ≡ false) → is_eq (cond l Less (cond e Equal Greater)) ≡ e
 key_test true true h = let f = h refl in absurd cc
-key_test true false h = refl
 key_test false true h = refl
-key_test false false h = refl
+key_test l e h = refl
 
 below_not_same : (p q : ℕ) → nat_lt p q ≡ true → eqb p q ≡ false
 below_not_same p q h = grind (arith, nat_tests)
@@ -24,10 +22,6 @@ below_not_same p q h = grind (arith, nat_tests)
 -- a key of numbers is found where it is the same
 pub key_is : (p q : ℕ) → is_at (nat_cmp p) q ≡ eqb p q
 key_is p q = key_test (nat_lt p q) (eqb p q) (below_not_same p q)
-
-is_false : (b : Bool) → (b ≡ true → ⊥) → b ≡ false
-is_false true h = absurd (h refl)
-is_false false h = refl
 
 -- a test isn't true and false at once
 pub not_both : (b : Bool) → b ≡ true → b ≡ false → ⊥
@@ -46,11 +40,6 @@ has_by old new pid q false d e = ((λ h. inl (sym e ∙ h)), back)
 pub has_more : (old new : BTreeSet ℕ) (pid : ℕ) → Updates nat_cmp old new pid true → (q : ℕ) → Has new q ↔ (Has old q ⊎ (q ≡ pid))
 has_more old new pid u q =
     has_by old new pid q (eqb pid q) refl (u.0 q ∙ ap (λ (x : Bool). cond x true (contains nat_cmp old q)) (key_is pid q))
-
--- whether a number is new
-pub decides_new : (has new : Bool) → new ≡ not has → Decides new (has ≡ true → ⊥)
-decides_new true new e = ((λ f. absurd (not_both new f e)), (λ f. absurd (f refl)))
-decides_new false new e = ((λ f g. not_both false g refl), (λ f. e))
 
 -- the only item of a list
 pub only_item : {A : Type 0} (x y : A) → Contains (x ∷ []) y → x ≡ y

@@ -1,5 +1,5 @@
 -- Numbers that lines give as results of calls that make a process or a thread, line by line. A line gives one at most.
-use Rattle.std.proofs.Common.{◌≡◌, ◌≢◌, ◌⊎◌, ℕ, ◌+◌, ◌<◌, ◌≤◌, List, [], ◌∷◌, ◌++◌, length, take, get_or, Option, Some, None, refl, sym, ap, subst, ◌∙◌, inl}
+use Rattle.std.proofs.Common.{◌≡◌, ◌⊎◌, ℕ, ◌+◌, ◌<◌, ◌≤◌, List, [], ◌∷◌, ◌++◌, length, take, get_or, Option, Some, None, refl, sym, ap, subst, ◌∙◌, inl}
 use Rattle.std.proofs.Common.{inr, arith}
 use Rattle.std.specs.Prelude.{◌↔◌, Contains, IfSome, IsNone}
 use Rattle.std.proofs.lemmas.List.Elements.{Contains-append_cases, Contains-append_left, Contains-append_right}
@@ -7,36 +7,19 @@ use Rattle.strace_reader.specs.Grammar.{IsCut}
 use Rattle.strace_reader.proofs.FormFacts.{cut_same}
 use Rattle.raw_lines.specs.declared.makers.MadeAs.{MadeAs}
 use Rattle.raw_lines.specs.declared.makers.Making.{Making}
-use Rattle.raw_lines.specs.declared.makers.Making.TheVariants.{Makes, Begins, Ends, Execs, Nothing}
+use Rattle.raw_lines.specs.declared.makers.Making.TheVariants.{Makes, Ends}
 use Rattle.raw_lines.specs.Makers.{IsMaking}
 use Rattle.raw_lines.proofs.MakerFacts.{making_one}
 use Rattle.raw_logs.specs.Log.{Numbered, texts_of}
 use Rattle.raw_logs.specs.Numbering.{Gives, IsAttached, IsLater}
+use Rattle.raw_logs.specs.Stages.{told_number}
 use Rattle.raw_logs.proofs.Following.{only_item}
 use Rattle.raw_logs.proofs.TextLists.{texts_more, texts_all}
 
--- the number that is told
-abbrev pub told_number : Making → Option ℕ
-told_number (Makes kind child) = child
-told_number (Begins kind) = None
-told_number (Ends child) = child
-told_number Execs = None
-told_number Nothing = None
-
--- what is neither a whole call nor a second half tells none
-pub other_number : (m : Making) → ((kind : MadeAs) (child : Option ℕ) → m ≢ Makes kind child) → ((child : Option ℕ) → m ≢ Ends child) → None ≡ told_number m
-other_number (Makes kind child) h g = absurd (h kind child refl)
-other_number (Begins kind) h g = refl
-other_number (Ends child) h g = absurd (g child refl)
-other_number Execs h g = refl
-other_number Nothing h g = refl
-
 gives_by : (text : List ℕ) (p : ℕ) (body : List ℕ) (m : Making) (n : ℕ) → IsCut text p body → IsMaking body m → told_number m ≡ Some n → Gives text n
 gives_by text p body (Makes kind child) n cut h e = (p, body, cut, inl (kind, subst (λ (x : Option ℕ). IsMaking body (Makes kind x)) e h))
-gives_by text p body (Begins kind) n cut h e = absurd cc
 gives_by text p body (Ends child) n cut h e = (p, body, cut, inr (subst (λ (x : Option ℕ). IsMaking body (Ends x)) e h))
-gives_by text p body Execs n cut h e = absurd cc
-gives_by text p body Nothing n cut h e = absurd cc
+gives_by text p body making n cut h e = absurd cc
 
 gives_to : (text : List ℕ) (p : ℕ) (body : List ℕ) (m : Making) (n : ℕ) → IsCut text p body → IsMaking body m → Gives text n → told_number m ≡ Some n
 gives_to text p body m n cut h g = by g.3

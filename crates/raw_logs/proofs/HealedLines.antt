@@ -11,11 +11,12 @@ use Rattle.memchr.specs.Find.{is_byte, Passes, NoneAfter}
 use Rattle.line_parts.specs.Lines.{lines_of}
 use Rattle.raw_lines.specs.Marks.{IsMessage, IsStackLine, IsUnread, IsBroken}
 use Rattle.raw_logs.specs.declared.counts.Counts.{Counts}
-use Rattle.raw_logs.specs.declared.counts.Sort.TheVariants.{Messages, Stack, Stripped, Numbered as OfNumbered}
+use Rattle.raw_logs.specs.declared.counts.Sort.{Sort}
+use Rattle.raw_logs.specs.declared.counts.Sort.TheVariants.{Messages, Stripped, Numbered as OfNumbered}
 use Rattle.raw_logs.specs.declared.healing.Changed.{Changed}
 use Rattle.raw_logs.specs.declared.healing.Healer.{Healer}
 use Rattle.raw_logs.specs.Counting.{no_counts, one_more_of}
-use Rattle.raw_logs.specs.Log.{Numbered, IsLog, goes_on, LineKind, Message, OfStack, CutShort, LeftIn, IsKind, Each, Healed, nothing_healed, is_gap, with_kind, healed_from, IsStripped}
+use Rattle.raw_logs.specs.Log.{Numbered, IsLog, goes_on, LineKind, CutShort, LeftIn, IsKind, Each, Healed, nothing_healed, is_gap, with_kind, healed_from, IsStripped}
 use Rattle.raw_logs.specs.Numbering.{IsRenumbered}
 use Rattle.raw_logs.specs.Stages.{part_line, part_of, AreWritten, Takes}
 use Rattle.raw_logs.proofs.MadeLines.{each_more, made_none}
@@ -62,10 +63,9 @@ healed_more : (number at : ℕ) (h : Healed) (lines : List (List ℕ)) (kinds : 
     → at ≡ number + length lines
     → healed_from number h (lines ++ (line ∷ [])) (kinds ++ (kind ∷ [])) ≡ with_kind at line kind (healed_from number h lines kinds)
 healed_more number at h [] [] line kind e n = let same : number ≡ at = omega arith in ap (λ (x : ℕ). with_kind x line kind h) same
-healed_more number at h [] (k ∷ kinds) line kind e n = absurd e
-healed_more number at h (l ∷ lines) [] line kind e n = absurd e
 healed_more number at h (l ∷ lines) (k ∷ kinds) line kind e n =
     healed_more (number + 1) at (with_kind number l k h) lines kinds line kind e.1 (omega arith)
+healed_more number at h lines kinds line kind e n = absurd e
 
 -- what was read, in its parts
 abbrev state : List Numbered → Option Numbered → Counts → Healed
@@ -107,22 +107,14 @@ takes_none healer p l k m e =
       };
     }
 
--- a message was read
-pub takes_message : (healer next : Healer) (before : List (List ℕ)) (number : ℕ) (text : List ℕ) → Takes healer before → length before + 1 ≡ number
-    → IsMessage text → next.part ≡ healer.part → next.written ≡ healer.written → next.counts ≡ one_more_of Messages healer.counts
-    → Takes next (before ++ (text ∷ []))
-takes_message healer next before number text t n m p l e =
-    takes_by healer next before number text Message t.texts t n m
-    (same_state t.texts (part_of healer) (part_of next) (one_more_of Messages healer.counts) next.counts (ap (option_map part_line) p) e)
-    (same_written t.texts healer.written next.written l t.written)
-
--- a line of a stack was read
-pub takes_stack : (healer next : Healer) (before : List (List ℕ)) (number : ℕ) (text : List ℕ) → Takes healer before → length before + 1 ≡ number
-    → (¬ IsMessage text) → IsStackLine text → next.part ≡ healer.part → next.written ≡ healer.written → next.counts ≡ one_more_of Stack healer.counts
-    → Takes next (before ++ (text ∷ []))
-takes_stack healer next before number text t n never m p l e =
-    takes_by healer next before number text OfStack t.texts t n (never, m)
-    (same_state t.texts (part_of healer) (part_of next) (one_more_of Stack healer.counts) next.counts (ap (option_map part_line) p) e)
+-- a line was read that is left out and counted
+pub takes_counted : (healer next : Healer) (before : List (List ℕ)) (number : ℕ) (text : List ℕ) (kind : LineKind) (sort : Sort) → Takes healer before
+    → length before + 1 ≡ number → IsKind text kind → ((h : Healed) → with_kind number text kind h ≡ record h { counts = one_more_of sort h.counts })
+    → next.part ≡ healer.part → next.written ≡ healer.written → next.counts ≡ one_more_of sort healer.counts → Takes next (before ++ (text ∷ []))
+takes_counted healer next before number text kind sort t n k is p l e =
+    takes_by healer next before number text kind t.texts t n k
+    (is (state t.texts (part_of healer) healer.counts)
+    ∙ same_state t.texts (part_of healer) (part_of next) (one_more_of sort healer.counts) next.counts (ap (option_map part_line) p) e)
     (same_written t.texts healer.written next.written l t.written)
 
 -- a line was read that a message broke

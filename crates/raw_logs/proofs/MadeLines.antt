@@ -24,22 +24,17 @@ use Rattle.raw_logs.proofs.PlainTexts.{plain_long}
 pub each_more : {A B : Type 0} (R : A → B → Type 0) (xs : List A) (ys : List B) (x : A) (y : B) → Each R xs ys → R x y
     → Each R (xs ++ (x ∷ [])) (ys ++ (y ∷ []))
 each_more R [] [] x y h r = (r, tt)
-each_more R [] (z ∷ ys) x y h r = absurd h
-each_more R (w ∷ xs) [] x y h r = absurd h
 each_more R (w ∷ xs) (z ∷ ys) x y h r = (h.0, each_more R xs ys x y h.1 r)
+each_more R xs ys x y h r = absurd h
 
 -- where each has the relation to one thing, the list beside it is one
 pub each_one : {A B : Type 0} (R : A → B → Type 0) → ((x : A) (y z : B) → R x y → R x z → y ≡ z) → (xs : List A) (ys zs : List B)
     → Each R xs ys → Each R xs zs → ys ≡ zs
 each_one R one [] [] [] h g = refl
-each_one R one [] [] (z ∷ zs) h g = absurd g
-each_one R one [] (y ∷ ys) zs h g = absurd h
-each_one R one (x ∷ xs) [] zs h g = absurd h
-each_one R one (x ∷ xs) (y ∷ ys) [] h g = absurd g
-each_one R one (x ∷ xs) (y ∷ ys) (z ∷ zs) h g =
-    let e = one x y z h.0 g.0 in
-    let r = each_one R one xs ys zs h.1 g.1 in
-    λ i. e i ∷ r i
+each_one R one (x ∷ xs) (y ∷ ys) (z ∷ zs) h g = λ i. one x y z h.0 g.0 i ∷ each_one R one xs ys zs h.1 g.1 i
+each_one R one [] [] zs h g = absurd g
+each_one R one (x ∷ xs) (y ∷ ys) zs h g = absurd g
+each_one R one xs ys zs h g = absurd h
 
 -- ---- texts that change or stay
 
@@ -50,9 +45,8 @@ Changing = Numbered → Option (List ℕ) → Type 0
 changed_more : (R : Changing) (lines : List Numbered) (changes : List (Option (List ℕ))) (line : Numbered) (change : Option (List ℕ)) → Each R lines changes
     → changed (lines ++ (line ∷ [])) (changes ++ (change ∷ [])) ≡ changed lines changes ++ (with_change line change ∷ [])
 changed_more R [] [] line change h = refl
-changed_more R [] (c ∷ changes) line change h = absurd h
-changed_more R (l ∷ lines) [] line change h = absurd h
 changed_more R (l ∷ lines) (c ∷ changes) line change h = ap (λ (x : List Numbered). with_change l c ∷ x) (changed_more R lines changes line change h.1)
+changed_more R lines changes line change h = absurd h
 
 counted_more : (sort : Sort) (counts : Counts) (changes : List (Option (List ℕ))) (change : Option (List ℕ))
     → counted_from sort counts (changes ++ (change ∷ [])) ≡ with_counted sort change (counted_from sort counts changes)
@@ -117,10 +111,9 @@ written_added number text front end old middle next texts h p c l m n made q o =
 -- no number changes as it is printed
 printed_as : (plain : List Numbered) (changes : List (Option (List ℕ))) → Each (IsRenumbered AsPrinted) plain changes → changed plain changes ≡ plain
 printed_as [] [] h = refl
-printed_as [] (c ∷ changes) h = absurd h
-printed_as (line ∷ plain) [] h = absurd h
 printed_as (line ∷ plain) (None ∷ changes) h = ap (λ (x : List Numbered). line ∷ x) (printed_as plain changes h.1)
 printed_as (line ∷ plain) (Some text ∷ changes) h = absurd h.0
+printed_as plain changes h = absurd h
 
 -- so the texts are the plain ones
 pub printed_plain : (made : Changed) (texts : List Numbered) (w : AreWritten made texts) → made.numbering ≡ AsPrinted → made.lines ≡ w.plain

@@ -7,10 +7,9 @@ use Rattle.raw_logs.proofs.OneLog.{log_one, healed_one}
 
 -- two Booleans that are false together are the same
 same_flag : (a b : Bool) → (a ≡ false → b ≡ false) → (b ≡ false → a ≡ false) → a ≡ b
-same_flag true true to from = refl
 same_flag true false to from = from refl
 same_flag false true to from = sym (to refl)
-same_flag false false to from = refl
+same_flag a b to from = refl
 
 -- that a log ends within a line is told in one way
 pub one_end : (bytes : List ℕ) (a b : Bool) → EndsCut bytes a → EndsCut bytes b → a ≡ b

@@ -1,6 +1,6 @@
 -- A log is read in one way: each stage gives one result.
-use Rattle.std.proofs.Common.{◌≡◌, ◌⊎◌, ℕ, suc, ◌+◌, List, [], ◌∷◌, ◌++◌, Option, Some, None, refl, sym, ap, subst, ◌∙◌, append_assoc, codes, inl, inr}
-use Rattle.std.proofs.Common.{arith}
+use Rattle.std.proofs.Common.{◌≡◌, ◌⊎◌, ℕ, suc, List, [], ◌∷◌, ◌++◌, Option, Some, None, refl, sym, ap, subst, ◌∙◌, append_assoc, codes, inl, inr}
+use Rattle.std.proofs.Common.{arith, rules}
 use Rattle.std.specs.Prelude.{◌==◌, Contains}
 use Rattle.std.proofs.lemmas.Bool.{eqb-true}
 use Rattle.std.proofs.lemmas.List.{append_cancel_left}
@@ -72,21 +72,10 @@ whole_or_broken line front h g = elim h.whole [
 -- a line is of one kind
 pub kind_one : (line : List ℕ) (a b : LineKind) → IsKind line a → IsKind line b → a ≡ b
 kind_one line Message Message h g = refl
-kind_one line Message OfStack h g = absurd (g.0 h)
-kind_one line Message (CutShort e) h g = absurd (g.no_message h)
-kind_one line Message LeftIn h g = absurd (g.no_message h)
-kind_one line OfStack Message h g = absurd (h.0 g)
 kind_one line OfStack OfStack h g = refl
-kind_one line OfStack (CutShort e) h g = absurd (g.no_stack h.1)
-kind_one line OfStack LeftIn h g = absurd (g.no_stack h.1)
-kind_one line (CutShort f) Message h g = absurd (h.no_message g)
-kind_one line (CutShort f) OfStack h g = absurd (h.no_stack g.1)
 kind_one line (CutShort f) (CutShort e) h g = ap (λ (x : List ℕ). CutShort x) (broken_same line f e h.broken g.broken)
-kind_one line (CutShort f) LeftIn h g = absurd (whole_or_broken line f g h)
-kind_one line LeftIn Message h g = absurd (h.no_message g)
-kind_one line LeftIn OfStack h g = absurd (h.no_stack g.1)
-kind_one line LeftIn (CutShort e) h g = absurd (whole_or_broken line e h g)
 kind_one line LeftIn LeftIn h g = refl
+kind_one line a b h g = absurd (search (rules, whole_or_broken))
 
 -- a text is made plain in one way
 pub stripped_one : (line : Numbered) (a b : Option (List ℕ)) → IsStripped line a → IsStripped line b → a ≡ b
@@ -143,14 +132,13 @@ root_same lines texts p q (inr h) (inr g) = thread_same (IsLater lines texts) te
 -- a log is numbered in one way
 pub numbering_one : (lines texts : List (List ℕ)) (m n : Numbering) → IsNumbering lines texts m → IsNumbering lines texts n → m ≡ n
 numbering_one lines texts AsPrinted AsPrinted h g = refl
-numbering_one lines texts AsPrinted (Plain None) h g = absurd (h g.0)
-numbering_one lines texts AsPrinted (Plain (Some q)) h g = absurd (h g.0)
-numbering_one lines texts (Plain None) AsPrinted h g = absurd (g h.0)
-numbering_one lines texts (Plain (Some p)) AsPrinted h g = absurd (g h.0)
 numbering_one lines texts (Plain None) (Plain None) h g = refl
+numbering_one lines texts (Plain (Some p)) (Plain (Some q)) h g = ap (λ (x : ℕ). Plain (Some x)) (root_same lines texts p q h.1 g.1)
 numbering_one lines texts (Plain None) (Plain (Some q)) h g = absurd (h.1 q g.1)
 numbering_one lines texts (Plain (Some p)) (Plain None) h g = absurd (g.1 p h.1)
-numbering_one lines texts (Plain (Some p)) (Plain (Some q)) h g = ap (λ (x : ℕ). Plain (Some x)) (root_same lines texts p q h.1 g.1)
+numbering_one lines texts AsPrinted (Plain None) h g = absurd (h g.0)
+numbering_one lines texts AsPrinted n h g = absurd (h g.0)
+numbering_one lines texts m n h g = absurd (g h.0)
 
 loses_same : (text a b : List ℕ) → LosesBrackets text a → LosesBrackets text b → a ≡ b
 loses_same text a b h g =

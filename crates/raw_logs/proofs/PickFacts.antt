@@ -6,7 +6,7 @@ use Rattle.std.specs.Prelude.{if◌then◌else◌}
 use Rattle.std.proofs.lemmas.List.Elements.{All-append, All-cons, All-nil}
 use Rattle.raw_logs.specs.declared.choosing.Picker.{Picker}
 use Rattle.raw_logs.specs.declared.told.Form.{Form}
-use Rattle.raw_logs.specs.declared.told.Form.TheVariants.{Blank, Unknown, Long, TooLong, Whole}
+use Rattle.raw_logs.specs.declared.told.Form.TheVariants.{Whole}
 use Rattle.raw_logs.specs.declared.told.Told.{Told}
 use Rattle.raw_logs.specs.Choosing.{Picked, with_line, picked}
 use Rattle.raw_logs.specs.Log.{Numbered}
@@ -19,11 +19,8 @@ whole_short : (text : List ℕ) (told : Told) → Tells text told → told.form 
 whole_short text told h e = by told.form h.3 e
   where
     by : (form : Form) → IsForm text h.0 form → form ≡ Whole → length text ≤ 65535
-    by Blank f e = absurd cc
-    by Unknown f e = absurd cc
-    by Long f e = absurd cc
-    by TooLong f e = absurd cc
     by Whole f e = f.2
+    by form f e = absurd cc
 
 -- so lines with it are short
 pub short_behind : (lines next : List Numbered) (line : Numbered) (told : Told) → Tells line.text told → told.form ≡ Whole → AreShort lines
@@ -130,12 +127,8 @@ pub keeps_whole : (form : Form) (here : Bool) → form ≡ Whole → here ≡ tr
 keeps_whole form here e f = ap (λ (x : Form). keeps x here) e ∙ f
 
 pub keeps_none : (form : Form) (here : Bool) → ¬ ((form ≡ Whole) × (here ≡ true)) → keeps form here ≡ false
-keeps_none Blank here n = refl
-keeps_none Unknown here n = refl
-keeps_none Long here n = refl
-keeps_none TooLong here n = refl
 keeps_none Whole true n = absurd (n (refl, refl))
-keeps_none Whole false n = refl
+keeps_none form here n = refl
 
 -- so what is kept has it behind
 pub passed_kept : (old new : List Numbered) (line : Numbered) (rest : List Numbered) (is : Bool) → is ≡ true → new ≡ old ++ (line ∷ [])

@@ -2,6 +2,8 @@
 use Rattle.std.proofs.Common.{◌≡◌, ℕ, Bool, false, List, [], length, Option, Some, None, sym, ap, subst}
 use Rattle.std.proofs.Common.{◌∙◌}
 use Rattle.std.specs.Prelude.{if◌then◌else◌}
+use Rattle.std.specs.BTreeSet.{BTreeSet, contains}
+use Rattle.std.specs.Ordering.{nat_cmp}
 use Rattle.raw_logs.specs.declared.spaces.Made.{Made}
 use Rattle.line_parts.specs.Lines.{lines_of}
 use Rattle.raw_logs.specs.declared.choosing.Picker.{Picker}
@@ -18,8 +20,8 @@ use Rattle.raw_logs.specs.Counting.{within_32_bits, both}
 use Rattle.raw_logs.specs.Log.{Numbered, texts_of, IsLog, IsKind, Each, Healed, healed, changed, count_changes, IsStripped}
 use Rattle.raw_logs.specs.Numbering.{IsNumbering, IsRenumbered}
 use Rattle.raw_logs.specs.Reading.{IsNumberedLog, IsRead, EndsCut}
-use Rattle.raw_logs.specs.Stages.{part_of, Takes, seen}
-use Rattle.raw_logs.specs.Spaces.{made_from, has_line, silent, unmade}
+use Rattle.raw_logs.specs.Stages.{part_of, Takes, seen, HasSpeakers}
+use Rattle.raw_logs.specs.Spaces.{made_from, has_line, speaks, silent, unmade}
 use Rattle.raw_logs.specs.Told.{AreTold}
 use Rattle.raw_logs.proofs.MadeLines.{each_one, printed_plain}
 use Rattle.raw_logs.proofs.OneLog.{kind_one, stripped_one}
@@ -94,20 +96,23 @@ numbered_log bytes whole cut healer counts log t numbered sum =
 abbrev pub found_of : Counts → List Numbered → Picker → Picked
 found_of before kept picker = let p = seen kept picker in record p { counts = both before p.counts }
 
--- what was picked of a log is how it is read
-pub read_so : (process : Option ℕ) (bytes : List ℕ) (lines kept : List Numbered) (before : Counts) (picker : Picker) (fault : Option LogFault)
-    → IsNumberedLog bytes lines before → (tolds : List Told) → AreTold lines tolds
-    → seen kept picker ≡ picked_of process lines tolds → fault ≡ fault_of process tolds picker.too_long
-    → IsRead process bytes (found_of before kept picker) fault
-read_so process bytes lines kept before picker fault n tolds told is f =
+-- what was picked of a log is how it is read, with a fault where the process that was asked for is silent
+pub read_by : (process : Option ℕ) (bytes : List ℕ) (lines kept : List Numbered) (before : Counts) (picker : Picker) (speakers : BTreeSet ℕ) (alone : Bool)
+    (fault : Option LogFault) → IsNumberedLog bytes lines before → HasSpeakers speakers lines
+    → (HasSpeakers speakers lines → (tolds : List Told) × AreTold lines tolds × (seen kept picker ≡ picked_of process lines tolds))
+    → ((tolds : List Told) → ((q : ℕ) → contains nat_cmp speakers q ≡ speaks q tolds) → (too_long : Option ℕ)
+    → fault_of process tolds too_long ≡ (if alone then Some NoProcess else long_fault too_long))
+    → fault ≡ (if alone then Some NoProcess else long_fault picker.too_long) → IsRead process bytes (found_of before kept picker) fault
+read_by process bytes lines kept before picker speakers alone fault n all pick silent f =
+    let p = pick all in
     record {
       whole = lines;
       before = before;
       numbered = n;
-      tolds = tolds;
-      told = told;
-      is = ap (λ (p : Picked). record p { counts = both before p.counts }) is;
-      fault_is = f;
+      tolds = p.0;
+      told = p.1;
+      is = ap (λ (x : Picked). record x { counts = both before x.counts }) p.2;
+      fault_is = f ∙ sym (silent p.0 (all p.0 p.1) picker.too_long);
     }
 
 -- what is picked by who made whom is what is picked of a log
@@ -127,9 +132,3 @@ pick_is process lines made count without others old new tolds t m n h k u e = (
       ∙ ap (λ (x : ℕ). picked (has_line process (made_from 0 tolds) x) 0 lines tolds)
       (n ∙ sym (told_length lines tolds t))),
 )
-
--- the fault of a log, by whether its process is silent
-pub fault_by : (process : Option ℕ) (tolds : List Told) (too_long : Option ℕ) (silent : Bool) (fault : Option LogFault)
-    → fault_of process tolds too_long ≡ (if silent then Some NoProcess else long_fault too_long)
-    → fault ≡ (if silent then Some NoProcess else long_fault too_long) → fault ≡ fault_of process tolds too_long
-fault_by process tolds too_long silent fault e f = f ∙ sym e

@@ -108,6 +108,13 @@ next_within sieve h l =
 pub end_is : (sieve : Sieve) (end : End) → sieve.place < length sieve.ends.items → end ≡ get_or sieve.ends.items sieve.place end → end ≡ next_end sieve
 end_is sieve end l e = e ∙ get_or_default sieve.ends.items sieve.place end no_end l
 
+-- so it lies where it was read
+pub end_within : (sieve : Sieve) (end : End) → IsSieve sieve → rest_in sieve ≢ [] → end ≡ get_or sieve.ends.items sieve.place end
+    → (sieve.from ≤ end.behind) × (end.behind ≤ length sieve.bytes.items)
+end_within sieve end h n e =
+    let l = end_left sieve.from sieve.bytes.items sieve.ends.items sieve.place n in
+    subst (λ (x : End). (sieve.from ≤ x.behind) × (x.behind ≤ length sieve.bytes.items)) (sym (end_is sieve end l e)) (next_within sieve h l)
+
 -- no text was looked at
 pub sieve_new : (new : Sieve) → new.kept ≡ 0 → new.behind ≡ 0 → new.from ≡ start_at 0 new.ends.items new.place
     → AreEnds 0 (length new.bytes.items) new.ends.items → IsSieve new

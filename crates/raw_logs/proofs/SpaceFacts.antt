@@ -10,13 +10,13 @@ use Rattle.std.specs.Ordering.{nat_cmp}
 use Rattle.std.proofs.lemmas.Bool.{eqb-true, eq-eqb}
 use Rattle.std.proofs.lemmas.List.{append-nil}
 use Rattle.raw_lines.specs.declared.makers.MadeAs.{MadeAs}
-use Rattle.raw_lines.specs.declared.makers.MadeAs.TheVariants.{Thread, Process, Untold}
+use Rattle.raw_lines.specs.declared.makers.MadeAs.TheVariants.{Process}
 use Rattle.raw_logs.specs.declared.spaces.Made.{Made}
 use Rattle.raw_logs.specs.declared.spaces.Makers.{Makers}
 use Rattle.raw_logs.specs.declared.spaces.Space.{Space}
 use Rattle.raw_logs.specs.declared.told.Told.{Told}
 use Rattle.raw_logs.specs.Log.{Numbered}
-use Rattle.raw_logs.specs.Spaces.{ends, ended_by, link_of, led, space_of, before_by, before_in, speaks, silent, is_made, is_known, unmade}
+use Rattle.raw_logs.specs.Spaces.{ends, ended_by, link_of, led, space_of, before_by, before_in, speaks, silent, is_made, unmade}
 use Rattle.raw_logs.specs.Stages.{HasMade, space_or, space_in, HasSpaces, IsPast, or_else, HasSpeakers, HasKnown}
 use Rattle.raw_logs.specs.Told.{Tells, AreTold, all_told, line_told}
 use Rattle.raw_logs.proofs.ToldFacts.{tells_one}
@@ -130,8 +130,7 @@ leads_thread made asked count past link rest pid limit h e never first =
   where
     shared : (kind : MadeAs) → kind ≢ Process → (a b : Option ℕ) → before_by kind pid limit first a b ≡ b
     shared Process n a b = absurd (n refl)
-    shared Thread n a b = refl
-    shared Untold n a b = refl
+    shared kind n a b = refl
 
 -- a link of a process
 pub leads_process : (made : List Made) (asked count : ℕ) (old new : BTreeMap ℕ ℕ) (link : Made) (rest : List Made) (pid limit : ℕ)
@@ -147,9 +146,7 @@ leads_process made asked count old new link rest pid limit h e is put first =
   where
     grouped : (a : Option ℕ) (b : Bool) (x : Option ℕ) → or_else a (if b then Some limit else x) ≡ or_else (or_else a (if b then Some limit else None)) x
     grouped None true x = refl
-    grouped None false x = refl
-    grouped (Some n) true x = refl
-    grouped (Some n) false x = refl
+    grouped a b x = refl
 
 -- no link is left
 pub leads_end : (made : List Made) (asked count : ℕ) (old new : BTreeMap ℕ ℕ) (rest : List Made) (pid limit : ℕ)
@@ -180,9 +177,7 @@ speakers_more old new line done told tells h put ts (line_told {told = t} {tolds
 
 swapped : (a b x : Bool) → (if a then true else if b then true else x) ≡ (if b then true else if a then true else x)
 swapped true true x = refl
-swapped true false x = refl
-swapped false true x = refl
-swapped false false x = refl
+swapped a b x = refl
 
 -- no number but 0 is known
 pub known_none : (old new : BTreeSet ℕ) → ((q : ℕ) → contains nat_cmp old q ≡ false)
@@ -203,9 +198,7 @@ known_more old new made told tolds h put q =
   where
     by : (a z s m : Bool) → (if a then true else if z then true else if s then true else m) ≡ (if z then true else if (if a then true else s) then true else m)
     by true true s m = refl
-    by true false s m = refl
-    by false true s m = refl
-    by false false s m = refl
+    by a z s m = refl
 
 -- a line more, whose number is known
 pub known_same : (old : BTreeSet ℕ) (made : List Made) (told : Told) (tolds : List Told) → HasKnown old made tolds

@@ -1,8 +1,8 @@
 -- The texts of lines, one more at a time: what holds of those so far and of the next holds of those with it.
 use Rattle.std.proofs.Common.{◌≡◌, ◌⊎◌, ℕ, zero, suc, ◌+◌, ◌<◌, ◌≤◌, List, [], ◌∷◌, ◌++◌, length, map, take, drop, get_or, refl, sym, ap, subst, ◌∙◌, inl, inr, arith}
-use Rattle.std.specs.Prelude.{All, Contains}
+use Rattle.std.specs.Prelude.{Contains}
 use Rattle.std.proofs.lemmas.List.{take_more, take_all, drop_more, length-map}
-use Rattle.std.proofs.lemmas.List.Elements.{All-append, All-cons, All-nil, Contains-append_cases}
+use Rattle.std.proofs.lemmas.List.Elements.{Contains-append_cases}
 use Rattle.raw_logs.specs.Log.{Numbered, texts_of}
 use Rattle.raw_logs.proofs.Following.{only_item}
 
@@ -46,17 +46,6 @@ pub text_there : (lines : List Numbered) (i : ℕ) (line : Numbered) → i < len
 text_there lines i line l e =
     let l2 = length-map lines (λ (x : Numbered). x.text) in
     (i, omega arith, item_of (λ (x : Numbered). x.text) lines i line ∙ ap (λ (x : Numbered). x.text) (sym e))
-
--- a line more is so
-pub all_more : (P : Numbered → Type 0) (lines : List Numbered) (i : ℕ) (line : Numbered) → i < length lines → line ≡ get_or lines i line → All P (take i lines)
-    → P line → All P (take (i + 1) lines)
-all_more P lines i line l e h p =
-    subst (All P) (sym (take_more lines i line l ∙ ap (λ (x : Numbered). take i lines ++ (x ∷ [])) (sym e)))
-    (All-append P (take i lines) (line ∷ []) h (All-cons P line [] p (All-nil P)))
-
--- all lines are
-pub all_of_all : (P : Numbered → Type 0) (lines : List Numbered) (i : ℕ) → length lines ≤ i → All P (take i lines) → All P lines
-all_of_all P lines i l h = subst (All P) (take_all i lines l) h
 
 -- the lines from a place on begin with the one there
 pub lines_from : (lines : List Numbered) (place next : ℕ) (line : Numbered) → place < length lines → next ≡ place + 1 → line ≡ get_or lines place line

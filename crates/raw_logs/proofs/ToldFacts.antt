@@ -13,30 +13,17 @@ use Rattle.raw_logs.specs.Told.{IsForm, Tells, AreTold, all_told, line_told}
 
 form_one : (text body : List ℕ) (a b : Form) → IsForm text body a → IsForm text body b → a ≡ b
 form_one text body Blank Blank h g = refl
-form_one text body Blank Unknown h g = absurd (g.0 h)
-form_one text body Blank Long h g = absurd (g.0 h)
-form_one text body Blank TooLong h g = absurd (g.0 h)
-form_one text body Blank Whole h g = absurd (g.0 h)
-form_one text body Unknown Blank h g = absurd (h.0 g)
 form_one text body Unknown Unknown h g = refl
-form_one text body Unknown Long h g = absurd (h.1 g.1)
-form_one text body Unknown TooLong h g = absurd (h.1 g.1)
-form_one text body Unknown Whole h g = absurd (h.1 g.1)
-form_one text body Long Blank h g = absurd (h.0 g)
-form_one text body Long Unknown h g = absurd (g.1 h.1)
 form_one text body Long Long h g = refl
-form_one text body Long TooLong h g = absurd (h.3 g.3)
-form_one text body Long Whole h g = let x = h.2 in let y = g.2 in absurd (omega arith)
-form_one text body TooLong Blank h g = absurd (h.0 g)
-form_one text body TooLong Unknown h g = absurd (g.1 h.1)
-form_one text body TooLong Long h g = absurd (g.3 h.3)
 form_one text body TooLong TooLong h g = refl
-form_one text body TooLong Whole h g = let x = h.2 in let y = g.2 in absurd (omega arith)
-form_one text body Whole Blank h g = absurd (h.0 g)
-form_one text body Whole Unknown h g = absurd (g.1 h.1)
-form_one text body Whole Long h g = let x = h.2 in let y = g.2 in absurd (omega arith)
-form_one text body Whole TooLong h g = let x = h.2 in let y = g.2 in absurd (omega arith)
 form_one text body Whole Whole h g = refl
+form_one text body Blank b h g = absurd (g.0 h)
+form_one text body a Blank h g = absurd (h.0 g)
+form_one text body Unknown b h g = absurd (h.1 g.1)
+form_one text body a Unknown h g = absurd (g.1 h.1)
+form_one text body Long TooLong h g = absurd (h.3 g.3)
+form_one text body TooLong Long h g = absurd (g.3 h.3)
+form_one text body a b h g = let x = h.2 in let y = g.2 in absurd (omega arith)
 
 decides_one : (a b : Bool) (P : Type 0) → Decides a P → Decides b P → a ≡ b
 decides_one true b P h g = sym (g.1 (h.0 refl))

@@ -5,6 +5,8 @@ use Rattle.std.specs.BTreeMap.{BTreeMap, get}
 use Rattle.std.specs.BTreeSet.{BTreeSet, contains}
 use Rattle.std.specs.Ordering.{nat_cmp}
 use Rattle.strace_reader.specs.Grammar.{IsBracketed}
+use Rattle.raw_lines.specs.declared.makers.Making.{Making}
+use Rattle.raw_lines.specs.declared.makers.Making.TheVariants.{Makes, Ends}
 use Rattle.raw_logs.specs.declared.choosing.Picker.{Picker}
 use Rattle.raw_logs.specs.declared.counts.Counts.{Counts}
 use Rattle.raw_logs.specs.declared.counts.Sort.{Sort}
@@ -65,6 +67,12 @@ pub record Takes (healer : Healer) (lines : List (List ℕ)) : Type 0 where
 -- the number is in the set
 abbrev pub Has : BTreeSet ℕ → ℕ → Type 0
 Has set pid = contains nat_cmp set pid ≡ true
+
+-- the number that is told as the result of a call that makes a process or a thread
+abbrev pub told_number : Making → Option ℕ
+told_number (Makes kind child) = child
+told_number (Ends child) = child
+told_number making = None
 
 -- each number in brackets that the text begins with came later
 abbrev pub EachLater : (ℕ → Type 0) → List ℕ → Type 0

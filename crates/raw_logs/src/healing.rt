@@ -46,15 +46,17 @@ impl Changed {
     ghost use Rattle.std.specs.Prelude.{if◌then◌else◌};
     ghost use Rattle.raw_logs.specs.Counting.{no_counts, one_more_of};
 
-    /// No text.
-    fn new(alloc: Global, numbering: Numbering) -> Changed
+    /// No text, in the room that lines had.
+    fn new(room: Lines, numbering: Numbering) -> Changed
         ensures lines { result.lines ≡ [] }
         ensures plain { result.plain ≡ no_counts }
         ensures numbered { result.numbered ≡ no_counts }
         ensures numbering { result.numbering ≡ numbering }
     {
+        let mut lines = room;
+        lines.clear();
         Changed {
-            lines: Lines::new(alloc),
+            lines,
             plain: Counts::new(),
             numbered: Counts::new(),
             numbering,
@@ -162,15 +164,15 @@ impl Healer {
     ghost use Rattle.raw_logs.specs.declared.counts.Sort.TheVariants.{Messages};
     ghost use Rattle.raw_logs.specs.Counting.{one_more_of};
 
-    /// Nothing was read.
-    fn new(alloc: Global, numbering: Numbering) -> Healer
+    /// Nothing was read; texts take the room that lines had.
+    fn new(alloc: Global, room: Lines, numbering: Numbering) -> Healer
         ensures takes { Takes result [] }
         ensures none { result.written.lines ≡ [] }
         ensures numbering { result.written.numbering ≡ numbering }
     {
         Healer {
             part: None,
-            written: Changed::new(alloc, numbering),
+            written: Changed::new(room, numbering),
             counts: Counts::new(),
             alloc,
         }
@@ -263,14 +265,19 @@ impl Healer {
     }
 }
 
-/// The texts of the lines of a log, made plain and numbered so.
-pub(crate) fn heal(alloc: Global, whole: &[u8], numbering: Numbering) -> Result<Healer, AllocError>
+/// The texts of the lines of a log, made plain and numbered so, in the room that lines had.
+pub(crate) fn heal(
+    alloc: Global,
+    room: Lines,
+    whole: &[u8],
+    numbering: Numbering,
+) -> Result<Healer, AllocError>
     requires { length whole.now < 2 ^ 32 - 1 }
     ensures takes { IfOk result (λ healer. Takes healer (lines_of whole.now)) }
     ensures few { IfOk result (λ healer. length healer.written.lines ≤ length whole.now) }
     ensures numbering { IfOk result (λ healer. healer.written.numbering ≡ numbering) }
 {
-    let mut healer = Healer::new(alloc, numbering);
+    let mut healer = Healer::new(alloc, room, numbering);
     let mut number = 1;
     let mut rest = whole;
     'lines: while let Some((line, behind)) = next_line(rest) {
@@ -282,20 +289,19 @@ pub(crate) fn heal(alloc: Global, whole: &[u8], numbering: Numbering) -> Result<
 }
 
 /// The texts of the lines of a log, made plain and numbered as the log is. Where numbers change it is read once more,
-/// since each text is kept once.
+/// into the same room, since each text is kept once.
 pub(crate) fn heal_numbered(alloc: Global, whole: &[u8]) -> Result<Healer, AllocError>
     requires { length whole.now < 2 ^ 32 - 1 }
     ensures takes { IfOk result (λ healer. (t : Takes healer (lines_of whole.now))
         × IsNumbering (lines_of whole.now) (texts_of t.written.plain) healer.written.numbering) }
     ensures few { IfOk result (λ healer. length healer.written.lines ≤ length whole.now) }
 {
-    let healer = heal(alloc, whole, Numbering::AsPrinted)?;
+    let healer = heal(alloc, Lines::new(alloc), whole, Numbering::AsPrinted)?;
     let numbering = numbering_of(alloc, whole, &healer.written.lines)?;
     match numbering {
         Numbering::AsPrinted => Ok(healer),
         Numbering::Plain(_) => {
-            drop(healer);
-            let again = heal(alloc, whole, numbering)?;
+            let again = heal(alloc, healer.written.lines, whole, numbering)?;
             Ok(again)
         }
     }

@@ -125,6 +125,14 @@ impl Lines {
         text_of(self.bytes.as_slice(), self.ends.as_slice(), place)
     }
 
+    /// Takes all texts out; the room that they had stays.
+    pub(crate) fn clear(&mut self)
+        ensures { self.new ≡ [] }
+    {
+        self.bytes.clear();
+        self.ends.clear();
+    }
+
     /// Adds a text in three parts. A buffer above 2^32 - 1 bytes counts as want of memory.
     ///
     /// `Err`: there was no memory; no text is left.

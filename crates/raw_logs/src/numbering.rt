@@ -12,7 +12,7 @@ ghost use Rattle.strace_reader.specs.Grammar.{IsBracketed};
 ghost use Rattle.raw_logs.specs.Numbering.{HasBrackets, HasNoNumber, IsBareCall, IsAttached, Gives, IsLater, IsStart, StartsAt, IsMixed, IsFirstThread};
 ghost use Rattle.raw_logs.specs.Numbering.{IsNumbering};
 ghost use Rattle.raw_logs.specs.Numbering.{ChangesNumber, with_number};
-ghost use Rattle.raw_logs.specs.Stages.{Has, EachLater};
+ghost use Rattle.raw_logs.specs.Stages.{Has, EachLater, told_number};
 
 use crate::lines::Lines;
 use line_parts::next_line;
@@ -141,17 +141,24 @@ fn all_attached(alloc: Global, whole: &[u8]) -> Result<BTreeSet<u32>, AllocError
     Ok(found)
 }
 
-/// The number that a line gives as the result of a call that makes a process or a thread.
+/// The number that is told as the result of a call that makes a process or a thread.
+fn told_number(making: Making) -> Option<u32>
+    ensures { result ≡ told_number making }
+{
+    match making {
+        Making::Makes { child, .. } => child,
+        Making::Ends(child) => child,
+        _ => None,
+    }
+}
+
+/// The number that a line gives as such a result.
 fn given(text: &[u8]) -> Option<u32>
     ensures some { IfSome result (Gives text.now) }
     ensures none { IsNone result → (pid : ℕ) → ¬ Gives text.now pid }
 {
     let (_, body) = cut(text);
-    match told_by(body) {
-        Making::Makes { child, .. } => child,
-        Making::Ends(child) => child,
-        _ => None,
-    }
+    told_number(told_by(body))
 }
 
 /// Puts in the number that a line gives as such a result, where it gives one.

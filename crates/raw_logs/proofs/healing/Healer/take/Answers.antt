@@ -1,19 +1,23 @@
 use Rattle.std.proofs.Common.{◌⊎◌, ℕ, List, refl, sym, ◌∙◌, inl, inr, rules}
 use Rattle.raw_lines.specs.Marks.{IsMessage, IsStackLine, IsUnread, IsBroken}
+use Rattle.raw_logs.specs.declared.counts.Sort.TheVariants.{Messages, Stack}
+use Rattle.raw_logs.specs.Log.{Message, OfStack}
 use Rattle.raw_logs.proofs.Decided.{is_so, is_not}
-use Rattle.raw_logs.proofs.HealedLines.{takes_message, takes_stack, takes_broken, takes_gap, takes_line, unread_filled}
+use Rattle.raw_logs.proofs.HealedLines.{takes_counted, takes_broken, takes_gap, takes_line, unread_filled}
 use Rattle.raw_logs.proofs.healing.Healer.take.Goals as goal
 
 -- a message
 pub returns-then-is_message-clause-takes : goal.returns-then-is_message-clause-takes
 returns-then-is_message-clause-takes c = λ before t n.
-    takes_message c.args.self.now _ before _ c.args.text.now t n (is_so c.is_message.result c.is_message.ensures c.if-is_message.true) refl refl c.add.ensures
+    takes_counted c.args.self.now _ before _ c.args.text.now Message Messages t n (is_so c.is_message.result c.is_message.ensures c.if-is_message.true)
+    (λ h. refl) refl refl c.add.ensures
 
 -- a line of a stack
 pub returns-then-is_stack_line-clause-takes : goal.returns-then-is_stack_line-clause-takes
 returns-then-is_stack_line-clause-takes c = λ before t n.
-    takes_stack c.args.self.now _ before _ c.args.text.now t n (is_not c.is_message.result c.is_message.ensures c.if-is_message.false)
-    (is_so c.is_stack_line.result c.is_stack_line.ensures c.if-is_stack_line.true) refl refl c.add-then-is_stack_line.ensures
+    takes_counted c.args.self.now _ before _ c.args.text.now OfStack Stack t n
+    (is_not c.is_message.result c.is_message.ensures c.if-is_message.false, is_so c.is_stack_line.result c.is_stack_line.ensures c.if-is_stack_line.true)
+    (λ h. refl) refl refl c.add-then-is_stack_line.ensures
 
 -- a line with the mark
 pub returns-then-is_unread-clause-takes : goal.returns-then-is_unread-clause-takes
