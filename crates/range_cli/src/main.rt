@@ -1,40 +1,13 @@
 //! The program `range_cli` plays a trace of address-space calls, as strace(1) prints them, and prints the areas that
-//! are left as proc_pid_maps(5) does. `run` is the whole program over a source and two sinks, and all that is proved is
-//! said on it. This file ties it to the process: its words, its standard streams and its exit status.
+//! are left as proc_pid_maps(5) does. `run` of `trace_driver` is the whole program over a source and two sinks, and all
+//! that is proved is said on it. This file ties it to the process: its words, its standard streams and its exit status.
 #![tactic(auto)]
 
-mod checking;
-mod clean;
-#[cfg(test)]
-mod clean_tests;
-mod dealing;
-mod error_line;
-#[cfg(test)]
-mod gate_tests;
-mod input;
-mod laws;
-mod load;
-mod opening;
-mod play;
-#[cfg(test)]
-mod port_tests;
-mod processes;
-mod report;
-mod run;
-mod script;
-mod status;
-mod trace;
-#[cfg(test)]
-mod trial;
-#[cfg(test)]
-mod worker_tests;
-
-use crate::error_line::write_error;
-use crate::run::run;
-use crate::status::Status;
 use byte_ports::{StdSink, StdSource};
 use std::process::ExitCode;
 use std::{env, io};
+use trace_driver::run::run;
+use trace_driver::{Status, write_error};
 use trace_threads::OpenGate;
 
 /// Runs the program on the process's own streams.

@@ -1,6 +1,0 @@
-use Rattle.range_cli.proofs.OneReport.{one_report}
-use Rattle.range_cli.proofs.laws.one_worker_has_one_report.Goals as goal
-
--- the law of one worker's report
-pub returns : goal.returns
-returns c = one_report

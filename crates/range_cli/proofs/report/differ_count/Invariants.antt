@@ -1,7 +1,0 @@
-use Rattle.std.proofs.Common.{◌≤◌}
-use Rattle.range_cli.proofs.Differences.{Completes}
-use Rattle.range_cli.proofs.report.differ_count.Given as goal
-
--- with those that are left the count is that of all
-abbrev pub invariant-entries : goal.invariant-entries
-invariant-entries l = Completes l.lines l.entries l.entry-index l.count × (l.count ≤ l.entry-index)

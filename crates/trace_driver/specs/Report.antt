@@ -1,0 +1,76 @@
+-- The report of a run, as one text: the log where it is asked for, the maps of the last areas, the summary, and how
+-- many pages were touched where that is asked for. The texts of its parts are the printer's. The order of the parts and
+-- what is counted are this project's own profile.
+use Rattle.std.specs.Prelude.{◌≡◌, ◌≢◌, ◌⊎◌, ◌↔◌, ℕ, ◌+◌, ◌^◌, ◌<◌, ◌∷◌, Bool, true, false, List, [], ◌++◌, length, count_by, slice_index_or, if◌then◌else◌}
+use Rattle.std.specs.List.{AllPairs, Contains}
+use Rattle.page_types.specs.declared.calls.Call.TheVariants.{Fault}
+use Rattle.page_types.specs.declared.calls.Kind.{Kind}
+use Rattle.page_types.specs.declared.calls.Reply.{Reply}
+use Rattle.page_types.specs.declared.calls.Reply.TheVariants.{At, Zero, Granted, Refused}
+use Rattle.page_types.specs.declared.sets.Access.{Access}
+use Rattle.page_types.specs.Pages.{page_of}
+use Rattle.space_model.specs.declared.areas.Area.{Area}
+use Rattle.space_model.specs.declared.entries.Entry.{Entry}
+use Rattle.maps_printer.specs.Lines.{log_text, maps_text, summary_text, touched_text}
+use Rattle.strace_reader.specs.Playing.{Differs}
+use Rattle.trace_driver.specs.declared.report.Counts.{Counts}
+use Rattle.trace_driver.specs.declared.trace.Line.{Line}
+use Rattle.command_words.specs.declared.commands.Options.{Options}
+
+-- the reply is a refusal
+abbrev pub is_refused : Reply → Bool
+is_refused (At addr) = false
+is_refused Zero = false
+is_refused (Granted kind) = false
+is_refused (Refused why) = true
+
+-- how many entries have a refusal as their reply
+abbrev pub refused_count : List Entry → ℕ
+refused_count entries = count_by (λ entry. is_refused entry.reply) entries
+
+-- the numbers of the lines rise
+abbrev pub LinesRise : List Line → Type 0
+LinesRise lines = AllPairs (λ one other. one.number < other.number) lines
+
+-- the line of this number stands at that place
+abbrev pub IsPlaceOf : List Line → ℕ → ℕ → Type 0
+IsPlaceOf lines number place = (place < length lines) × ((d : Line) → (slice_index_or lines place d).number ≡ number)
+
+-- no line has this number
+abbrev pub HasNoLine : List Line → ℕ → Type 0
+HasNoLine lines number = (line : Line) → Contains lines line → line.number ≢ number
+
+-- the entry's reply differs from the recorded result of its line
+abbrev pub DiffersFromLine : List Line → Entry → Type 0
+DiffersFromLine lines entry = (line : Line) × Contains lines line × (line.number ≡ entry.line) × Differs entry.reply line.recorded
+
+-- so many entries have a reply that differs from the recorded result of their line
+abbrev pub Differing : List Line → List Entry → ℕ → Type 0
+Differing lines [] count = count ≡ 0
+Differing lines (entry ∷ entries) count =
+    (DiffersFromLine lines entry × ((rest : ℕ) × Differing lines entries rest × (count ≡ 1 + rest)))
+    ⊎ ((¬ DiffersFromLine lines entry) × Differing lines entries count)
+
+-- the log, where it is asked for
+abbrev pub asked_log : Options → List Entry → List ℕ
+asked_log options entries = if options.log then log_text entries else []
+
+-- so many pages were touched: these are the pages of the faults among the entries that were granted, each counted once
+pub record CountsTouched (entries : List Entry) (count : ℕ) : Type 0 where
+  pub pages : List ℕ
+  pub rising : AllPairs (λ one other. one < other) pages
+  pub all : (page : ℕ) → Contains pages page ↔ ((entry : Entry) × (addr : ℕ) × (access : Access) × (kind : Kind)
+      × Contains entries entry × (entry.call ≡ Fault addr access) × (entry.reply ≡ Granted kind) × (page ≡ page_of addr))
+  pub counted : count ≡ length pages
+  pub narrow : count < 2 ^ 32
+
+-- how many pages were touched, where it is asked for
+abbrev pub asked_touched : Options → ℕ → List ℕ
+asked_touched options count = if options.touched then touched_text count else []
+
+-- the whole report
+abbrev pub report_text : Options → List Area → List Entry → Counts → List ℕ
+report_text options last entries counts =
+    (if options.log then log_text entries else []) ++ (maps_text last
+    ++ (summary_text (length entries) counts.skipped counts.refused counts.differ
+    ++ (if options.touched then touched_text counts.touched else [])))
