@@ -234,7 +234,7 @@ gz_range_answer gz_range_try(gz_range *handle, uint64_t lo, uint64_t hi, bool wr
 
 /* Waits as gz_range_acquire does between two tries, for a program with a loop of its own: *turns turns of the
    processor's pause, but at least 1,024 and at most 8,192. *turns is 0 at first, and becomes twice what was waited, at
-   most 8,192. How long a turn takes depends on the processor; at 12 ns, as was seen at 2.5 GHz, 8,192 take some 100
+   most 8,192. How long a turn takes depends on the processor; at 6 to 12 ns, as were seen, 8,192 take some 50 to 100
    microseconds. The call doesn't yield the processor.
    true if this wait was one of 8,192 turns: then let other threads run, by sched_yield or a sleep.
    Any thread. */

@@ -1,6 +1,7 @@
 /* What a pair of a try and a release costs from C beside a pair of pthread_mutex, on one thread: for each number of
    seats the least of 40 rounds of 20,000 pairs, the rounds of both taken in turns; first while the process has no
-   other thread, then beside one that sleeps. The command is in the crate's README. */
+   other thread, then beside one that sleeps. Then the shortest and the longest wait that gz_range_pause makes, the
+   least of 40 each. The command is in the crate's README. */
 #include "gz_range.h"
 
 #include <pthread.h>
@@ -60,7 +61,22 @@ static int measure(const char *beside) {
     return 0;
 }
 
+/* A wait of so many turns of the processor's pause. */
+static void measure_wait(uint32_t turns) {
+    double least = 1e18;
+    for (int round = 0; round < ROUNDS; round++) {
+        uint32_t waited = turns;
+        double start = now();
+        gz_range_pause(&waited);
+        double a = now() - start;
+        if (a < least) least = a;
+    }
+    printf("a wait of %u turns: %.0f ns\n", turns, least);
+}
+
 int main(void) {
+    measure_wait(1024);
+    measure_wait(8192);
     if (measure("")) return 1;
     /* While a process has one thread the C library's mutex makes no locked instruction. */
     pthread_t thread;
