@@ -1,14 +1,11 @@
--- The line of a step that a view enables, and what single kinds leave of the view, from what is known of its cursor.
--- A lock that runs cites these.
-use Rattle.std.proofs.Common.{◌≡◌, ℕ, true, List, ◌∷◌, ◌-◌, refl, sym, ap, ◌∙◌}
-use Rattle.std.specs.Prelude.{Option, Some, None, is_some, unwrap_or, ◌==◌, if◌then◌else◌}
+-- The line of a step that a view enables, and what a Walk leaves of the view. A lock that runs cites these.
+use Rattle.std.proofs.Common.{◌≡◌, ℕ, true, refl}
+use Rattle.std.specs.Prelude.{Option, Some, None, is_some, unwrap_or}
 use Rattle.lock_core.specs.declared.views.View.{View}
-use Rattle.lock_core.specs.declared.views.Cursor.{Cursor}
 use Rattle.lock_core.specs.declared.steps.Step.{Step}
-use Rattle.lock_core.specs.declared.steps.Step.TheVariants.{GiveHome, ClearHome, Walk, ReadLo, ReadHi, Unlink, Settle}
-use Rattle.lock_core.specs.Words.{plain_node_of}
-use Rattle.lock_core.specs.Views.{gave_home, taken, walked, lo_read, hi_read, unlinked, dropped, settled}
-use Rattle.lock_core.specs.StepTable.{Plan, IsLine, loads, give_home, clear_home, walk, read_lo, read_hi, unlink, settle}
+use Rattle.lock_core.specs.declared.steps.Step.TheVariants.{Walk}
+use Rattle.lock_core.specs.Views.{walked}
+use Rattle.lock_core.specs.StepTable.{Plan, IsLine, loads, walk}
 use Rattle.lock_core.specs.Machine.{plan}
 use Rattle.lock_core.specs.Operations.{planned, IsEnabled}
 use Rattle.lock_core.proofs.Table.{line_of_plan}
@@ -32,7 +29,3 @@ module _ (seats s : ℕ) (v : View) where
     where
       by_line : (p : Plan) → IsLine seats s v Walk p → p.view w ≡ walked v v.cursor w
       by_line p (walk cell odd hand at) = refl
-
-  module _ (c : Cursor) (is : v.cursor ≡ Some c) where
-    same : (d : Cursor) → v.cursor ≡ Some d → d ≡ c
-    same d e = let both : ◌≡◌ {A = Option Cursor} (Some d) (Some c) = sym e ∙ is in cc

@@ -39,7 +39,8 @@ others_none b (y ∷ ys) = step (y == b) refl (others_none b ys)
     step true e ih = ih
     step false e ih = ap (λ (d : Bool). (if d then 1 else 0) + times b (others b ys)) e ∙ omega arith
 
-first_counts : (b : Bool) (n : ℕ) → b ≡ true → 1 ≤ (if b then 1 else 0) + n
+-- a number that stands first in a list is counted
+pub first_counts : (b : Bool) (n : ℕ) → b ≡ true → 1 ≤ (if b then 1 else 0) + n
 first_counts true n e = omega arith
 first_counts false n e = absurd (cc)
 
@@ -62,7 +63,8 @@ at_most_one : (b : Bool) (n : ℕ) → n ≤ (if b then 1 else 0) → n ≤ 1
 at_most_one true n l = l
 at_most_one false n l = omega arith
 
-some_true : (b : Bool) (n : ℕ) → n ≤ (if b then 1 else 0) → 1 ≤ n → b ≡ true
+-- a test that bounds a number above 0 is met
+pub some_true : (b : Bool) (n : ℕ) → n ≤ (if b then 1 else 0) → 1 ≤ n → b ≡ true
 some_true true n l g = refl
 some_true false n l g = absurd (omega arith)
 

@@ -8,11 +8,7 @@ use Rattle.lock_core.specs.declared.views.View.{View}
 use Rattle.lock_core.specs.Nodes.{own_times}
 use Rattle.lock_core.specs.Sizes.{IsNode, IsViewSized, MayStep}
 use Rattle.lock_core.proofs.Counts.{times_joined}
-use Rattle.lock_core.proofs.Pigeons.{few_of_seat}
-
-some_true : (b : Bool) (n : ℕ) → n ≤ (if b then 1 else 0) → 1 ≤ n → b ≡ true
-some_true true n l g = refl
-some_true false n l g = absurd (omega arith)
+use Rattle.lock_core.proofs.Pigeons.{few_of_seat, some_true}
 
 itself : (b : Bool) → b ≡ true → 1 ≤ (if b then 1 else 0)
 itself true e = omega arith

@@ -12,8 +12,7 @@ use Rattle.lock_core.specs.Range.{IsRange}
 use Rattle.lock_core.specs.declared.range.Mode.TheVariants.{Writer}
 use Rattle.lock_core.specs.declared.views.View.{View}
 use Rattle.lock_core.specs.declared.views.Cursor.{Cursor}
-use Rattle.lock_core.specs.declared.views.Todo.{Todo}
-use Rattle.lock_core.specs.declared.views.Todo.TheVariants.{Forward, FromHead, Done}
+use Rattle.lock_core.specs.declared.views.Todo.TheVariants.{Forward, Done}
 use Rattle.lock_core.specs.declared.views.Own.{Own}
 use Rattle.lock_core.specs.declared.views.Own.TheVariants.{Nothing, Filling, Linked}
 use Rattle.lock_core.specs.declared.steps.Step.{Step}
@@ -27,12 +26,14 @@ use Rattle.lock_core.specs.StepTable.{quick_unlink, settle}
 use Rattle.lock_core.specs.Machine.{Machine, heap, after, carried_out}
 use Rattle.lock_core.specs.Sizes.{IsNode, NamesNode, IsOwnSized, IsViewSized, bound_node, IsOwnEven, IsSized}
 use Rattle.lock_core.proofs.ByView.{set_view}
+use Rattle.lock_core.proofs.Counts.{own_filling, own_linked}
 use Rattle.lock_core.proofs.Words.{WroteCell, wrote_cell, wrote_lo, wrote_hi, wrote_home, wrote_epoch}
 use Rattle.lock_core.proofs.OwnNodes.{own_epoch, own_home}
 use Rattle.lock_core.proofs.Sizing.{even_kept, left_bound, own_at_bound, judged_bound, nothing_sized, linked_sized}
 use Rattle.lock_core.proofs.Sizing.{filling_sized, left_nodes, used_nodes, taken_nodes, dropped_sized, looked_sized}
 use Rattle.lock_core.proofs.Sizing.{epoch_sized, home_sized, came_sized, cursor_sized, own_sized, judged_sized}
 use Rattle.lock_core.proofs.Stepping.{stepped}
+use Rattle.lock_core.proofs.Pigeons.{first_counts, some_true}
 
 -- a word that names node y, and has no low bit
 pub plain_is : (w y : ℕ) → plain_node_of w ≡ Some y → w ≡ 2 * suc y
@@ -43,14 +44,6 @@ plain_is w y e = split (w % 2 == 0) (w / 2 == 0) refl refl e
     split true false ea eb q =
         let even = eqb-true _ _ ea in let some = eqb-false _ _ eb in let node : w / 2 - 1 ≡ y = cc in omega arith
     split false b ea eb q = absurd (cc)
-
-is_true : (b : Bool) (n : ℕ) → n ≤ (if b then 1 else 0) → 1 ≤ n → b ≡ true
-is_true true n l g = refl
-is_true false n l g = absurd (omega arith)
-
-first_counts : (b : Bool) (n : ℕ) → b ≡ true → 1 ≤ (if b then 1 else 0) + n
-first_counts true n e = omega arith
-first_counts false n e = absurd (cc)
 
 -- a node that is being filled without an aim isn't bound
 not_aimed : (f : Filled) (n : ℕ) → f.aimed ≡ None → option_map (λ (_ : ℕ). f.node) f.aimed ≡ Some n → ⊥
@@ -66,16 +59,16 @@ module _ (m : Machine) (s : ℕ) (v : View) (z : IsSized m) (at : slice_get m.vi
   -- an own node is of its seat, and there
   owner_is : (i x : ℕ) (u : View) → slice_get m.views i ≡ Some u → own_times x u.own ≡ 1 → x / 16 ≡ i
   owner_is i x u e own = let l = (z.each i u e).nodes.nodes x in
-      eqb-true _ _ (is_true (x / 16 == i) (own_times x u.own + times x u.ready + times x u.used) l (omega arith))
+      eqb-true _ _ (some_true (x / 16 == i) (own_times x u.own + times x u.ready + times x u.used) l (omega arith))
 
   own_there : (x : ℕ) → own_times x v.own ≡ 1 → IsNode m.seats x
   own_there x own = let q = owner_is s x v at own in let l = seat_there in omega arith
 
   filling_there : (f : Filled) → v.own ≡ filling f → (own_times f.node v.own ≡ 1) × IsNode m.seats f.node
-  filling_there f e = let t = ap (own_times f.node) e ∙ ap (λ (b : Bool). if b then 1 else 0) (eq-eqb f.node f.node refl) in (t, own_there f.node t)
+  filling_there f e = let t = own_filling v f e in (t, own_there f.node t)
 
   linked_there : (k : Listed) → v.own ≡ listed k → (own_times k.node v.own ≡ 1) × IsNode m.seats k.node
-  linked_there k e = let t = ap (own_times k.node) e ∙ ap (λ (b : Bool). if b then 1 else 0) (eq-eqb k.node k.node refl) in (t, own_there k.node t)
+  linked_there k e = let t = own_linked v k e in (t, own_there k.node t)
 
   -- a state with other words and another view of the seat
   resized : (ws : List ℕ) (w : View) → length ws ≡ length m.words → ((c : ℕ) → c ≤ 16 * m.seats → to (heap_of m.seats ws) c ≤ 16 * m.seats) →
@@ -167,15 +160,14 @@ module _ (m : Machine) (s : ℕ) (v : View) (z : IsSized m) (at : slice_get m.vi
   node_there c y e q = let l = (old.cursor c e).cur in let w = plain_is c.cur y q in omega arith
 
   kept_sized : (own : Own) → IsOwnSized m.seats own → IsOwnSized m.seats (kept_own own)
-  kept_sized Nothing o = o
   kept_sized (Filling node lo hi mode aimed) o = nothing_sized m.seats
-  kept_sized (Linked node range mode todo) o = o
+  kept_sized _ o = o
 
   first_there : (n : ℕ) (rest : List ℕ) → v.own ≡ Nothing → v.ready ≡ n ∷ rest → IsNode m.seats n
   first_there n rest own ready =
       let l = old.nodes.nodes n in let r = ap (times n) ready in
       let e = first_counts (n == n) (times n rest) (eq-eqb n n refl) in
-      let i = eqb-true _ _ (is_true (n / 16 == s) (own_times n v.own + times n v.ready + times n v.used) l (omega arith)) in let k = seat_there in omega arith
+      let i = eqb-true _ _ (some_true (n / 16 == s) (own_times n v.own + times n v.ready + times n v.used) l (omega arith)) in let k = seat_there in omega arith
 
   filling_times : (f g : Filled) → v.own ≡ filling f → g.node ≡ f.node → (x : ℕ) → own_times x (filling g) ≡ own_times x v.own
   filling_times f g e q x = ap (λ n. if n == x then 1 else 0) q ∙ sym (ap (own_times x) e)
@@ -188,17 +180,9 @@ module _ (m : Machine) (s : ℕ) (v : View) (z : IsSized m) (at : slice_get m.vi
   aim_even (Some c) w e q = let l = (old.cursor c e).cur in (ap (λ n. n % 2) q.0 ∙ q.1, let d = ap (λ n. n / 2) q.0 in omega arith)
 
   start_there : (own : Own) → v.own ≡ own → (n : ℕ) → start_of own ≡ Some n → IsNode m.seats n
-  start_there Nothing e n q = absurd (cc)
-  start_there (Filling node lo hi mode aimed) e n q = absurd (cc)
-  start_there (Linked node range mode todo) e n q = go todo q
-    where
-      there : IsNode m.seats node
-      there = (linked_there (record { node = node; range = range; mode = mode; todo = todo }) e).1
-
-      go : (t : Todo) → start_of (Linked node range mode t) ≡ Some n → IsNode m.seats n
-      go Forward q = let same : node ≡ n = cc in subst (IsNode m.seats) same there
-      go FromHead q = absurd (cc)
-      go Done q = absurd (cc)
+  start_there (Linked node range mode Forward) e n q = let same : node ≡ n = cc in
+      subst (IsNode m.seats) same (linked_there (record { node = node; range = range; mode = mode; todo = Forward }) e).1
+  start_there _ e n q = absurd (cc)
 
   cell_of_there : (o : Option ℕ) → ((n : ℕ) → o ≡ Some n → IsNode m.seats n) → cell_of o ≤ 16 * m.seats
   cell_of_there None there = omega arith

@@ -1,5 +1,5 @@
 -- Every step keeps the sizes of a state: what the type of a state keeps, it keeps after any line of the table.
-use Rattle.std.proofs.Common.{◌≡◌, ◌≢◌, ℕ, suc, ◌+◌, ◌*◌, ◌/◌, ◌%◌, ◌≤◌, Bool, true, false, List, [], ◌∷◌, ◌++◌, length}
+use Rattle.std.proofs.Common.{◌≡◌, ◌≢◌, ℕ, suc, ◌+◌, ◌*◌, ◌/◌, ◌%◌, ◌≤◌, Bool, true, false, List, [], ◌∷◌, ◌++◌}
 use Rattle.std.proofs.Common.{Some, None, ⊎_elim, refl, sym, ap, ◌∙◌, subst, arith, eqb-true, eq-eqb, length-set}
 use Rattle.std.specs.Prelude.{Option, ◌==◌, if◌then◌else◌}
 use Rattle.std.proofs.lemmas.Bool.{cases_eq}
@@ -57,84 +57,37 @@ even_kept seats h now own p x wrote even o n q =
     (λ (d : suc n ≢ p). ap (λ w. w % 2) (wrote.others (suc n) d) ∙ o n q)
     (cases_eq (suc n) p)
 
--- the own node once a cursor came to a word, or stopped
-own_at_times : (own : Own) (w x : ℕ) → own_times x (own_at own w) ≡ own_times x own
-own_at_times Nothing w x = refl
-own_at_times (Filling node lo hi mode aimed) w x = refl
-own_at_times (Linked node range mode Forward) w x = split (w == 0)
-  where
-    split : (b : Bool) → own_times x (if b then Linked node range mode Done else Linked node range mode Forward) ≡ (if node == x then 1 else 0)
-    split true = refl
-    split false = refl
-own_at_times (Linked node range mode FromHead) w x = split (w == 2 * suc node)
-  where
-    split : (b : Bool) → own_times x (if b then Linked node range mode Done else Linked node range mode FromHead) ≡ (if node == x then 1 else 0)
-    split true = refl
-    split false = refl
-own_at_times (Linked node range mode Done) w x = refl
+-- what holds of both of two holds of either
+either : {A : Type 0} (P : A → Type 0) (b : Bool) (x y : A) → P x → P y → P (if b then x else y)
+either P true x y p q = p
+either P false x y p q = q
 
-own_at_sized : (seats : ℕ) (own : Own) (w : ℕ) → IsOwnSized seats own → IsOwnSized seats (own_at own w)
-own_at_sized seats Nothing w o = o
-own_at_sized seats (Filling node lo hi mode aimed) w o = o
-own_at_sized seats (Linked node range mode Forward) w o = split (w == 0)
-  where
-    split : (b : Bool) → IsOwnSized seats (if b then Linked node range mode Done else Linked node range mode Forward)
-    split true = linked_sized seats (record { node = node; range = range; mode = mode; todo = Done })
-    split false = o
-own_at_sized seats (Linked node range mode FromHead) w o = split (w == 2 * suc node)
-  where
-    split : (b : Bool) → IsOwnSized seats (if b then Linked node range mode Done else Linked node range mode FromHead)
-    split true = linked_sized seats (record { node = node; range = range; mode = mode; todo = Done })
-    split false = o
-own_at_sized seats (Linked node range mode Done) w o = o
+-- what holds of the own node, and of a linked one with nothing left to do, holds once a cursor came to a word
+at_word : (P : Own → Type 0) (own : Own) (w : ℕ) → P own → ((k : Listed) → own ≡ listed k → P (listed (record k { todo = Done }))) → P (own_at own w)
+at_word P (Linked node range mode Forward) w o done = either P (w == 0) (Linked node range mode Done) (Linked node range mode Forward)
+    (done (record { node = node; range = range; mode = mode; todo = Forward }) refl) o
+at_word P (Linked node range mode FromHead) w o done = either P (w == 2 * suc node) (Linked node range mode Done) (Linked node range mode FromHead)
+    (done (record { node = node; range = range; mode = mode; todo = FromHead }) refl) o
+at_word P _ w o done = o
+
+-- and once it stopped
+at_stop : (P : Own → Type 0) (own : Own) → P own → ((k : Listed) → own ≡ listed k → P (listed (record k { todo = Done }))) → P (own_stopped own)
+at_stop P (Linked node range mode Forward) o done = done (record { node = node; range = range; mode = mode; todo = Forward }) refl
+at_stop P _ o done = o
 
 -- a cursor that comes to a word binds no other node than before
 pub own_at_bound : (own : Own) (w : ℕ) → bound_node (own_at own w) ≡ bound_node own
-own_at_bound Nothing w = refl
-own_at_bound (Filling node lo hi mode aimed) w = refl
-own_at_bound (Linked node range mode Forward) w = split (w == 0)
-  where
-    split : (b : Bool) → bound_node (if b then Linked node range mode Done else Linked node range mode Forward) ≡ Some node
-    split true = refl
-    split false = refl
-own_at_bound (Linked node range mode FromHead) w = split (w == 2 * suc node)
-  where
-    split : (b : Bool) → bound_node (if b then Linked node range mode Done else Linked node range mode FromHead) ≡ Some node
-    split true = refl
-    split false = refl
-own_at_bound (Linked node range mode Done) w = refl
-
-own_stopped_times : (own : Own) (x : ℕ) → own_times x (own_stopped own) ≡ own_times x own
-own_stopped_times Nothing x = refl
-own_stopped_times (Filling node lo hi mode aimed) x = refl
-own_stopped_times (Linked node range mode Forward) x = refl
-own_stopped_times (Linked node range mode FromHead) x = refl
-own_stopped_times (Linked node range mode Done) x = refl
-
-own_stopped_sized : (seats : ℕ) (own : Own) → IsOwnSized seats own → IsOwnSized seats (own_stopped own)
-own_stopped_sized seats Nothing o = o
-own_stopped_sized seats (Filling node lo hi mode aimed) o = o
-own_stopped_sized seats (Linked node range mode Forward) o = linked_sized seats (record { node = node; range = range; mode = mode; todo = Done })
-own_stopped_sized seats (Linked node range mode FromHead) o = o
-own_stopped_sized seats (Linked node range mode Done) o = o
-
-own_stopped_bound : (own : Own) → bound_node (own_stopped own) ≡ bound_node own
-own_stopped_bound Nothing = refl
-own_stopped_bound (Filling node lo hi mode aimed) = refl
-own_stopped_bound (Linked node range mode Forward) = refl
-own_stopped_bound (Linked node range mode FromHead) = refl
-own_stopped_bound (Linked node range mode Done) = refl
+own_at_bound own w = at_word (λ (o : Own). bound_node o ≡ bound_node own) own w refl (λ k e. sym (ap bound_node e))
 
 -- a node that is bound after a Leave was bound before it
 pub left_bound : (own : Own) (n : ℕ) → bound_node (kept_own own) ≡ Some n → bound_node own ≡ Some n
-left_bound Nothing n e = absurd (cc)
-left_bound (Filling node lo hi mode aimed) n e = absurd (cc)
 left_bound (Linked node range mode todo) n e = e
+left_bound _ n e = absurd (cc)
 
 -- a verdict binds no other node than before
 pub judged_bound : (v : View) (c : Cursor) (y n : ℕ) (verdict : Verdict) → bound_node (hi_judged v c y n verdict).own ≡ bound_node v.own
 judged_bound v c y n Past = own_at_bound v.own n
-judged_bound v c y n Stop = own_stopped_bound v.own
+judged_bound v c y n Stop = at_stop (λ (o : Own). bound_node o ≡ bound_node v.own) v.own refl (λ k e. sym (ap bound_node e))
 judged_bound v c y n Conflict = refl
 
 -- the lists of a view
@@ -149,9 +102,8 @@ at_most_one false = omega arith
 -- the nodes keep their sizes after a Leave, which puts a node that was being filled to the ready ones
 pub left_nodes : (i : ℕ) (own : Own) (ready used homes : List ℕ) → AreNodesSized i own ready used homes
     → AreNodesSized i (kept_own own) (ready_left own ready) used homes
-left_nodes i Nothing ready used homes n = n
 left_nodes i (Filling node lo hi mode aimed) ready used homes n = record { nodes = λ x. let l = n.nodes x in omega arith; homes_used = n.homes_used }
-left_nodes i (Linked node range mode todo) ready used homes n = n
+left_nodes i _ ready used homes n = n
 
 released_nodes : (i : ℕ) (own : Own) (ready used homes : List ℕ) → AreNodesSized i own ready used homes
     → AreNodesSized i own (ready ++ homes) (without homes used) []
@@ -194,16 +146,14 @@ taken_nodes i n own ready rest used homes e e' a = record {
 }
 
 -- views
-passed_length : (v : View) (j seats : ℕ) → length v.passed ≡ seats → length (passes v j).passed ≡ seats
-passed_length v j seats e = length-set v.passed j true ∙ e
-
 module _ (seats i : ℕ) where
   -- a view that lets its cursor go keeps its sizes
   pub dropped_sized : (v : View) → IsViewSized seats i v → IsViewSized seats i (dropped v)
   dropped_sized v o = record { notes = o.notes; passed = o.passed; nodes = o.nodes; own = o.own; hand = o.hand; cursor = λ c q. absurd (cc) }
 
   passes_sized : (v : View) (j : ℕ) → IsViewSized seats i v → IsViewSized seats i (passes v j)
-  passes_sized v j o = record { notes = o.notes; passed = passed_length v j seats o.passed; nodes = o.nodes; own = o.own; hand = o.hand; cursor = o.cursor }
+  passes_sized v j o =
+      record { notes = o.notes; passed = length-set v.passed j true ∙ o.passed; nodes = o.nodes; own = o.own; hand = o.hand; cursor = o.cursor }
 
   noted_sized : (v : View) (j w : ℕ) (note : Option ℕ) → IsViewSized seats i v → IsViewSized seats i (noted v j w note)
   noted_sized v j w None o = record {
@@ -214,20 +164,12 @@ module _ (seats i : ℕ) where
     hand = o.hand;
     cursor = o.cursor;
   }
-  noted_sized v j w (Some n) o = split (n == w)
-    where
-      split : (b : Bool) → IsViewSized seats i (if b then v else passes v j)
-      split true = o
-      split false = passes_sized v j o
+  noted_sized v j w (Some n) o = either (IsViewSized seats i) (n == w) v (passes v j) o (passes_sized v j o)
 
   -- a view that notes an epoch or passes a seat keeps its sizes
   pub looked_sized : (v : View) (j w : ℕ) → IsViewSized seats i v → IsViewSized seats i (looked_at v j w)
-  looked_sized v j w o = split (is_passed v j) (w % 2 == 0)
-    where
-      split : (b d : Bool) → IsViewSized seats i (if b then v else (if d then passes v j else noted v j w (note_of v j)))
-      split true d = o
-      split false true = passes_sized v j o
-      split false false = noted_sized v j w (note_of v j) o
+  looked_sized v j w o = either (IsViewSized seats i) (is_passed v j) v (if w % 2 == 0 then passes v j else noted v j w (note_of v j)) o
+      (either (IsViewSized seats i) (w % 2 == 0) (passes v j) (noted v j w (note_of v j)) (passes_sized v j o) (noted_sized v j w (note_of v j) o))
 
   released_sized : (v : View) → IsViewSized seats i v → IsViewSized seats i (released v)
   released_sized v o = record {
@@ -241,11 +183,7 @@ module _ (seats i : ℕ) where
 
   -- a view whose homes become ready, or not, keeps its sizes
   pub epoch_sized : (s : ℕ) (v : View) → IsViewSized seats i v → IsViewSized seats i (released_if_passed s v)
-  epoch_sized s v o = split (are_others_passed s v.passed)
-    where
-      split : (b : Bool) → IsViewSized seats i (if b then released v else v)
-      split true = released_sized v o
-      split false = o
+  epoch_sized s v o = either (IsViewSized seats i) (are_others_passed s v.passed) (released v) v (released_sized v o) o
 
   came_home_sized : (v : View) (n : ℕ) → 1 ≤ times n v.used → times n v.homes ≡ 0 → IsViewSized seats i v → IsViewSized seats i (came_home seats v n)
   came_home_sized v n used homes o = record {
@@ -259,25 +197,9 @@ module _ (seats i : ℕ) where
 
   -- a view that read a home word of a used node that isn't among the homes keeps its sizes
   pub home_sized : (v : View) (n w : ℕ) → 1 ≤ times n v.used → times n v.homes ≡ 0 → IsViewSized seats i v → IsViewSized seats i (home_read seats v n w)
-  home_sized v n w used homes o = split (w == 1) (seats == 1)
-    where
-      split : (b d : Bool) → IsViewSized seats i (if b then (if d then released (came_home seats v n) else came_home seats v n) else v)
-      split true true = released_sized (came_home seats v n) (came_home_sized v n used homes o)
-      split true false = came_home_sized v n used homes o
-      split false d = o
-
-  -- a view whose cursor came to a word of a node that is there keeps its sizes
-  pub came_sized : (v : View) (prev : Option ℕ) (w seen : ℕ) → ((n : ℕ) → prev ≡ Some n → IsNode seats n) → NamesNode seats w
-      → IsViewSized seats i v → IsViewSized seats i (came_to v prev w seen)
-  came_sized v prev w seen p there o = record {
-    notes = o.notes;
-    passed = o.passed;
-    nodes = same_nodes i v.own (own_at v.own w) v.ready v.used v.homes (own_at_times v.own w) o.nodes;
-    own = own_at_sized seats v.own w o.own;
-    hand = o.hand;
-    cursor = λ c q. let same : record { prev = prev; cur = w; next = None; lo = None; seen = seen_after seen w } ≡ c = cc in
-        subst (IsCursorThere seats) same (record { prev = p; cur = there; next = λ w q. absurd (cc) });
-  }
+  home_sized v n w used homes o = let came = came_home_sized v n used homes o in let u = came_home seats v n in
+      either (IsViewSized seats i) (w == 1) (if seats == 1 then released u else u) v
+      (either (IsViewSized seats i) (seats == 1) (released u) u (released_sized u came) came) o
 
   -- only the cursor changed, or went
   pub cursor_sized : (v : View) (c : Cursor) → IsCursorThere seats c → IsViewSized seats i v → IsViewSized seats i (record v { cursor = Some c })
@@ -302,11 +224,21 @@ module _ (seats i : ℕ) where
     cursor = o.cursor;
   }
 
+  -- a view whose cursor came to a word of a node that is there keeps its sizes
+  pub came_sized : (v : View) (prev : Option ℕ) (w seen : ℕ) → ((n : ℕ) → prev ≡ Some n → IsNode seats n) → NamesNode seats w
+      → IsViewSized seats i v → IsViewSized seats i (came_to v prev w seen)
+  came_sized v prev w seen p there o =
+      cursor_sized (record v { own = own_at v.own w }) (record { prev = prev; cur = w; next = None; lo = None; seen = seen_after seen w })
+      (record { prev = p; cur = there; next = λ w q. absurd (cc) })
+      (own_sized v (own_at v.own w) (λ x. at_word (λ (o : Own). own_times x o ≡ own_times x v.own) v.own w refl (λ k e. sym (ap (own_times x) e)))
+      (at_word (IsOwnSized seats) v.own w o.own (λ k e. linked_sized seats (record k { todo = Done }))) o)
+
   -- a view that judged a node that is there keeps its sizes, whatever the verdict
   pub judged_sized : (v : View) (c : Cursor) (y n : ℕ) (verdict : Verdict) → IsNode seats y → NamesNode seats n
       → IsCursorThere seats c → IsViewSized seats i v → IsViewSized seats i (hi_judged v c y n verdict)
   judged_sized v c y n Past node next there o = came_sized v (Some y) n c.seen (λ m q. let same : y ≡ m = cc in subst (IsNode seats) same node) next o
   judged_sized v c y n Stop node next there o =
       cursor_sized (record v { own = own_stopped v.own }) (record c { next = None }) (record { prev = there.prev; cur = there.cur; next = λ w q. absurd (cc) })
-      (own_sized v (own_stopped v.own) (own_stopped_times v.own) (own_stopped_sized seats v.own o.own) o)
+      (own_sized v (own_stopped v.own) (λ x. at_stop (λ (o : Own). own_times x o ≡ own_times x v.own) v.own refl (λ k e. sym (ap (own_times x) e)))
+      (at_stop (IsOwnSized seats) v.own o.own (λ k e. linked_sized seats (record k { todo = Done }))) o)
   judged_sized v c y n Conflict node next there o = o

@@ -7,7 +7,7 @@ use Rattle.view_lists.specs.Counted.{is_empty, times}
 use Rattle.lock_core.specs.declared.views.View.{View}
 use Rattle.lock_core.specs.declared.views.Cursor.{Cursor}
 use Rattle.lock_core.specs.declared.views.Todo.{Todo}
-use Rattle.lock_core.specs.declared.views.Todo.TheVariants.{Forward, FromHead, Done}
+use Rattle.lock_core.specs.declared.views.Todo.TheVariants.{Done}
 use Rattle.lock_core.specs.declared.views.Own.{Own}
 use Rattle.lock_core.specs.declared.views.Own.TheVariants.{Nothing, Filling, Linked}
 use Rattle.lock_core.specs.declared.steps.Step.{Step}
@@ -103,40 +103,34 @@ filled_is [] d = absurd (d refl)
 filled_is (n ∷ rest) d = refl
 
 done : (todo : Todo) → is_done todo ≡ true → todo ≡ Done
-done Forward e = absurd (cc)
-done FromHead e = absurd (cc)
 done Done e = refl
+done _ e = absurd (cc)
 
 leaving : (own : Own) → may_leave own ≡ true → (k : Listed) → own ≡ listed k → k.todo ≡ Done
-leaving Nothing e k is = absurd (cc)
-leaving (Filling node lo hi mode aimed) e k is = absurd (cc)
 leaving (Linked node range mode todo) e k is = let d = done todo e in let same : todo ≡ k.todo = cc in sym same ∙ d
+leaving _ e k is = absurd (cc)
 
 leaving_is : (own : Own) → ((k : Listed) → own ≡ listed k → k.todo ≡ Done) → may_leave own ≡ true
-leaving_is Nothing h = refl
-leaving_is (Filling node lo hi mode aimed) h = refl
 leaving_is (Linked node range mode todo) h = ap is_done (h (record { node = node; range = range; mode = mode; todo = todo }) refl)
+leaving_is _ h = refl
 
 -- a seat that may judge and fills a node knows both its ends
 pub judging : (own : Own) → may_judge own ≡ true → (f : Filled) → own ≡ filling f → (f.lo ≢ None) × (f.hi ≢ None)
-judging Nothing e f is = absurd (cc)
 judging (Filling node lo hi mode aimed) e f is =
     let t = both _ _ e in let l : lo ≡ f.lo = cc in let h : hi ≡ f.hi = cc in
     ((λ q. some lo t.0 (l ∙ q)), (λ q. some hi t.1 (h ∙ q)))
-judging (Linked node range mode todo) e f is = absurd (cc)
+judging _ e f is = absurd (cc)
 
 -- a seat that knows both ends of the node that it fills, if it fills one, may judge
 pub judging_is : (own : Own) → ((f : Filled) → own ≡ filling f → (f.lo ≢ None) × (f.hi ≢ None)) → may_judge own ≡ true
-judging_is Nothing h = refl
 judging_is (Filling node lo hi mode aimed) h =
     let t = h (record { node = node; lo = lo; hi = hi; mode = mode; aimed = aimed }) refl in
     together _ _ (some_is lo t.0) (some_is hi t.1)
-judging_is (Linked node range mode todo) h = refl
+judging_is _ h = refl
 
 nothing : (own : Own) → is_nothing own ≡ true → own ≡ Nothing
 nothing Nothing e = refl
-nothing (Filling node lo hi mode aimed) e = absurd (cc)
-nothing (Linked node range mode todo) e = absurd (cc)
+nothing _ e = absurd (cc)
 
 placed_is : (c : Cursor) → IsAtPlace c → is_at_place c ≡ true
 placed_is c place = split (c.cur == 0) refl

@@ -18,15 +18,10 @@ held lo hi mode = record { range = record { lo = lo; hi = hi }; mode = mode }
 conflict_is : (m n : Mode) (lo hi node_lo e : ℕ) (a b c d : Bool) → nat_le e lo ≡ a → nat_lt node_lo lo ≡ b → nat_le hi node_lo ≡ c → nat_le lo node_lo ≡ d →
     (if a then Past else if is_reader m && is_reader n && b then Past else if c then Stop
     else if is_reader m && is_reader n && d then Stop else Conflict) ≡ Conflict → Conflicts (held lo hi m) (held node_lo e n)
-conflict_is m n lo hi node_lo e true b c d ea eb ec ed q = absurd (cc)
-conflict_is Reader Reader lo hi node_lo e false true c d ea eb ec ed q = absurd (cc)
-conflict_is Reader Reader lo hi node_lo e false false true d ea eb ec ed q = absurd (cc)
-conflict_is Reader Reader lo hi node_lo e false false false true ea eb ec ed q = absurd (cc)
 conflict_is Reader Reader lo hi node_lo e false false false false ea eb ec ed q = absurd (omega (arith, ltb-false _ _ eb, leb-false _ _ ed))
-conflict_is Writer n lo hi node_lo e false b true d ea eb ec ed q = absurd (cc)
 conflict_is Writer n lo hi node_lo e false b false d ea eb ec ed q = ((omega (arith, leb-false _ _ ea), omega (arith, leb-false _ _ ec)), inl refl)
-conflict_is Reader Writer lo hi node_lo e false b true d ea eb ec ed q = absurd (cc)
 conflict_is Reader Writer lo hi node_lo e false b false d ea eb ec ed q = ((omega (arith, leb-false _ _ ea), omega (arith, leb-false _ _ ec)), inr refl)
+conflict_is _ _ lo hi node_lo e _ _ _ _ ea eb ec ed q = absurd (cc)
 
 is_conflict : (m n : Mode) (lo hi node_lo e : ℕ) (b d : Bool) → lo < e → node_lo < hi → (m ≡ Writer) ⊎ (n ≡ Writer) →
     (if nat_le e lo then Past else if is_reader m && is_reader n && b then Past else if nat_le hi node_lo then Stop
@@ -42,10 +37,9 @@ is_conflict Reader Writer lo hi node_lo e b d low high w =
 forward_is : (n : Mode) (lo hi node_lo e : ℕ) (a b : Bool) → nat_le hi node_lo ≡ a → nat_lt lo e ≡ b
     → (if a then Stop else if is_reader n then Past else if b then Conflict else Past) ≡ Conflict
     → Conflicts (held lo hi Reader) (held node_lo e n)
-forward_is n lo hi node_lo e true b ea eb q = absurd (cc)
 forward_is Reader lo hi node_lo e false b ea eb q = absurd (cc)
 forward_is Writer lo hi node_lo e false true ea eb q = ((ltb-true _ _ eb, omega (arith, leb-false _ _ ea)), inr refl)
-forward_is Writer lo hi node_lo e false false ea eb q = absurd (cc)
+forward_is _ lo hi node_lo e _ _ ea eb q = absurd (cc)
 
 is_forward : (n : Mode) (lo hi node_lo e : ℕ) → lo < e → node_lo < hi → (Reader ≡ Writer) ⊎ (n ≡ Writer)
     → (if nat_le hi node_lo then Stop else if is_reader n then Past else if nat_lt lo e then Conflict else Past) ≡ Conflict
@@ -57,8 +51,7 @@ is_forward Writer lo hi node_lo e low high w =
 from_head_is : (n : Mode) (lo hi node_lo e : ℕ) (a b : Bool) → nat_lt lo e ≡ a → nat_lt node_lo hi ≡ b
     → (if a && b then Conflict else Past) ≡ Conflict → Conflicts (held lo hi Writer) (held node_lo e n)
 from_head_is n lo hi node_lo e true true ea eb q = ((ltb-true _ _ ea, ltb-true _ _ eb), inl refl)
-from_head_is n lo hi node_lo e true false ea eb q = absurd (cc)
-from_head_is n lo hi node_lo e false b ea eb q = absurd (cc)
+from_head_is n lo hi node_lo e _ _ ea eb q = absurd (cc)
 
 is_from_head : (lo hi node_lo e : ℕ) → lo < e → node_lo < hi → (if nat_lt lo e && nat_lt node_lo hi then Conflict else Past) ≡ Conflict
 is_from_head lo hi node_lo e low high = ap (λ a. if a && nat_lt node_lo hi then Conflict else Past) (lt-ltb lo e low)

@@ -1,8 +1,12 @@
 -- The order along a path, and which of two nodes of one path stands before the other.
-use Rattle.std.proofs.Common.{◌≡◌, ◌⊎◌, ℕ, suc, ◌/◌, ◌%◌, ◌≤◌, inl, inr, refl, subst, sym, le_trans}
+use Rattle.std.proofs.Common.{◌≡◌, ◌≢◌, ◌⊎◌, ℕ, suc, ◌/◌, ◌%◌, ◌≤◌, inl, inr, ⊎_elim, refl, ap, ◌∙◌, subst, sym, arith, le_trans}
 use Rattle.lock_laws.specs.Paths.{Reach, here, there}
 use Rattle.lock_core.specs.Words.{Heap, to}
-use Rattle.lock_laws.specs.Invariant.{IsBefore, IsOrdered}
+use Rattle.lock_core.specs.Range.{Overlaps}
+use Rattle.lock_core.specs.declared.range.Mode.TheVariants.{Writer}
+use Rattle.lock_core.specs.Nodes.{Listed}
+use Rattle.lock_laws.specs.Invariant.{InChain, IsBefore, IsOrdered, IsWritten}
+use Rattle.lock_laws.proofs.Judging.{hi_is, writer_odd}
 use Rattle.lock_laws.proofs.Paths.{reach_on}
 
 -- of two nodes of one path, one is reached from the other
@@ -35,3 +39,16 @@ along h low q t order first (there {n = n} r) =
 pub clear_behind : (h : Heap) (w q t : ℕ) → IsOrdered h t → Reach (to h) w t → h.hi w % 2 ≡ 1 → Reach (to h) q (to h (suc w)) → h.hi w / 2 ≤ h.lo q
 clear_behind h w q t ordered at writer r =
     along h (h.hi w / 2) q (to h (suc w)) (λ x y s e. ordered.sorted x y (reach_on (to h) x w t at s) e) (λ n e. (ordered.sorted w n at e).clear writer) r
+
+-- an overlapping reader stands before the writer
+pub reader_first : (h : Heap) (r w : Listed) → IsOrdered h (to h 0) → InChain h r.node → InChain h w.node → IsWritten h r
+    → IsWritten h w → w.node ≢ r.node → w.mode ≡ Writer → Overlaps r.range w.range → Reach (to h) w.node (to h (suc r.node))
+reader_first h r w ordered at at' known known' apart writer over =
+    ⊎_elim (λ r. r)
+    (λ t. absurd (⊎_elim apart
+    (λ (b : Reach (to h) r.node (to h (suc w.node))).
+    let odd = ap (λ a. a % 2) known'.hi ∙ writer_odd w.range.hi w.mode writer in
+    let low = clear_behind h w.node r.node (to h 0) ordered at' odd b in
+    let hi = ap (λ a. a / 2) known'.hi ∙ hi_is w.range.hi w.mode in let lo = known.lo in let o = over.0 in omega arith)
+    t))
+    (in_line (to h) w.node r.node (to h 0) at' at)

@@ -9,16 +9,17 @@ use Rattle.lock_core.specs.declared.range.Mode.{Mode}
 use Rattle.lock_core.specs.declared.range.Mode.TheVariants.{Reader, Writer}
 use Rattle.lock_core.specs.declared.range.Held.{Held}
 use Rattle.lock_core.specs.declared.views.View.{View}
-use Rattle.lock_core.specs.declared.views.Todo.TheVariants.{Forward, FromHead, Done}
+use Rattle.lock_core.specs.declared.views.Todo.TheVariants.{Done}
 use Rattle.lock_core.specs.declared.views.Own.{Own}
-use Rattle.lock_core.specs.declared.views.Own.TheVariants.{Nothing, Filling, Linked}
+use Rattle.lock_core.specs.declared.views.Own.TheVariants.{Linked}
 use Rattle.lock_laws.specs.Paths.{Reach}
 use Rattle.lock_core.specs.Words.{Heap, to, hi_word}
 use Rattle.lock_core.specs.Nodes.{Listed, listed, own_times}
 use Rattle.lock_core.specs.Machine.{Machine, heap, held_at, held_by_seat}
 use Rattle.lock_laws.specs.Invariant.{IsViewOf, LockInvariant}
 use Rattle.lock_laws.specs.Laws.{IsLock}
-use Rattle.lock_laws.proofs.Along.{in_line, clear_behind}
+use Rattle.lock_laws.proofs.Along.{in_line, clear_behind, reader_first as linked_first}
+use Rattle.lock_laws.proofs.Frames.Seeing.{two_nodes}
 use Rattle.lock_core.proofs.Counts.{own_linked}
 use Rattle.lock_laws.proofs.Seats.{one_seat}
 
@@ -37,10 +38,6 @@ pub record Holding (own : Own) (g : Held) : Type 0 where
 
 -- an own node that holds a range is linked, has nothing left to do, and has that range and mode
 pub holding : (own : Own) (g : Held) → held_at own ≡ Some g → Holding own g
-holding Nothing g e = absurd (cc)
-holding (Filling node lo hi mode aimed) g e = absurd (cc)
-holding (Linked node range mode Forward) g e = absurd (cc)
-holding (Linked node range mode FromHead) g e = absurd (cc)
 holding (Linked node range mode Done) g e =
     let same : record { range = range; mode = mode } ≡ g = cc in
     record {
@@ -50,6 +47,7 @@ holding (Linked node range mode Done) g e =
       range = ap (λ (h : Held). h.range) same;
       mode = ap (λ (h : Held). h.mode) same;
     }
+holding _ g e = absurd (cc)
 
 -- the view of a seat that holds something
 pub holder : (views : List View) (a : ℕ) (g : Held) → get_elem? (map (λ (v : View). held_at v.own) views) a ≡ some (Some g)
@@ -105,17 +103,6 @@ pub reader_first : (m : Machine) (i j : ℕ) (v u : View) (r w : Listed) → IsL
     → slice_get m.views j ≡ Some u → v.own ≡ listed r → u.own ≡ listed w → r.mode ≡ Reader → w.mode ≡ Writer
     → Overlaps r.range w.range → Reach (to (heap m)) w.node (to (heap m) (suc r.node))
 reader_first m i j v u r w l at at' own own' reader writer over =
-    let p = l.invariant.places in
-    let wr = l.invariant.fields.linked i v r at own in let ww = l.invariant.fields.linked j u w at' own' in
-    let cr = (p.linked i v r at own).0 in let cw = (p.linked j u w at' own').0 in
-    let hr = wr.hi ∙ ap (hi_word r.range.hi) reader in let hw = ww.hi ∙ ap (hi_word w.range.hi) writer in
-    let low = wr.lo in let o = over.0 in
-    ⊎_elim
-    (λ (b : Reach (to (heap m)) w.node (to (heap m) (suc r.node))). b)
-    (λ (s : (w.node ≡ r.node) ⊎ Reach (to (heap m)) r.node (to (heap m) (suc w.node))). absurd (⊎_elim
-    (λ (e : w.node ≡ r.node). let same = ap (λ n. (heap m).hi n) e in omega arith)
-    (λ (b : Reach (to (heap m)) r.node (to (heap m) (suc w.node))). let q =
-    clear_behind (heap m) w.node r.node (to (heap m) 0) l.invariant.order.chain cw (omega arith) b in let k = over.1 in
-    omega arith)
-    s))
-    (in_line (to (heap m)) w.node r.node (to (heap m) 0) cw cr)
+    let p = l.invariant.places in let a = l.invariant.fields.linked i v r at own in let b = l.invariant.fields.linked j u w at' own' in
+    linked_first (heap m) r w l.invariant.order.chain (p.linked i v r at own).0 (p.linked j u w at' own').0 a b
+    (λ e. two_nodes (heap m) r w a b reader writer (sym e)) writer over

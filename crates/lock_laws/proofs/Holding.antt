@@ -1,6 +1,6 @@
 -- The held ranges after a step: only the stepping seat's may change, and by its own node alone.
 use Rattle.std.proofs.Common.{◌≡◌, ◌≢◌, eqb-true, ℕ, zero, suc, ◌-◌, ◌*◌, ◌+◌, Bool, true, false, List, [], ◌∷◌, map}
-use Rattle.std.proofs.Common.{set, Some, None, inl, inr, ⊎_elim, refl, sym, ap, ◌∙◌, subst}
+use Rattle.std.proofs.Common.{set, Some, None, inl, inr, ⊎_elim, refl, sym, ap, ◌∙◌}
 use Rattle.std.specs.Prelude.{slice_get, slice_index, Option, ◌==◌, if◌then◌else◌}
 use Rattle.std.proofs.lemmas.Bool.{eqb-false}
 use Rattle.std.proofs.lemmas.List.{map-set}
@@ -13,16 +13,15 @@ use Rattle.lock_core.specs.declared.views.Own.TheVariants.{Linked}
 use Rattle.lock_core.specs.declared.views.Todo.{Todo}
 use Rattle.lock_core.specs.declared.views.Todo.TheVariants.{Forward, FromHead, Done}
 use Rattle.lock_core.specs.declared.steps.Step.{Step}
-use Rattle.lock_core.specs.declared.steps.Step.TheVariants.{Link, Unlink, Mark, QuickLink, QuickUnlink}
+use Rattle.lock_core.specs.declared.steps.Step.TheVariants.{Walk, ReadHi, Link, Unlink, Mark, QuickLink, QuickUnlink}
 use Rattle.lock_core.specs.Words.{cell_place, cell_of}
 use Rattle.lock_core.specs.Nodes.{Listed, listed, listed_of}
 use Rattle.lock_core.specs.Views.{todo_of, own_at, dropped, unlinked, quick_linked, quick_unlinked}
 use Rattle.lock_core.specs.StepTable.{Plan, IsLine, link, unlink, mark, quick_link, quick_unlink}
 use Rattle.lock_core.specs.Machine.{Machine, carried_out, held_at, held_by_seat}
-use Rattle.lock_laws.specs.HeldSteps.{OwnHeld, HoldsOn, Gains, GivesBack, EachStep, Where, Arrives, FindsEmpty, StandsAlone, IsHolding, MayGiveBack}
+use Rattle.lock_laws.specs.HeldSteps.{OwnHeld, HoldsOn, Gains, GivesBack, Where, Arrives, FindsEmpty, StandsAlone, IsHolding, MayGiveBack}
 use Rattle.lock_core.proofs.ByView.{set_there, new_view, same_view}
 use Rattle.lock_laws.proofs.Coming.{CameHome, coming, done}
-use Rattle.lock_core.proofs.Stepping.{stepped}
 
 -- what a seat holds stands at its number
 pub held_there : (l : List View) (s : ℕ) (v : View) → slice_get l s ≡ Some v → slice_get (map (λ (u : View). held_at u.own) l) s ≡ Some (held_at v.own)
@@ -35,10 +34,6 @@ pub held_after : (m : Machine) (s : ℕ) (p : Plan)
     → held_by_seat (carried_out m s p) ≡ set (held_by_seat m) s (held_at (p.view (slice_index m.words p.place)).own)
 held_after m s p = map-set (λ (v : View). held_at v.own) m.views s (p.view (slice_index m.words p.place))
 
--- the outcomes of a step, as it is carried out
-abbrev pub Stays : Machine → Machine → ℕ → Type 0
-Stays m next s = HoldsOn m next
-
 -- the seat gains exactly where its validation comes to its end, and otherwise no grant changes
 abbrev pub Arrived : Machine → Machine → ℕ → Type 0
 Arrived m next s = Where (Arrives m next s) (Gains m next s) (HoldsOn m next)
@@ -47,14 +42,23 @@ Arrived m next s = Where (Arrives m next s) (Gains m next s) (HoldsOn m next)
 abbrev pub Arriving : Machine → ℕ → Plan → Type 0
 Arriving m s p = Arrived m (carried_out m s p) s
 
+-- what a step of each kind does to the held ranges, without that what it gains is free
+abbrev pub Does : Step → Machine → Machine → ℕ → Type 0
+Does Walk m next s = Arrived m next s
+Does ReadHi m next s = Arrived m next s
+Does Unlink m next s = Arrived m next s
+Does QuickLink m next s = Where (FindsEmpty m) (Gains m next s) (HoldsOn m next)
+Does Mark m next s = MayGiveBack (IsHolding m s) m next s
+Does QuickUnlink m next s = MayGiveBack (StandsAlone m s) m next s
+Does _ m next s = HoldsOn m next
+
 -- a linked node whose validation isn't done holds nothing
 pub undone : (k : Listed) → k.todo ≢ Done → held_at (listed k) ≡ None
 undone k d = by_todo k.todo d
   where
     by_todo : (t : Todo) → t ≢ Done → held_at (Linked k.node k.range k.mode t) ≡ None
-    by_todo Forward d = refl
-    by_todo FromHead d = refl
     by_todo Done d = absurd (d refl)
+    by_todo _ d = refl
 
 -- a validation that comes to its end wasn't done before
 pub came_undone : (own : Own) (w : ℕ) (c : CameHome own w (own_at own w)) → c.was.todo ≢ Done
@@ -117,7 +121,8 @@ module _ (m : Machine) (s : ℕ) (v : View) (at : slice_get m.views s ≡ Some v
     gains p (record { range = k.range; mode = k.mode }) (inl (k, own, refl)) (ap held_at own ∙ undone k todo) (ap held_at e),
   )
 
-  link_holds : (p : Plan) → IsLine m.seats s v Link p → HoldsOn m (carried_out m s p)
+  -- a Link changes no grant
+  pub link_holds : (p : Plan) → IsLine m.seats s v Link p → HoldsOn m (carried_out m s p)
   link_holds p (link f c lo hi eo ec el eh ea low place) = holds_on p (split (slice_index m.words (cell_place m.seats (cell_of c.prev)) == c.cur) f.mode)
     where
       split : (b : Bool) (mode : Mode)
@@ -127,7 +132,8 @@ module _ (m : Machine) (s : ℕ) (v : View) (at : slice_get m.views s ≡ Some v
       split true Reader = sym (ap held_at eo)
       split true Writer = sym (ap held_at eo)
 
-  unlink_gains : (p : Plan) → IsLine m.seats s v Unlink p → Arriving m s p
+  -- an Unlink gains exactly where it brings the own validation to its end
+  pub unlink_gains : (p : Plan) → IsLine m.seats s v Unlink p → Arriving m s p
   unlink_gains p (unlink c y n ec ey en odd empty) = split _ refl
     where
       split : (b : Bool) → (slice_index m.words (cell_place m.seats (cell_of c.prev)) == c.cur) ≡ b → Arriving m s p
@@ -139,7 +145,8 @@ module _ (m : Machine) (s : ℕ) (v : View) (at : slice_get m.views s ≡ Some v
           (ap (λ (b : Bool). (if b then unlinked v c y (n - 1) else dropped v).own) e ∙ q.now))
           (coming v.own (n - 1))
 
-  mark_gives_back : (p : Plan) → IsLine m.seats s v Mark p → MayGiveBack (IsHolding m s) m (carried_out m s p) s
+  -- a Mark gives back exactly where something is held
+  pub mark_gives_back : (p : Plan) → IsLine m.seats s v Mark p → MayGiveBack (IsHolding m s) m (carried_out m s p) s
   mark_gives_back p (mark k eo) = by_held (held_at v.own) refl
     where
       by_held : (o : Option Held) → held_at v.own ≡ o → MayGiveBack (IsHolding m s) m (carried_out m s p) s
@@ -150,7 +157,8 @@ module _ (m : Machine) (s : ℕ) (v : View) (at : slice_get m.views s ≡ Some v
       )
       by_held (Some h) e = inl ((h, held_there m.views s v at ∙ ap (λ (o : Option Held). Some o) e), gives_back p refl)
 
-  quick_link_gains : (p : Plan) → IsLine m.seats s v QuickLink p → Where (FindsEmpty m) (Gains m (carried_out m s p) s) (HoldsOn m (carried_out m s p))
+  -- a QuickLink gains exactly where the list is empty
+  pub quick_link_gains : (p : Plan) → IsLine m.seats s v QuickLink p → Where (FindsEmpty m) (Gains m (carried_out m s p) s) (HoldsOn m (carried_out m s p))
   quick_link_gains p (quick_link f lo hi eo el eh ea even) = split _ refl
     where
       split : (b : Bool) → (slice_index m.words 0 == 0) ≡ b → Where (FindsEmpty m) (Gains m (carried_out m s p) s) (HoldsOn m (carried_out m s p))
@@ -161,7 +169,8 @@ module _ (m : Machine) (s : ℕ) (v : View) (at : slice_get m.views s ≡ Some v
             (inr (f, lo, hi, eo, el, eh, refl)) (ap held_at eo) (view_is 0 0 (quick_linked v f.node lo hi f.mode) v true e),
       )
 
-  quick_unlink_gives_back : (p : Plan) → IsLine m.seats s v QuickUnlink p → MayGiveBack (StandsAlone m s) m (carried_out m s p) s
+  -- a QuickUnlink gives back exactly where the own node stands alone
+  pub quick_unlink_gives_back : (p : Plan) → IsLine m.seats s v QuickUnlink p → MayGiveBack (StandsAlone m s) m (carried_out m s p) s
   quick_unlink_gives_back p (quick_unlink k eo done empty) = split _ refl
     where
       split : (b : Bool) → (slice_index m.words 0 == 2 * suc k.node + 1) ≡ b → MayGiveBack (StandsAlone m s) m (carried_out m s p) s
@@ -177,29 +186,3 @@ module _ (m : Machine) (s : ℕ) (v : View) (at : slice_get m.views s ≡ Some v
         record { view = v; at = at; own = k; is = eo; head = eqb-true _ _ e },
         gives_back p (view_is 0 (2 * suc k.node + 1) (quick_unlinked v k.node) v true e),
       )
-
--- a law from what each line does
-pub each_line : (step : Step) (does : Machine → Machine → ℕ → Type 0)
-    → ((m : Machine) (s : ℕ) (v : View) → slice_get m.views s ≡ Some v → (p : Plan) → IsLine m.seats s v step p
-    → does m (carried_out m s p) s) → EachStep step does
-each_line step does lines m next s e = let t = stepped m next s step e in subst (λ (n : Machine). does m n s) t.is (lines m s t.view t.at t.plan t.line)
-
--- a Link changes no grant
-pub link_grants : EachStep Link Stays
-link_grants = each_line Link _ link_holds
-
--- an Unlink gains exactly where it brings the own validation to its end
-pub unlink_grants : EachStep Unlink Arrived
-unlink_grants = each_line Unlink _ unlink_gains
-
--- a Mark gives back exactly where something is held
-pub mark_grants : EachStep Mark (λ m next s. MayGiveBack (IsHolding m s) m next s)
-mark_grants = each_line Mark _ mark_gives_back
-
--- a QuickLink gains exactly where the list is empty
-pub quick_link_grants : EachStep QuickLink (λ m next s. Where (FindsEmpty m) (Gains m next s) (HoldsOn m next))
-quick_link_grants = each_line QuickLink _ quick_link_gains
-
--- a QuickUnlink gives back exactly where the own node stands alone
-pub quick_unlink_grants : EachStep QuickUnlink (λ m next s. MayGiveBack (StandsAlone m s) m next s)
-quick_unlink_grants = each_line QuickUnlink _ quick_unlink_gives_back

@@ -14,9 +14,7 @@ use Rattle.lock_laws.specs.Invariant.{IsBefore}
 -- of three tests that all hold each holds
 pub all_three : (a b c : Bool) → (a && b && c) ≡ true → (a ≡ true) × (b ≡ true) × (c ≡ true)
 all_three true true true e = (refl, refl, refl)
-all_three true true false e = absurd (cc)
-all_three true false c e = absurd (cc)
-all_three false b c e = absurd (cc)
+all_three _ _ _ e = absurd (cc)
 
 abbrev judged : Bool → Bool → Bool → Bool → Verdict
 judged a b c d = if a then Past else if b then Past else if c then Stop else if d then Stop else Conflict
@@ -29,11 +27,9 @@ judged_past false false false true e = absurd (cc)
 judged_past false false false false e = absurd (cc)
 
 judged_stop : (a b c d : Bool) → judged a b c d ≡ Stop → (c ≡ true) ⊎ (d ≡ true)
-judged_stop true b c d e = absurd (cc)
-judged_stop false true c d e = absurd (cc)
 judged_stop false false true d e = inl refl
 judged_stop false false false true e = inr refl
-judged_stop false false false false e = absurd (cc)
+judged_stop _ _ _ _ e = absurd (cc)
 
 reader_is : (m : Mode) → is_reader m ≡ true → m ≡ Reader
 reader_is Reader e = refl

@@ -6,7 +6,7 @@ use Rattle.lock_core.specs.Counted.{are_others_passed, times}
 use Rattle.lock_core.specs.declared.views.View.{View}
 use Rattle.lock_core.specs.declared.views.Cursor.{Cursor}
 use Rattle.lock_core.specs.declared.views.Own.{Own}
-use Rattle.lock_core.specs.declared.views.Own.TheVariants.{Nothing, Filling, Linked}
+use Rattle.lock_core.specs.declared.views.Own.TheVariants.{Filling}
 use Rattle.lock_core.specs.declared.compare.Verdict.{Verdict}
 use Rattle.lock_core.specs.declared.compare.Verdict.TheVariants.{Past, Stop, Conflict}
 use Rattle.lock_core.specs.declared.steps.Step.{Step}
@@ -14,8 +14,8 @@ use Rattle.lock_core.specs.declared.steps.Step.TheVariants.{ClearHome}
 use Rattle.lock_core.specs.Compare.{verdict_of}
 use Rattle.lock_core.specs.Views.{ready_left, released, is_passed, note_of, passes, noted, looked_at, came_home, walked}
 use Rattle.lock_core.specs.Views.{hi_judged, dropped, linked, todo_of, unlinked, quick_linked, quick_unlinked, settled}
-use Rattle.lock_core.specs.StepTable.{Plan, IsLine, enter, leave, read_epoch, read_home, give_home, fill_lo, fill_hi}
-use Rattle.lock_core.specs.StepTable.{aim, clear_home, walk, read_lo, read_hi, link, unlink, mark, quick_link}
+use Rattle.lock_core.specs.StepTable.{Plan, IsLine, leave, read_epoch, read_home}
+use Rattle.lock_core.specs.StepTable.{clear_home, walk, read_hi, link, unlink, quick_link}
 use Rattle.lock_core.specs.StepTable.{quick_unlink, settle}
 use Rattle.lock_core.specs.Machine.{Machine, after}
 use Rattle.lock_core.proofs.ByView.{set_view, same_view}
@@ -35,9 +35,8 @@ module _ (seats s x : ℕ) (v : View) where
   either false u w e e' = e'
 
   at_leave : (own : Own) → times x v.ready ≤ times x (ready_left own v.ready)
-  at_leave Nothing = same
   at_leave (Filling node lo hi mode aimed) = omega arith
-  at_leave (Linked node range mode todo) = same
+  at_leave _ = same
 
   at_note : (j w : ℕ) (note : Option ℕ) → (noted v j w note).ready ≡ v.ready
   at_note j w None = refl
@@ -76,7 +75,6 @@ module _ (seats s x : ℕ) (v : View) where
 
   -- a line leaves x as often ready as before, or is that of its ClearHome
   by_line : (step : Step) (p : Plan) (w : ℕ) → IsLine seats s v step p → times x (p.view w).ready < times x v.ready → step ≡ ClearHome x
-  by_line step p w (enter even hand) l = absurd (omega arith)
   by_line step p w (leave odd hand todo) l = absurd (let e = at_leave v.own in omega arith)
   by_line step p w (read_epoch j even homes less other) l =
       absurd (let r = ap (times x) (at_look j w) in
@@ -86,23 +84,18 @@ module _ (seats s x : ℕ) (v : View) where
       absurd (let e = either (w == 1) (if seats == 1 then released (came_home seats v n) else came_home seats v n) v
       (either (seats == 1) (released (came_home seats v n)) (came_home seats v n) (at_release (came_home seats v n) same)
       same) same in omega arith)
-  by_line step p w (give_home n hand) l = absurd (omega arith)
-  by_line step p w (fill_lo f lo own aimed cursor) l = absurd (omega arith)
-  by_line step p w (fill_hi f lo hi mode own low less most aimed cursor) l = absurd (omega arith)
-  by_line step p w (aim f lo hi a own low high at) l = absurd (omega arith)
   by_line step p w (clear_home n rest own even ready) l = ap (λ (m : ℕ). ClearHome m) (at_take n rest ready l)
   by_line step p w (walk cell odd hand at) l = absurd (let e = at_walk v.cursor w in omega arith)
-  by_line step p w (read_lo c y n cursor node next plain) l = absurd (omega arith)
   by_line step p w (read_hi c y n lo cursor node next plain low own) l = absurd (let e = at_judge c y n (verdict_of v.own lo w) in omega arith)
   by_line step p w (link f c lo hi own cursor low high aimed plain place) l =
       absurd (let e = either (w == c.cur) (linked v f.node lo hi f.mode (todo_of f.mode)) (dropped v) same same in omega arith)
   by_line step p w (unlink c y n cursor node next marked hand) l =
       absurd (let e = either (w == c.cur) (unlinked v c y (n - 1)) (dropped v) same same in omega arith)
-  by_line step p w (mark k own) l = absurd (omega arith)
   by_line step p w (quick_link f lo hi own low high aimed even) l =
       absurd (let e = either (w == 0) (quick_linked v f.node lo hi f.mode) v same same in omega arith)
   by_line step p w (quick_unlink k own done hand) l = absurd (let e = either (w == 2 * suc k.node + 1) (quick_unlinked v k.node) v same same in omega arith)
   by_line step p w (settle c cursor prev low) l = absurd (let e = either (w == c.cur) (settled v c) (dropped v) same same in omega arith)
+  by_line step p w _ l = absurd (omega arith)
 
 -- a node that is ready less often after a step was taken by its own seat's ClearHome
 pub leaves : (m next : Machine) (s i x : ℕ) (step : Step) (v u : View) → after m s step ≡ Some next → slice_get m.views i ≡ Some v

@@ -21,7 +21,9 @@ use Rattle.lock_core.proofs.Counts.{own_linked}
 use Rattle.lock_laws.proofs.Seats.{seat_is}
 use Rattle.lock_core.proofs.Words.{wrote_cell}
 use Rattle.lock_laws.proofs.PathSteps.{invariant_now}
-use Rattle.lock_laws.proofs.Exchanges.Dropping as D
+use Rattle.lock_laws.proofs.Exchanges.Putting.{Exchange}
+use Rattle.lock_laws.proofs.Frames.Parts.{parts_of, invariant_of}
+use Rattle.lock_laws.proofs.Exchanges.Dropping.{drops}
 use Rattle.lock_laws.proofs.Exchanges.Linking as L
 use Rattle.lock_laws.proofs.Exchanges.Unlinking as U
 use Rattle.lock_laws.proofs.Exchanges.Marking as M
@@ -53,7 +55,8 @@ same_holds m s v l at = subst (LockInvariant (heap m)) (sym (set_there m.views s
 
 -- the own view without its cursor
 pub dropped_holds : (m : Machine) (s : ℕ) (v : View) → IsLock m → IsViewOf m.views s v → Holds (state_after m m.words s (dropped v))
-dropped_holds m s v l at = invariant_now (heap m) (heap m) m.views s v (dropped v) _ _ _ (D.step (heap m) m.views s v l.invariant at)
+dropped_holds m s v l at =
+    invariant_of (heap m) (set m.views s (dropped v)) (drops (heap m) m.views s v (parts_of (heap m) m.views l.invariant) at)
 
 -- a node in a seat's lists is there
 pub node_there : (m : Machine) (i x : ℕ) (v : View) → IsLock m → IsViewOf m.views i v
@@ -71,8 +74,13 @@ module _ (m : Machine) (s : ℕ) (v : View) (l : IsLock m) (at : IsViewOf m.view
   abbrev wrote_at : ℕ → ℕ → Heap
   wrote_at p w = heap (state_after m (set m.words (cell_place m.seats p) w) s v)
 
-  epochs : (p w : ℕ) → cell_place m.seats p < length m.words → (i : ℕ) (u : View) → IsViewOf m.views i u → (wrote_at p w).epoch i ≡ (heap m).epoch i
-  epochs p w there i u e = (wrote_cell m.seats w m.words p there).epoch i (let a = slice_get_within m.views i u e in let b = l.sized.views in omega arith)
+  by : (p w : ℕ) → cell_place m.seats p < length m.words → Exchange m.seats (heap m) (wrote_at p w) m.views s v p w
+  by p w there = let wrote = wrote_cell m.seats w m.words p there in record {
+    invariant = l.invariant;
+    at = at;
+    epochs = λ i u e. wrote.epoch i (let a = slice_get_within m.views i u e in let b = l.sized.views in omega arith);
+    wrote = wrote;
+  }
 
   prev_there : (c : Cursor) → v.cursor ≡ Some c → cell_place m.seats (cell_of c.prev) < length m.words
   prev_there c e = cell_there m c.prev l.sized ((l.sized.each s v at).cursor c e).prev
@@ -88,20 +96,13 @@ module _ (m : Machine) (s : ℕ) (v : View) (l : IsLock m) (at : IsViewOf m.view
   pub link_holds : (p : Plan) → IsLine m.seats s v Link p → Holds (carried_out m s p)
   link_holds p (link f c lo hi eo ec el eh ea low place) =
       exchanged m s (cell_place m.seats (cell_of c.prev)) c.cur (2 * suc f.node) (linked v f.node lo hi f.mode (todo_of f.mode)) (dropped v)
-      (λ found. let there = prev_there c ec in let now : Heap = wrote_at (cell_of c.prev) (2 * suc f.node) in
-      invariant_now (heap m) now m.views s v _ _ _ _ (L.step m.seats (heap m) now m.views s v f c lo hi (record {
-        invariant = l.invariant;
-        at = at;
-        epochs = epochs (cell_of c.prev) (2 * suc f.node) there;
-        own = eo;
+      (λ found. invariant_now (heap m) (wrote_at (cell_of c.prev) (2 * suc f.node)) m.views s v _ _ _ _ (L.step (record {
+        into = record { by = by (cell_of c.prev) (2 * suc f.node) (prev_there c ec); own = eo; lo_is = el; hi_is = eh };
         cursor = ec;
-        lo_is = el;
-        hi_is = eh;
         aimed = ea;
         low = low;
         place = place;
         found = found;
-        wrote = wrote_cell m.seats (2 * suc f.node) m.words (cell_of c.prev) there;
       })))
       (dropped_holds m s v l at)
 
@@ -109,49 +110,31 @@ module _ (m : Machine) (s : ℕ) (v : View) (l : IsLock m) (at : IsViewOf m.view
   pub unlink_holds : (p : Plan) → IsLine m.seats s v Unlink p → Holds (carried_out m s p)
   unlink_holds p (unlink c y n ec ey en odd empty) =
       exchanged m s (cell_place m.seats (cell_of c.prev)) c.cur (n - 1) (unlinked v c y (n - 1)) (dropped v)
-      (λ found. let there = prev_there c ec in let now : Heap = wrote_at (cell_of c.prev) (n - 1) in
-      invariant_now (heap m) now m.views s v _ _ _ _ (U.step m.seats (heap m) now m.views s v c y n (record {
-        invariant = l.invariant;
-        at = at;
-        epochs = epochs (cell_of c.prev) (n - 1) there;
+      (λ found. invariant_now (heap m) (wrote_at (cell_of c.prev) (n - 1)) m.views s v _ _ _ _ (U.step (record {
+        by = by (cell_of c.prev) (n - 1) (prev_there c ec);
         cursor = ec;
         node = ey;
         next = en;
         marked = odd;
         empty = empty;
         found = found;
-        wrote = wrote_cell m.seats (n - 1) m.words (cell_of c.prev) there;
       })))
       (dropped_holds m s v l at)
 
   -- an enabled Mark of a lock leaves a state that meets the invariant
   pub mark_holds : (p : Plan) → IsLine m.seats s v Mark p → Holds (carried_out m s p)
-  mark_holds p (mark g eo) =
-      let there = own_there g eo in let w = (heap m).next (suc g.node) + 1 in let now : Heap = wrote_at (suc g.node) w in
-      invariant_now (heap m) now m.views s v _ _ _ _ (M.step m.seats (heap m) now m.views s v g (record {
-        invariant = l.invariant;
-        at = at;
-        epochs = epochs (suc g.node) w there;
-        own = eo;
-        wrote = wrote_cell m.seats w m.words (suc g.node) there;
-      }))
+  mark_holds p (mark g eo) = let w = (heap m).next (suc g.node) + 1 in
+      invariant_now (heap m) (wrote_at (suc g.node) w) m.views s v _ _ _ _ (M.step (record { by = by (suc g.node) w (own_there g eo); own = eo }))
 
   -- an enabled QuickLink of a lock leaves a state that meets the invariant
   pub quick_link_holds : (p : Plan) → IsLine m.seats s v QuickLink p → Holds (carried_out m s p)
-  quick_link_holds p (quick_link f lo hi eo el eh ea even) =
-      exchanged m s 0 0 (2 * suc f.node + 1) (quick_linked v f.node lo hi f.mode) v
-      (λ found. let w = 2 * suc f.node + 1 in let now : Heap = wrote_at 0 w in
-      invariant_now (heap m) now m.views s v _ _ _ _ (QL.step m.seats (heap m) now m.views s v f lo hi (record {
-        invariant = l.invariant;
-        at = at;
-        epochs = epochs 0 w head_there;
-        own = eo;
-        lo_is = el;
-        hi_is = eh;
+  quick_link_holds p (quick_link f lo hi eo el eh ea even) = let w = 2 * suc f.node + 1 in
+      exchanged m s 0 0 w (quick_linked v f.node lo hi f.mode) v
+      (λ found. invariant_now (heap m) (wrote_at 0 w) m.views s v _ _ _ _ (QL.step (record {
+        into = record { by = by 0 w head_there; own = eo; lo_is = el; hi_is = eh };
         aimed = ea;
         outside = even;
         found = found;
-        wrote = wrote_cell m.seats w m.words 0 head_there;
       })))
       (same_holds m s v l at)
 
@@ -159,14 +142,6 @@ module _ (m : Machine) (s : ℕ) (v : View) (l : IsLock m) (at : IsViewOf m.view
   pub quick_unlink_holds : (p : Plan) → IsLine m.seats s v QuickUnlink p → Holds (carried_out m s p)
   quick_unlink_holds p (quick_unlink g eo done empty) =
       exchanged m s 0 (2 * suc g.node + 1) 0 (quick_unlinked v g.node) v
-      (λ found. let now : Heap = wrote_at 0 0 in
-      invariant_now (heap m) now m.views s v _ _ _ _ (QU.step m.seats (heap m) now m.views s v g (record {
-        invariant = l.invariant;
-        at = at;
-        epochs = epochs 0 0 head_there;
-        own = eo;
-        empty = empty;
-        found = found;
-        wrote = wrote_cell m.seats 0 m.words 0 head_there;
-      })))
+      (λ found. invariant_now (heap m) (wrote_at 0 0) m.views s v _ _ _ _
+      (QU.step (record { by = by 0 0 head_there; own = eo; empty = empty; found = found })))
       (same_holds m s v l at)

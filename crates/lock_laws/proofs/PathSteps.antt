@@ -33,6 +33,12 @@ listed_one k g e =
 pub not_both : (h : Heap) (x : ℕ) → IsMarked h x → IsUnmarked h x → ⊥
 not_both h x m u = omega arith
 
+-- a view before the step is that of the stepping seat, or is there afterwards too
+pub forth : {P : Type 0} (views : List View) (s : ℕ) (v u : View) → IsViewOf views s v → (j : ℕ) (w : View) → IsViewOf views j w
+    → (IsViewOf (set views s u) s u → v ≡ w → P) → (j ≢ s → IsViewOf (set views s u) j w → P) → P
+forth views s v u at j w e mine other = ⊎_elim (λ (q : j ≡ s). mine (new_view views s u v at) (is_view views s j v w at e q))
+    (λ (d : j ≢ s). other d (kept_view views s j u w d e)) (cases_eq j s)
+
 -- what the step does to the paths: which nodes they gain and lose, and which node it marks
 pub record Change (h now : Heap) (Gained Lost Marked : ℕ → Type 0) : Type 0 where
   -- what a path has now it had before, or it is gained
@@ -72,6 +78,16 @@ pub record Fresh (c d : Cursor) : Type 0 where
   pub lo : d.lo ≡ None
   -- each target that it names was named by c
   pub names : (t : ℕ) → Names d t → Names c t
+
+-- of a cursor that knows nothing of its node what it knows is so
+pub nothing_read : (h : Heap) (d : Cursor) → d.next ≡ None → d.lo ≡ None → IsRead h d
+nothing_read h d a b = record {
+  next_node = λ n p. absurd (cc);
+  lo_node = λ n p. absurd (cc);
+  lo = λ n y p. absurd (cc);
+  marked = λ n p. absurd (cc);
+  next = λ n x p. absurd (cc);
+}
 
 -- a node that the paths gain: it was being filled in view v, and is linked in view w
 pub record IsNew (now : Heap) (v w : View) (x : ℕ) : Type 0 where
@@ -255,31 +271,20 @@ module _ (h now : Heap) (views : List View) (s : ℕ) (v w : View) (Gained Lost 
       })
 
   used_now : (x : ℕ) → IsUsed views x → IsUsed later x
-  used_now x a = by_seat (cases_eq a.seat s)
-    where
-      by_seat : (a.seat ≡ s) ⊎ (a.seat ≢ s) → IsUsed later x
-      by_seat (inl q) = record {
+  used_now x a = forth views s v w k.at a.seat a.view a.at
+      (λ at same. record {
         seat = s;
         view = w;
-        at = new_view views s w v k.at;
-        used =
-            let same = is_view views s a.seat v a.view k.at a.at q in
-            let e = ap (λ (z : View). times x z.used) same in let u = a.used in
-            let l = only_once h views places s x v k.at in let o = k.once x in let m = k.used_more x in omega arith;
-      }
-      by_seat (inr d) = record { seat = a.seat; view = a.view; at = kept_view views s a.seat w a.view d a.at; used = a.used }
+        at = at;
+        used = let e = ap (λ (z : View). times x z.used) same in let u = a.used in let l = only_once h views places s x v k.at in
+            let o = k.once x in let m = k.used_more x in omega arith;
+      })
+      (λ d at. record { seat = a.seat; view = a.view; at = at; used = a.used })
 
   hand_now : (x : ℕ) → InHand views x → InHand later x
-  hand_now x a = by_seat (cases_eq a.seat s)
-    where
-      by_seat : (a.seat ≡ s) ⊎ (a.seat ≢ s) → InHand later x
-      by_seat (inl q) = record {
-        seat = s;
-        view = w;
-        at = new_view views s w v k.at;
-        hand = k.hand_more x (ap (λ (z : View). z.hand) (is_view views s a.seat v a.view k.at a.at q) ∙ a.hand);
-      }
-      by_seat (inr d) = record { seat = a.seat; view = a.view; at = kept_view views s a.seat w a.view d a.at; hand = a.hand }
+  hand_now x a = forth views s v w k.at a.seat a.view a.at
+      (λ at same. record { seat = s; view = w; at = at; hand = k.hand_more x (ap (λ (z : View). z.hand) same ∙ a.hand) })
+      (λ d at. record { seat = a.seat; view = a.view; at = at; hand = a.hand })
 
   lost_in_hand : (x : ℕ) → Lost x → InHand later x
   lost_in_hand x l = record { seat = s; view = w; at = new_view views s w v k.at; hand = k.lost_hand x l }
@@ -347,17 +352,13 @@ module _ (h now : Heap) (views : List View) (s : ℕ) (v w : View) (Gained Lost 
   chain_place : (x : ℕ) → InChain now x → InChain h x → (IsMarked h x × IsUsed views x) ⊎ (IsUnmarked h x × IsLinked views x)
       → (IsMarked now x × IsUsed later x) ⊎ (IsUnmarked now x × IsLinked later x)
   chain_place x r o (inl t) = inl (marked_now x t.0, used_now x t.1)
-  chain_place x r o (inr t) = by_seat t.1 (cases_eq t.1.seat s)
-    where
-      by_seat : (a : IsLinked views x) → (a.seat ≡ s) ⊎ (a.seat ≢ s) → (IsMarked now x × IsUsed later x) ⊎ (IsUnmarked now x × IsLinked later x)
-      by_seat a (inl q) =
-          let own = ap (λ (z : View). z.own) (is_view views s a.seat v a.view k.at a.at q) ∙ a.is in
-          subst (λ n. (IsMarked now n × IsUsed later n) ⊎ (IsUnmarked now n × IsLinked later n)) a.node
-          (k.listed_was a.own own (subst (InChain now) (sym a.node) r))
-      by_seat a (inr d) = inr (
+  chain_place x r o (inr t) = let a = t.1 in forth views s v w k.at a.seat a.view a.at
+      (λ at same. subst (λ n. (IsMarked now n × IsUsed later n) ⊎ (IsUnmarked now n × IsLinked later n)) a.node
+      (k.listed_was a.own (ap (λ (z : View). z.own) same ∙ a.is) (subst (InChain now) (sym a.node) r)))
+      (λ d at. inr (
         ⊎_elim (λ (m : Marked x). absurd (k.apart a.seat a.view a.own d a.at a.is (inr (subst Marked (sym a.node) m)))) (λ u. u) (k.change.stays x t.0),
-        record { seat = a.seat; view = a.view; at = kept_view views s a.seat w a.view d a.at; own = a.own; is = a.is; node = a.node },
-      )
+        record { seat = a.seat; view = a.view; at = at; own = a.own; is = a.is; node = a.node },
+      ))
 
   abbrev hand_of : (x : ℕ) (c : InHand later x) (o : Old c.seat c.view) → o.view.hand ≡ Some x → InHand views x
   hand_of x c o e = record { seat = c.seat; view = o.view; at = o.at; hand = e }
@@ -479,15 +480,6 @@ module _ (h now : Heap) (views : List View) (s : ℕ) (v w : View) (Gained Lost 
           let m : IsMarked h y = ap (λ a. h.next a % 2) (sym z) ∙ ap (λ a. a % 2) (sym g) ∙ odd in
           g ∙ ap h.next z ∙ sym (marked_word y m) ∙ ap now.next (sym z)
 
-  fresh_read : (c d : Cursor) → Fresh c d → IsRead now d
-  fresh_read c d f = let a = f.next in let b = f.lo in record {
-    next_node = λ n p. absurd (cc);
-    lo_node = λ n p. absurd (cc);
-    lo = λ n y p. absurd (cc);
-    marked = λ n p. absurd (cc);
-    next = λ n x p. absurd (cc);
-  }
-
   no_cursor : (j : ℕ) (u : View) (o : Old j u) → o.view.cursor ≡ None → (q : Option Cursor) → u.cursor ≡ q → u.cursor ≡ None
   no_cursor j u o e None z = z
   no_cursor j u o e (Some d) z = absurd (let a = (o.from d z).is in cc)
@@ -506,7 +498,8 @@ module _ (h now : Heap) (views : List View) (s : ℕ) (v w : View) (Gained Lost 
         (λ j u d e g own. let a = k.invariant.fields.linked j u g e own in
         record { lo = k.change.lo g.node ∙ a.lo; hi = k.change.hi g.node ∙ a.hi }) i u e g own;
     cursor = λ i u d e q. let o = old i u e in let f = o.from d q in
-        ⊎_elim (λ (z : f.cursor ≡ d). subst (IsRead now) z (read_now i o.view f.cursor o.at f.is)) (fresh_read f.cursor d) f.way;
+        ⊎_elim (λ (z : f.cursor ≡ d). subst (IsRead now) z (read_now i o.view f.cursor o.at f.is))
+        (λ (z : Fresh f.cursor d). nothing_read now d z.next z.lo) f.way;
     even = λ i u e z. let o = old i u e in no_cursor i u o (k.invariant.fields.even i o.view o.at (subst (λ a. a % 2 ≡ 0) o.epoch z)) u.cursor refl;
     chain_range = λ x r. ⊎_elim (λ (g : Gained x). (k.gained x g).range)
         (λ (o : InChain h x). range_now x (k.invariant.fields.chain_range x o)) (chain_adds x r);

@@ -49,83 +49,73 @@ module _ (to now : ℕ → ℕ) (T : ℕ → Type 0) (others : (n : ℕ) → (T 
   keeps_ends t far end = end
   keeps_ends t far (on {n = n} r) = on (subst (PathEnds now) (sym (others n (λ q. far n q here))) (keeps_ends (to (suc n)) (λ y q s. far y q (there s)) r))
 
--- all paths do where no target changes
-module _ (to now : ℕ → ℕ) (same : (c : ℕ) → now c ≡ to c) where
-  -- what is reached stays reached
-  pub reach_same : (x t : ℕ) → Reach to x t → Reach now x t
-  reach_same x t r = keeps_reach to now (λ _. ⊥) (λ n d. same (suc n)) x t (λ y never. absurd never) r
+-- node o, whose next word names what cell p named, is put behind that cell
+pub record Puts (to now : ℕ → ℕ) (p o : ℕ) : Type 0 where
+  -- no other cell changes
+  pub others : (c : ℕ) → c ≢ p → now c ≡ to c
+  -- node o named what the cell names
+  pub was : to (suc o) ≡ to p
+  -- afterwards the cell names node o
+  pub is : now p ≡ suc o
+  -- the cell isn't that of node o
+  pub apart : suc o ≢ p
 
-  -- a path that ends goes on ending
-  pub ends_same : (t : ℕ) → PathEnds to t → PathEnds now t
-  ends_same t e = keeps_ends to now (λ _. ⊥) (λ n d. same (suc n)) t (λ y never. absurd never) e
-
--- node o, whose next word names the target c, is put behind cell p, which named c
-module _ (to now : ℕ → ℕ) (p o : ℕ) (others : (c : ℕ) → c ≢ p → now c ≡ to c) (was : to (suc o) ≡ to p) (is : now p ≡ suc o) (apart : suc o ≢ p) where
+module _ {to now : ℕ → ℕ} {p o : ℕ} (put : Puts to now p o) where
   own : now (suc o) ≡ to p
-  own = others (suc o) apart ∙ was
+  own = put.others (suc o) put.apart ∙ put.was
+
+  -- from what a cell named, to what it names
+  keep_at : (x k : ℕ) → Reach now x (to k) → Reach now x (now k)
+  keep_at x k r =
+      ⊎_elim
+      (λ (e : k ≡ p). subst (Reach now x) (sym (ap now e ∙ put.is)) (there (subst (Reach now x) (ap to e ∙ sym own) r)))
+      (λ (d : k ≢ p). subst (Reach now x) (sym (put.others k d)) r)
+      (cases_eq k p)
 
   -- what was in a path still is
   pub put_keeps : (x t : ℕ) → Reach to x t → Reach now x t
   put_keeps x t here = here
-  put_keeps x t (there {n = n} r) =
-      let ih = put_keeps x (to (suc n)) r in
+  put_keeps x t (there {n = n} r) = there (keep_at x (suc n) (put_keeps x (to (suc n)) r))
+
+  -- and from what a cell names, to what it named
+  add_at : (x k : ℕ) → Reach to x (now k) → (x ≡ o) ⊎ Reach to x (to k)
+  add_at x k r =
       ⊎_elim
-      (λ (e : suc n ≡ p). there (subst (Reach now x) (sym (ap now e ∙ is)) (there (subst (Reach now x) (ap to e ∙ sym own) ih))))
-      (λ (d : suc n ≢ p). there (subst (Reach now x) (sym (others (suc n) d)) ih))
-      (cases_eq (suc n) p)
+      (λ (e : k ≡ p). ⊎_elim inl (λ (far : Reach to x (to (suc o))). inr (subst (Reach to x) (put.was ∙ sym (ap to e)) far))
+      (unreach to x o (subst (Reach to x) (ap now e ∙ put.is) r)))
+      (λ (d : k ≢ p). inr (subst (Reach to x) (put.others k d) r))
+      (cases_eq k p)
 
   -- what is in a path is o or was in it
   pub put_adds : (x t : ℕ) → Reach now x t → (x ≡ o) ⊎ Reach to x t
   put_adds x t here = inr here
-  put_adds x t (there {n = n} r) =
-      let ih = put_adds x (now (suc n)) r in
-      ⊎_elim inl
-      (λ (old : Reach to x (now (suc n))).
+  put_adds x t (there {n = n} r) = ⊎_elim inl
+      (λ (old : Reach to x (now (suc n))). ⊎_elim inl (λ (b : Reach to x (to (suc n))). inr (there b)) (add_at x (suc n) old))
+      (put_adds x (now (suc n)) r)
+
+  end_at : (k : ℕ) → PathEnds now (to k) → PathEnds now (now k)
+  end_at k r =
       ⊎_elim
-      (λ (e : suc n ≡ p). ⊎_elim inl (λ (far : Reach to x (to (suc o))). inr
-      (there (subst (Reach to x) (was ∙ sym (ap to e)) far))) (unreach to x o (subst (Reach to x) (ap now e ∙ is) old)))
-      (λ (d : suc n ≢ p). inr (there (subst (Reach to x) (others (suc n) d) old)))
-      (cases_eq (suc n) p))
-      ih
+      (λ (e : k ≡ p). subst (PathEnds now) (sym (ap now e ∙ put.is)) (on (subst (PathEnds now) (ap to e ∙ sym own) r)))
+      (λ (d : k ≢ p). subst (PathEnds now) (sym (put.others k d)) r)
+      (cases_eq k p)
 
   -- a path that ended still ends
   pub put_ends : (t : ℕ) → PathEnds to t → PathEnds now t
   put_ends t end = end
-  put_ends t (on {n = n} r) =
-      let ih = put_ends (to (suc n)) r in
-      ⊎_elim
-      (λ (e : suc n ≡ p). on (subst (PathEnds now) (sym (ap now e ∙ is)) (on (subst (PathEnds now) (ap to e ∙ sym own) ih))))
-      (λ (d : suc n ≢ p). on (subst (PathEnds now) (sym (others (suc n) d)) ih))
-      (cases_eq (suc n) p)
+  put_ends t (on {n = n} r) = on (end_at (suc n) (put_ends (to (suc n)) r))
 
   -- the same from a cell
   pub put_keeps_from : (x k : ℕ) → Reach to x (to k) → Reach now x (now k)
-  put_keeps_from x k r =
-      let on_p = put_keeps x (to k) r in
-      ⊎_elim
-      (λ (e : k ≡ p). subst (Reach now x) (sym (ap now e ∙ is)) (there (subst (Reach now x) (ap to e ∙ sym own) on_p)))
-      (λ (d : k ≢ p). subst (Reach now x) (sym (others k d)) on_p)
-      (cases_eq k p)
+  put_keeps_from x k r = keep_at x k (put_keeps x (to k) r)
 
   -- what a cell's path has now is o, or it had it before
   pub put_adds_from : (x k : ℕ) → Reach now x (now k) → (x ≡ o) ⊎ Reach to x (to k)
-  put_adds_from x k r =
-      ⊎_elim inl
-      (λ (old : Reach to x (now k)).
-      ⊎_elim
-      (λ (e : k ≡ p). ⊎_elim inl (λ (far : Reach to x (to (suc o))). inr (subst (Reach to x) (was ∙ sym (ap to e)) far))
-      (unreach to x o (subst (Reach to x) (ap now e ∙ is) old)))
-      (λ (d : k ≢ p). inr (subst (Reach to x) (others k d) old))
-      (cases_eq k p))
-      (put_adds x (now k) r)
+  put_adds_from x k r = ⊎_elim inl (add_at x k) (put_adds x (now k) r)
 
   -- a cell's path that ended still ends
   pub put_ends_from : (k : ℕ) → PathEnds to (to k) → PathEnds now (now k)
-  put_ends_from k r =
-      ⊎_elim
-      (λ (e : k ≡ p). subst (PathEnds now) (sym (ap now e ∙ is)) (on (subst (PathEnds now) (ap to e ∙ sym own) (put_ends (to k) r))))
-      (λ (d : k ≢ p). subst (PathEnds now) (sym (others k d)) (put_ends (to k) r))
-      (cases_eq k p)
+  put_ends_from k r = end_at k (put_ends (to k) r)
 
   -- o is reached only through p
   pub put_via : (t : ℕ) → Reach now o t → Reach to o t ⊎ (q : ℕ) × (p ≡ suc q) × Reach to q t
@@ -136,53 +126,59 @@ module _ (to now : ℕ → ℕ) (p o : ℕ) (others : (c : ℕ) → c ≢ p → 
       (λ (e : suc n ≡ p). inr (n, sym e, here))
       (λ (d : suc n ≢ p).
       ⊎_elim
-      (λ (old : Reach to o (now (suc n))). inl (there (subst (Reach to o) (others (suc n) d) old)))
-      (λ (by : (q : ℕ) × (p ≡ suc q) × Reach to q (now (suc n))). inr (by.0, by.1, there (subst (Reach to by.0) (others (suc n) d) by.2)))
+      (λ (old : Reach to o (now (suc n))). inl (there (subst (Reach to o) (put.others (suc n) d) old)))
+      (λ (by : (q : ℕ) × (p ≡ suc q) × Reach to q (now (suc n))). inr (by.0, by.1, there (subst (Reach to by.0) (put.others (suc n) d) by.2)))
       ih)
       (cases_eq (suc n) p)
 
--- node c, which cell p named, is taken out: p names what c names. Read backwards, c is put behind p
-module _ (to now : ℕ → ℕ) (p c : ℕ) (others : (k : ℕ) → k ≢ p → now k ≡ to k) (was : to p ≡ suc c) (is : now p ≡ to (suc c)) (apart : suc c ≢ p) where
-  back : (k : ℕ) → k ≢ p → to k ≡ now k
-  back k d = sym (others k d)
+-- node c, which cell p named, is taken out: p names what c names
+pub record Cuts (to now : ℕ → ℕ) (p c : ℕ) : Type 0 where
+  -- no other cell changes
+  pub others : (k : ℕ) → k ≢ p → now k ≡ to k
+  -- the cell named node c
+  pub was : to p ≡ suc c
+  -- afterwards it names what node c names
+  pub is : now p ≡ to (suc c)
+  -- the cell isn't that of node c
+  pub apart : suc c ≢ p
 
-  next : now (suc c) ≡ now p
-  next = others (suc c) apart ∙ sym is
+module _ {to now : ℕ → ℕ} {p c : ℕ} (cut : Cuts to now p c) where
+  -- read backwards, node c is put behind the cell
+  back : Puts now to p c
+  back = record { others = λ k d. sym (cut.others k d); was = cut.others (suc c) cut.apart ∙ sym cut.is; is = cut.was; apart = cut.apart }
 
   -- what was in a path is c, or still is in it
   pub cut_keeps : (x t : ℕ) → Reach to x t → (x ≡ c) ⊎ Reach now x t
-  cut_keeps = put_adds now to p c back next was apart
+  cut_keeps = put_adds back
 
   -- what is in a path was in it
   pub cut_adds : (x t : ℕ) → Reach now x t → Reach to x t
-  cut_adds = put_keeps now to p c back next was apart
+  cut_adds = put_keeps back
 
   -- what was in a cell's path is c, or still is in it
   pub cut_keeps_from : (x k : ℕ) → Reach to x (to k) → (x ≡ c) ⊎ Reach now x (now k)
-  cut_keeps_from = put_adds_from now to p c back next was apart
+  cut_keeps_from = put_adds_from back
 
   -- what is in a cell's path was in it
   pub cut_adds_from : (x k : ℕ) → Reach now x (now k) → Reach to x (to k)
-  cut_adds_from = put_keeps_from now to p c back next was apart
+  cut_adds_from = put_keeps_from back
+
+  cut_at : (k : ℕ) → PathEnds now (to k) → PathEnds now (now k)
+  cut_at k r =
+      ⊎_elim
+      (λ (e : k ≡ p).
+      subst (PathEnds now) (cut.others (suc c) cut.apart ∙ sym (ap now e ∙ cut.is)) (unends now c (subst (PathEnds now) (ap to e ∙ cut.was) r)))
+      (λ (d : k ≢ p). subst (PathEnds now) (sym (cut.others k d)) r)
+      (cases_eq k p)
 
   -- a path that ended still ends
   pub cut_ends : (t : ℕ) → PathEnds to t → PathEnds now t
   cut_ends t end = end
-  cut_ends t (on {n = n} r) =
-      let ih = cut_ends (to (suc n)) r in
-      ⊎_elim
-      (λ (e : suc n ≡ p). on (subst (PathEnds now) (others (suc c) apart ∙ sym (ap now e ∙ is)) (unends now c (subst (PathEnds now) (ap to e ∙ was) ih))))
-      (λ (d : suc n ≢ p). on (subst (PathEnds now) (sym (others (suc n) d)) ih))
-      (cases_eq (suc n) p)
+  cut_ends t (on {n = n} r) = on (cut_at (suc n) (cut_ends (to (suc n)) r))
 
   -- the same from a cell
   pub cut_ends_from : (k : ℕ) → PathEnds to (to k) → PathEnds now (now k)
-  cut_ends_from k r =
-      let new = cut_ends (to k) r in
-      ⊎_elim
-      (λ (e : k ≡ p). subst (PathEnds now) (others (suc c) apart ∙ sym (ap now e ∙ is)) (unends now c (subst (PathEnds now) (ap to e ∙ was) new)))
-      (λ (d : k ≢ p). subst (PathEnds now) (sym (others k d)) new)
-      (cases_eq k p)
+  cut_ends_from k r = cut_at k (cut_ends (to k) r)
 
   -- c is gone from a path that ends and has p in it
   pub cut_gone : (q t : ℕ) → p ≡ suc q → PathEnds to t → Reach to q t → Reach now c t → ⊥
@@ -193,17 +189,18 @@ module _ (to now : ℕ → ℕ) (p c : ℕ) (others : (k : ℕ) → k ≢ p → 
       let t' : PathEnds to (suc c) = on (subst (λ a. PathEnds to (to (suc a))) (sym s) e') in
       let has' : Reach to q (suc c) = subst (λ a. Reach to q (suc a)) (sym s) has in
       ⊎_elim
-      (λ (s : q ≡ c). apart (ap suc (sym s) ∙ sym e))
-      (λ (s : Reach to q (to (suc c))). no_cycle to c (suc c) t' here (reach_on to c q (to (suc c)) s (subst (Reach to c) (sym (ap to (sym e) ∙ was)) here)))
+      (λ (s : q ≡ c). cut.apart (ap suc (sym s) ∙ sym e))
+      (λ (s : Reach to q (to (suc c))). no_cycle to c (suc c) t' here
+      (reach_on to c q (to (suc c)) s (subst (Reach to c) (sym (ap to (sym e) ∙ cut.was)) here)))
       (unreach to q c has'))
       (λ (far : Reach now c (now (suc n))).
       ⊎_elim
-      (λ (s : suc n ≡ p). no_cycle to c (suc n) (on e') (there (subst (Reach to c) (sym (ap to s ∙ was)) here))
-      (cut_adds c (to (suc c)) (subst (Reach now c) (ap now s ∙ is) far)))
+      (λ (s : suc n ≡ p). no_cycle to c (suc n) (on e') (there (subst (Reach to c) (sym (ap to s ∙ cut.was)) here))
+      (cut_adds c (to (suc c)) (subst (Reach now c) (ap now s ∙ cut.is) far)))
       (λ (d : suc n ≢ p).
       ⊎_elim
       (λ (s : q ≡ n). d (ap suc (sym s) ∙ sym e))
-      (λ (s : Reach to q (to (suc n))). cut_gone q (to (suc n)) e e' s (subst (Reach now c) (others (suc n) d) far))
+      (λ (s : Reach to q (to (suc n))). cut_gone q (to (suc n)) e e' s (subst (Reach now c) (cut.others (suc n) d) far))
       (unreach to q n has))
       (cases_eq (suc n) p))
       (unreach now c n r)

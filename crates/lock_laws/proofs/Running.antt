@@ -2,51 +2,21 @@
 use Rattle.std.proofs.Common.{◌≡◌, ℕ, List, [], ◌∷◌, refl, subst}
 use Rattle.std.specs.Prelude.{Option, Some, None, unwrap_or}
 use Rattle.lock_core.specs.declared.steps.Step.{Step}
-use Rattle.lock_core.specs.declared.steps.Step.TheVariants.{Enter, Leave, ReadEpoch, ReadHome, GiveHome, FillLo, FillHi}
-use Rattle.lock_core.specs.declared.steps.Step.TheVariants.{Aim, ClearHome, Walk, ReadLo, ReadHi, Link, Unlink, Mark}
-use Rattle.lock_core.specs.declared.steps.Step.TheVariants.{QuickLink, QuickUnlink, Settle}
-use Rattle.lock_core.specs.declared.views.View.{View}
-use Rattle.lock_core.specs.StepTable.{Plan, IsLine}
-use Rattle.lock_core.specs.Machine.{Machine, carried_out, after, after_or_same, run, start, held_by_seat}
+use Rattle.lock_core.specs.Machine.{Machine, after, after_or_same, run, start, held_by_seat}
 use Rattle.lock_core.proofs.Stepping.{stepped}
 use Rattle.lock_core.proofs.SizedSteps.{sized_after}
-use Rattle.lock_laws.specs.Invariant.{IsViewOf}
 use Rattle.lock_laws.specs.Laws.{IsLock, Keeps, RunsAreExclusive, RunsGrantApart, RunsHaveNoReuse}
 use Rattle.lock_laws.proofs.Exclusion.{exclusive}
 use Rattle.lock_laws.proofs.Listing.{listed_apart}
-use Rattle.lock_laws.proofs.PathLaws.{Holds, link_holds, unlink_holds, mark_holds, quick_link_holds, quick_unlink_holds}
+use Rattle.lock_laws.proofs.PathLaws.{Holds}
+use Rattle.lock_laws.proofs.WordLaws.{line_holds}
 use Rattle.lock_laws.proofs.Starting.{start_lock}
-use Rattle.lock_laws.proofs.WordLaws.{enter_holds, leave_holds, read_epoch_holds, read_home_holds, give_home_holds}
-use Rattle.lock_laws.proofs.WordLaws.{fill_lo_holds, fill_hi_holds, aim_holds, clear_home_holds, walk_holds}
-use Rattle.lock_laws.proofs.WordLaws.{read_lo_holds, read_hi_holds, settle_holds}
 
--- each line of the step table leads from a lock to the invariant
-line_holds : (step : Step) (m : Machine) (s : ℕ) (v : View) → IsLock m → IsViewOf m.views s v → (p : Plan)
-    → IsLine m.seats s v step p → Holds (carried_out m s p)
-line_holds Enter m s v l at = enter_holds m s v l at
-line_holds Leave m s v l at = leave_holds m s v l at
-line_holds (ReadEpoch j) m s v l at = read_epoch_holds m s v l at j
-line_holds (ReadHome n) m s v l at = read_home_holds m s v l at n
-line_holds GiveHome m s v l at = give_home_holds m s v l at
-line_holds (FillLo lo) m s v l at = fill_lo_holds m s v l at lo
-line_holds (FillHi hi mode) m s v l at = fill_hi_holds m s v l at hi mode
-line_holds Aim m s v l at = aim_holds m s v l at
-line_holds (ClearHome n) m s v l at = clear_home_holds m s v l at n
-line_holds Walk m s v l at = walk_holds m s v l at
-line_holds ReadLo m s v l at = read_lo_holds m s v l at
-line_holds ReadHi m s v l at = read_hi_holds m s v l at
-line_holds Link m s v l at = link_holds m s v l at
-line_holds Unlink m s v l at = unlink_holds m s v l at
-line_holds Mark m s v l at = mark_holds m s v l at
-line_holds QuickLink m s v l at = quick_link_holds m s v l at
-line_holds QuickUnlink m s v l at = quick_unlink_holds m s v l at
-line_holds Settle m s v l at = settle_holds m s v l at
-
--- and every step keeps the sizes
+-- every step keeps the invariant and the sizes
 pub every_step_keeps : (step : Step) → Keeps step
 every_step_keeps step m next s l e = let t = stepped m next s step e in record {
   sized = sized_after m next s step l.sized e;
-  invariant = subst Holds t.is (line_holds step m s t.view l t.at t.plan t.line);
+  invariant = subst Holds t.is (line_holds m s t.view l t.at step t.plan t.line);
 }
 
 -- a lock stays one by a step, enabled or not

@@ -1,20 +1,18 @@
--- The steps that change no path, whole: from a lock, each where it is enabled, to a lock.
+-- The steps, whole: from a lock, each where it is enabled, to a lock. Those that change no path stand here.
 use Rattle.std.proofs.Common.{◌≡◌, ℕ, suc, ◌+◌, ◌-◌, ◌/◌, ◌%◌, ◌<◌, ◌≤◌, Bool, true, false, List, length, Some, None}
 use Rattle.std.proofs.Common.{refl, sym, ap, ◌∙◌, subst, arith, eqb-true, eq-eqb}
 use Rattle.std.specs.Prelude.{slice_set, slice_index, option_map, Option, ◌==◌, if◌then◌else◌}
 use Rattle.std.proofs.lemmas.List.{set-get_or}
 use Rattle.std.proofs.lemmas.Option.{slice_get_within}
 use Rattle.lock_core.specs.Counted.{times}
-use Rattle.lock_core.specs.declared.range.Mode.{Mode}
 use Rattle.lock_core.specs.declared.views.View.{View}
 use Rattle.lock_core.specs.declared.views.Cursor.{Cursor}
-use Rattle.lock_core.specs.declared.steps.Step.TheVariants.{Enter, Leave, ReadEpoch, ReadHome, GiveHome, FillLo, FillHi}
-use Rattle.lock_core.specs.declared.steps.Step.TheVariants.{Aim, ClearHome, Walk, ReadLo, ReadHi, Settle}
+use Rattle.lock_core.specs.declared.steps.Step.{Step}
 use Rattle.lock_core.specs.Words.{Heap, heap_of, cell_of, cell_place, epoch_place, lo_place, hi_place, home_place, plain_node_of}
 use Rattle.lock_core.specs.Nodes.{Filled, filling, own_times}
 use Rattle.lock_core.specs.Views.{next_epoch, epoch_read, home_read, lo_read, hi_read, walk_cell, walked, start_of, dropped, settled}
 use Rattle.lock_core.specs.StepTable.{Plan, IsLine, loads, enter, leave, read_epoch, read_home, give_home, fill_lo}
-use Rattle.lock_core.specs.StepTable.{fill_hi, aim, clear_home, walk, read_lo, read_hi, settle}
+use Rattle.lock_core.specs.StepTable.{fill_hi, aim, clear_home, walk, read_lo, read_hi, settle, link, unlink, mark, quick_link, quick_unlink}
 use Rattle.lock_core.specs.Machine.{Machine, heap, carried_out}
 use Rattle.lock_core.specs.Sizes.{IsNode}
 use Rattle.lock_laws.specs.Invariant.{IsViewOf}
@@ -32,7 +30,8 @@ use Rattle.lock_laws.proofs.WordSteps.FillSteps.{fills_lo, fills_hi, aims_at}
 use Rattle.lock_laws.proofs.WordSteps.Walking.{begins}
 use Rattle.lock_laws.proofs.WordSteps.Reading.{loads_next, reads_lo}
 use Rattle.lock_laws.proofs.WordSteps.Judged.{judges}
-use Rattle.lock_laws.proofs.PathLaws.{Holds, dropped_holds, node_there}
+use Rattle.lock_laws.proofs.PathLaws.{Holds, node_there, link_holds, unlink_holds, mark_holds, quick_link_holds, quick_unlink_holds}
+use Rattle.lock_laws.proofs.Exchanges.Dropping.{drops}
 use Rattle.lock_laws.proofs.WordSteps.Settling.{settles}
 
 -- a word without low bit that names a node
@@ -68,80 +67,44 @@ module _ (m : Machine) (s : ℕ) (v : View) (l : IsLock m) (at : IsViewOf m.view
   epoch_there : epoch_place s < length m.words
   epoch_there = let a = seat_there in let b = l.sized.words in omega (arith, a, b)
 
-  lo_there : (x : ℕ) → IsNode m.seats x → lo_place m.seats x < length m.words
-  lo_there x n = let b = l.sized.words in omega (arith, n, b)
-
-  hi_there : (x : ℕ) → IsNode m.seats x → hi_place m.seats x < length m.words
-  hi_there x n = let b = l.sized.words in omega (arith, n, b)
-
   home_there : (x : ℕ) → IsNode m.seats x → home_place m.seats x < length m.words
   home_there x n = let b = l.sized.words in omega (arith, n, b)
 
-  cell_there : (x : ℕ) → IsNode m.seats x → cell_place m.seats (suc x) < length m.words
-  cell_there x n = let b = l.sized.words in omega (arith, n, b)
-
-  -- an enabled Enter of a lock leaves a state that meets the invariant
-  pub enter_holds : (p : Plan) → IsLine m.seats s v Enter p → Holds (carried_out m s p)
-  enter_holds p (enter even hand) =
+  -- an enabled step of a lock, of each kind, leaves a state that meets the invariant
+  pub line_holds : (step : Step) (p : Plan) → IsLine m.seats s v step p → Holds (carried_out m s p)
+  line_holds step p (enter even hand) =
       by_parts p
       (enters h _ m.views s v parts at even (wrote_epoch m.seats (next_epoch (h.epoch s)) m.words s seat_there epoch_there))
-
-  -- an enabled Leave of a lock leaves a state that meets the invariant
-  pub leave_holds : (p : Plan) → IsLine m.seats s v Leave p → Holds (carried_out m s p)
-  leave_holds p (leave odd hand done) =
+  line_holds step p (leave odd hand done) =
       by_parts p
       (leaves h _ m.views s v parts at done (wrote_epoch m.seats (next_epoch (h.epoch s)) m.words s seat_there epoch_there))
-
-  -- an enabled ReadEpoch of a lock leaves a state that meets the invariant
-  pub read_epoch_holds : (j : ℕ) (p : Plan) → IsLine m.seats s v (ReadEpoch j) p → Holds (carried_out m s p)
-  read_epoch_holds _ p (read_epoch j even homes less other) =
+  line_holds step p (read_epoch j even homes less other) =
       by_load (epoch_place j) (epoch_read s v j)
       (reads_epoch h m.views s j v parts at even ((looked_sized m.seats s v j (h.epoch j) (l.sized.each s v at)).passed ∙ sym l.sized.views))
-
-  -- an enabled ReadHome of a lock leaves a state that meets the invariant
-  pub read_home_holds : (n : ℕ) (p : Plan) → IsLine m.seats s v (ReadHome n) p → Holds (carried_out m s p)
-  read_home_holds _ p (read_home n even used homes) =
+  line_holds step p (read_home n even used homes) =
       by_load (home_place m.seats n) (home_read m.seats v n)
       (reads_home h m.views s n m.seats v parts at even used homes l.sized.views)
-
-  -- an enabled GiveHome of a lock leaves a state that meets the invariant
-  pub give_home_holds : (p : Plan) → IsLine m.seats s v GiveHome p → Holds (carried_out m s p)
-  give_home_holds p (give_home n hand) =
+  line_holds step p (give_home n hand) =
       by_parts p
       (gives_home m.seats h _ m.views s n v seats parts at hand (wrote_home m.seats 1 m.words n (home_there n ((l.sized.each s v at).hand n hand))))
-
-  -- an enabled ClearHome of a lock leaves a state that meets the invariant
-  pub clear_home_holds : (n : ℕ) (p : Plan) → IsLine m.seats s v (ClearHome n) p → Holds (carried_out m s p)
-  clear_home_holds _ p (clear_home n rest own even ready) =
+  line_holds step p (clear_home n rest own even ready) =
       by_parts p
       (clears_home m.seats h _ m.views s n rest v seats parts at own even ready (wrote_home m.seats 0 m.words n (home_there n (node_there m s n v l at first))))
     where
       first : 1 ≤ own_times n v.own + times n v.ready + times n v.used
       first = let a = ap (times n) ready in let b = ap (λ (t : Bool). (if t then 1 else 0) + times n rest) (eq-eqb n n refl) in omega (arith, a, b)
-
-  -- an enabled FillLo of a lock leaves a state that meets the invariant
-  pub fill_lo_holds : (lo : ℕ) (p : Plan) → IsLine m.seats s v (FillLo lo) p → Holds (carried_out m s p)
-  fill_lo_holds _ p (fill_lo f lo own aimed cursor) =
-      by_parts p
-      (fills_lo m.seats h _ m.views s lo v f seats parts at own aimed cursor (wrote_lo m.seats lo m.words f.node (lo_there f.node (filled_there f own))))
-
-  -- an enabled FillHi of a lock leaves a state that meets the invariant
-  pub fill_hi_holds : (hi : ℕ) (mode : Mode) (p : Plan) → IsLine m.seats s v (FillHi hi mode) p → Holds (carried_out m s p)
-  fill_hi_holds _ _ p (fill_hi f lo hi mode own low less most aimed cursor) =
+  line_holds step p (fill_lo f lo own aimed cursor) =
+      by_parts p (fills_lo m.seats h _ m.views s lo v f seats parts at own aimed cursor
+      (wrote_lo m.seats lo m.words f.node (let n = filled_there f own in let b = l.sized.words in omega (arith, n, b))))
+  line_holds step p (fill_hi f lo hi mode own low less most aimed cursor) =
       by_parts p
       (fills_hi m.seats h _ m.views s lo hi mode v f seats parts at own low less most aimed cursor
-      (wrote_hi m.seats _ m.words f.node (hi_there f.node (filled_there f own))))
-
-  -- an enabled Aim of a lock leaves a state that meets the invariant
-  pub aim_holds : (p : Plan) → IsLine m.seats s v Aim p → Holds (carried_out m s p)
-  aim_holds p (aim f lo hi w own low high place) =
+      (wrote_hi m.seats _ m.words f.node (let n = filled_there f own in let b = l.sized.words in omega (arith, n, b))))
+  line_holds step p (aim f lo hi w own low high place) =
       by_parts p
       (aims_at m.seats h _ m.views s lo hi w v f seats parts at own low high
-      (wrote_cell m.seats w m.words (suc f.node) (cell_there f.node (filled_there f own))))
-
-  -- an enabled Walk of a lock leaves a state that meets the invariant
-  pub walk_holds : (p : Plan) → IsLine m.seats s v Walk p → Holds (carried_out m s p)
-  walk_holds p (walk cell odd hand there) =
+      (wrote_cell m.seats w m.words (suc f.node) (let n = filled_there f own in let b = l.sized.words in omega (arith, n, b))))
+  line_holds step p (walk cell odd hand there) =
       by_load (cell_place m.seats cell) (walked v v.cursor) (by_cursor v.cursor refl)
     where
       by_cursor : (o : Option Cursor) → v.cursor ≡ o → Parts h (slice_set m.views s (walked v o (h.next cell)))
@@ -156,22 +119,13 @@ module _ (m : Machine) (s : ℕ) (v : View) (l : IsLock m) (at : IsViewOf m.view
               let t = plain_parts c.cur y q in
               subst (λ a. Parts h (slice_set m.views s (walked v (Some c) (h.next a)))) (same_some (suc y) cell r)
               (loads_next h m.views s v c y parts at e t.0 t.1)
-
-  -- an enabled ReadLo of a lock leaves a state that meets the invariant
-  pub read_lo_holds : (p : Plan) → IsLine m.seats s v ReadLo p → Holds (carried_out m s p)
-  read_lo_holds p (read_lo c y n cursor node next plain) =
+  line_holds step p (read_lo c y n cursor node next plain) =
       let t = plain_parts c.cur y node in
       by_load (lo_place m.seats y) (lo_read v c) (reads_lo h m.views s v c y parts at cursor t.0 t.1 n next)
-
-  -- an enabled ReadHi of a lock leaves a state that meets the invariant
-  pub read_hi_holds : (p : Plan) → IsLine m.seats s v ReadHi p → Holds (carried_out m s p)
-  read_hi_holds p (read_hi c y n lo cursor node next plain low ends) =
+  line_holds step p (read_hi c y n lo cursor node next plain low ends) =
       let t = plain_parts c.cur y node in
       by_load (hi_place m.seats y) (hi_read v c y n lo) (judges h m.views s v c y n lo parts at cursor t.0 t.1 next plain low)
-
-  -- an enabled Settle of a lock leaves a state that meets the invariant
-  pub settle_holds : (p : Plan) → IsLine m.seats s v Settle p → Holds (carried_out m s p)
-  settle_holds p (settle c cursor prev odd) =
+  line_holds step p (settle c cursor prev odd) =
       by_parts p (by_found (h.next 0 == c.cur) refl)
     where
       by_found : (t : Bool) → h.next 0 == c.cur ≡ t
@@ -180,4 +134,10 @@ module _ (m : Machine) (s : ℕ) (v : View) (l : IsLock m) (at : IsViewOf m.view
       by_found true e = settles m.seats h _ m.views s v c seats parts at cursor prev odd (eqb-true (h.next 0) c.cur e)
           (wrote_cell m.seats (c.cur - 1) m.words 0 (let b = l.sized.words in omega (arith, b)))
       by_found false e = subst (λ (ws : List ℕ). Parts (heap_of m.seats ws) (slice_set m.views s (dropped v)))
-          (sym (set-get_or m.words 0 0)) (parts_of h (slice_set m.views s (dropped v)) (dropped_holds m s v l at))
+          (sym (set-get_or m.words 0 0)) (drops h m.views s v parts at)
+  line_holds step p (link f c lo hi own cursor low high aimed plain place) =
+      link_holds m s v l at p (link f c lo hi own cursor low high aimed plain place)
+  line_holds step p (unlink c y n cursor node next odd empty) = unlink_holds m s v l at p (unlink c y n cursor node next odd empty)
+  line_holds step p (mark g own) = mark_holds m s v l at p (mark g own)
+  line_holds step p (quick_link f lo hi own low high aimed even) = quick_link_holds m s v l at p (quick_link f lo hi own low high aimed even)
+  line_holds step p (quick_unlink g own done empty) = quick_unlink_holds m s v l at p (quick_unlink g own done empty)

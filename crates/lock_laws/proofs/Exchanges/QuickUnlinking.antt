@@ -4,35 +4,29 @@ use Rattle.lock_core.specs.declared.views.View.{View}
 use Rattle.lock_core.specs.Words.{Heap, to}
 use Rattle.lock_core.specs.Nodes.{Listed, listed}
 use Rattle.lock_core.specs.Views.{quick_unlinked}
-use Rattle.lock_laws.specs.Invariant.{IsViewOf, InChain, MayReach, IsUsed, IsAlone, LockInvariant}
-use Rattle.lock_core.proofs.Words.{WroteCell}
+use Rattle.lock_laws.specs.Invariant.{InChain, MayReach, IsUsed, IsAlone}
 use Rattle.lock_core.proofs.ByView.{new_view}
 use Rattle.lock_core.proofs.Counts.{own_linked, counts_moved, used_or_own, used_grows}
 use Rattle.lock_laws.proofs.Seats.{own_is_used}
 use Rattle.lock_laws.proofs.PathSteps.{PathStep, listed_one}
+use Rattle.lock_laws.proofs.Exchanges.Putting.{Exchange}
 use Rattle.lock_laws.proofs.Exchanges.Cutting.{Cut, cut_change, cut_in_chain, cut_not_in_chain}
 use Rattle.lock_laws.proofs.Exchanges.Linking.{own_apart}
 
 -- what the step takes, and what it finds
 pub record Case (seats : ℕ) (h now : Heap) (views : List View) (s : ℕ) (v : View) (g : Listed) : Type 0 where
-  -- the invariant holds before the step
-  pub invariant : LockInvariant h views
-  -- v is the view of seat s before the step
-  pub at : IsViewOf views s v
-  -- no epoch that a view has changes
-  pub epochs : (i : ℕ) (u : View) → IsViewOf views i u → now.epoch i ≡ h.epoch i
+  -- the head is the end afterwards
+  pub by : Exchange seats h now views s v 0 0
   -- node g is linked
   pub own : v.own ≡ listed g
   -- nothing is in the hand
   pub empty : v.hand ≡ None
   -- the head names the own node with the low bit
   pub found : h.next 0 ≡ 2 * suc g.node + 1
-  -- the head is the end afterwards, and no other word changed
-  pub wrote : WroteCell seats h now 0 0
 
-module _ (seats : ℕ) (h now : Heap) (views : List View) (s : ℕ) (v : View) (g : Listed) (k : Case seats h now views s v g) where
+module _ {seats : ℕ} {h now : Heap} {views : List View} {s : ℕ} {v : View} {g : Listed} (k : Case seats h now views s v g) where
   alone : IsAlone h views
-  alone = k.invariant.fast_path.alone (let e = k.found in omega arith)
+  alone = k.by.invariant.fast_path.alone (let e = k.found in omega arith)
 
   is_mine : alone.node ≡ g.node
   is_mine = let a = alone.first in let e = k.found in omega arith
@@ -40,41 +34,36 @@ module _ (seats : ℕ) (h now : Heap) (views : List View) (s : ℕ) (v : View) (
   cut : Cut h now 0 g.node
   cut = record {
     was = let e = k.found in omega arith;
-    is = ap (λ w. w / 2) k.wrote.is ∙ sym (subst (λ a. to h (suc a) ≡ 0) is_mine alone.last);
+    is = ap (λ w. w / 2) k.by.wrote.is ∙ sym (subst (λ a. to h (suc a) ≡ 0) is_mine alone.last);
     apart = λ e. omega arith;
     live = inl refl;
     even = λ q z. absurd (omega arith);
-    next = k.wrote.others;
-    lo = k.wrote.lo;
-    hi = k.wrote.hi;
-    home = k.wrote.home;
-    chain = k.invariant.order.chain;
   }
 
   abbrev view_now : View
   view_now = quick_unlinked v g.node
 
   is_used : IsUsed (set views s view_now) g.node
-  is_used = record { seat = s; view = view_now; at = new_view views s view_now v k.at; used = own_is_used v g k.own h views s k.invariant.places k.at }
+  is_used = record { seat = s; view = view_now; at = new_view views s view_now v k.by.at; used = own_is_used v g k.own h views s k.by.invariant.places k.by.at }
 
   -- a QuickUnlink that succeeds loses the own node from the paths, and gains and marks none
   pub step : PathStep h now views s v view_now (λ _. ⊥) (λ x. x ≡ g.node) (λ _. ⊥)
   step = record {
-    invariant = k.invariant;
-    at = k.at;
-    change = cut_change h now 0 g.node cut;
-    epochs = k.epochs;
+    invariant = k.by.invariant;
+    at = k.by.at;
+    change = cut_change k.by cut;
+    epochs = k.by.epochs;
     gained = λ x z. absurd z;
     gained_next = λ j n x u d e q m z. absurd z;
-    lost_chain = λ x e. subst (InChain h) (sym e) (cut_in_chain h now 0 g.node cut);
-    lost_gone = λ x e r. cut_not_in_chain h now 0 g.node cut (subst (InChain now) e r);
+    lost_chain = λ x e. subst (InChain h) (sym e) (cut_in_chain k.by cut);
+    lost_gone = λ x e r. cut_not_in_chain k.by cut (subst (InChain now) e r);
     lost_hand = λ x e. ap (λ (a : ℕ). Some a) (sym e);
     lost_used = λ x e. subst (IsUsed (set views s view_now)) (sym e) is_used;
     lost_seen = λ j x u d e q m l. inr (let same : x ≡ alone.node = l ∙ sym is_mine in
         alone.unseen j u d e q (subst (MayReach h d) same m) ∙ ap (λ a. 2 * suc a + 1) (sym same));
-    apart = λ j u b d e own l. ⊎_elim (own_apart h views j s u v b.node g.node k.invariant.places e k.at (own_linked u b own)
+    apart = λ j u b d e own l. ⊎_elim (own_apart h views j s u v b.node g.node k.by.invariant.places e k.by.at (own_linked u b own)
         (own_linked v g k.own) d) (λ z. z) l;
-    alone = λ odd. absurd (let e = k.wrote.is in omega arith);
+    alone = λ odd. absurd (let e = k.by.wrote.is in omega arith);
     rest = refl;
     once = counts_moved v g k.own;
     used = λ x e. ⊎_elim (λ (q : x ≡ g.node). inr (inr q)) inl (used_or_own v g k.own x e);
@@ -83,7 +72,7 @@ module _ (seats : ℕ) (h now : Heap) (views : List View) (s : ℕ) (v : View) (
     hand_more = λ x e. absurd (let a = k.empty in cc);
     fills = λ f e. absurd (cc);
     lists = λ b e. absurd (cc);
-    listed_was = λ b own r. absurd (cut_not_in_chain h now 0 g.node cut (subst (λ (a : Listed). InChain now a.node) (listed_one b g (sym own ∙ k.own)) r));
+    listed_was = λ b own r. absurd (cut_not_in_chain k.by cut (subst (λ (a : Listed). InChain now a.node) (listed_one b g (sym own ∙ k.own)) r));
     cursor = λ d e. (d, e, inl refl);
     sees_own = λ b e. absurd (cc);
     as_reader = λ j u r b d e own. absurd (cc);

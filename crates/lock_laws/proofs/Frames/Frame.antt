@@ -10,7 +10,7 @@ use Rattle.lock_core.specs.declared.views.Todo.{Todo}
 use Rattle.lock_core.specs.declared.views.Todo.TheVariants.{Forward, FromHead, Done}
 use Rattle.lock_laws.specs.Paths.{Reach, here}
 use Rattle.lock_core.specs.Words.{Heap, to, cell_of, IsMarked}
-use Rattle.lock_core.specs.Nodes.{Filled, Listed}
+use Rattle.lock_core.specs.Nodes.{Filled, Listed, listed}
 use Rattle.lock_core.specs.Compare.{compared}
 use Rattle.lock_laws.specs.Invariant.{IsViewOf, InChain, Names, MayReach, IsOrdered, HasRange, IsRead, IsIdle, HasToSee, SeesFrom, first_cell_of}
 use Rattle.lock_laws.proofs.Frames.Parts.{Parts, IsCursorKept, IsViewKept, IsChainKept}
@@ -32,14 +32,23 @@ pub record Aside (h now : Heap) (v : View) : Type 0 where
 abbrev pub IsClear : Heap → View → ℕ → Type 0
 IsClear h v t = (y : ℕ) → IsIdle v y → Reach (to h) y t → ⊥
 
-module _ (h now : Heap) (views : List View) (s : ℕ) (v : View) (parts : Parts h views) (at : IsViewOf views s v) (aside : Aside h now v) where
+-- a step of seat s that writes words of idle nodes of its view v alone
+pub record StepAside (h now : Heap) (views : List View) (s : ℕ) (v : View) : Type 0 where
+  -- the invariant holds before the step
+  pub parts : Parts h views
+  -- v is the view of seat s before the step
+  pub at : IsViewOf views s v
+  -- the words of all other nodes stay
+  pub aside : Aside h now v
+
+module _ {h now : Heap} {views : List View} {s : ℕ} {v : View} (step : StepAside h now views s v) where
   -- the chain has no node that is idle in the view
   pub clear_chain : IsClear h v (to h 0)
-  clear_chain y idle r = idle_not_chain h views parts.places s y v at idle r
+  clear_chain y idle r = idle_not_chain h views step.parts.places s y v step.at idle r
 
   -- a target that a cursor names leads to no node that is idle in the view
   pub clear_cursor : (j : ℕ) (w : View) (c : Cursor) → IsViewOf views j w → w.cursor ≡ Some c → (t : ℕ) → Names c t → IsClear h v t
-  clear_cursor j w c at' has t n y idle r = parts.no_reuse s j y v w c at at' has idle (record { target = t; named = n; reach = r })
+  clear_cursor j w c at' has t n y idle r = step.parts.no_reuse s j y v w c step.at at' has idle (record { target = t; named = n; reach = r })
 
   -- the target of a node in a clear path is clear
   pub clear_on : (x t : ℕ) → IsClear h v t → Reach (to h) x t → IsClear h v (to h (suc x))
@@ -47,7 +56,7 @@ module _ (h now : Heap) (views : List View) (s : ℕ) (v : View) (parts : Parts 
 
   -- a node that isn't idle names what it named
   pub others : (n : ℕ) → (IsIdle v n → ⊥) → to now (suc n) ≡ to h (suc n)
-  others n d = ap (λ w. w / 2) (aside.next n d)
+  others n d = ap (λ w. w / 2) (step.aside.next n d)
 
   -- what a clear path had it still has
   pub on_reach : (x t : ℕ) → IsClear h v t → Reach (to h) x t → Reach (to now) x t
@@ -59,11 +68,11 @@ module _ (h now : Heap) (views : List View) (s : ℕ) (v : View) (parts : Parts 
 
   -- what was in the chain still is
   pub chain_on : (x : ℕ) → InChain h x → InChain now x
-  chain_on x r = subst (Reach (to now) x) (sym aside.head) (on_reach x (to h 0) clear_chain r)
+  chain_on x r = subst (Reach (to now) x) (sym step.aside.head) (on_reach x (to h 0) clear_chain r)
 
   -- what is in the chain now was in it
   pub chain_back : (x : ℕ) → InChain now x → InChain h x
-  chain_back x r = back_reach x (to h 0) clear_chain (subst (Reach (to now) x) aside.head r)
+  chain_back x r = back_reach x (to h 0) clear_chain (subst (Reach (to now) x) step.aside.head r)
 
   -- no node of the chain is idle in the view
   pub chain_apart : (x : ℕ) → InChain h x → IsIdle v x → ⊥
@@ -71,7 +80,7 @@ module _ (h now : Heap) (views : List View) (s : ℕ) (v : View) (parts : Parts 
 
   -- the next word of a node that isn't idle is what it was, and so is its mark
   pub mark_is : (x : ℕ) → (IsIdle v x → ⊥) → now.next (suc x) % 2 ≡ h.next (suc x) % 2
-  mark_is x d = ap (λ w. w % 2) (aside.next x d)
+  mark_is x d = ap (λ w. w % 2) (step.aside.next x d)
 
   -- a clear path in order stays in order
   pub ordered_now : (t : ℕ) → IsClear h v t → IsOrdered h t → IsOrdered now t
@@ -85,20 +94,20 @@ module _ (h now : Heap) (views : List View) (s : ℕ) (v : View) (parts : Parts 
         let dc : IsIdle v c → ⊥ = λ q. clear c q rc in
         let b = o.sorted a c r' e' in
         record {
-          starts = let p = aside.lo a da in let q = aside.lo c dc in let l = b.starts in omega (arith, p, q, l);
-          clear = λ w. let p = aside.hi a da in let q = aside.lo c dc in let l = b.clear (sym (ap (λ k. k % 2) p) ∙ w) in omega (arith, p, q, l);
+          starts = let p = step.aside.lo a da in let q = step.aside.lo c dc in let l = b.starts in omega (arith, p, q, l);
+          clear = λ w. let p = step.aside.hi a da in let q = step.aside.lo c dc in let l = b.clear (sym (ap (λ k. k % 2) p) ∙ w) in omega (arith, p, q, l);
         };
   }
 
   -- a node that isn't idle and had a range still has one
   pub range_now : (x : ℕ) → (IsIdle v x → ⊥) → HasRange h x → HasRange now x
-  range_now x d r = subst (λ (p : ℕ × ℕ). (p.0 < p.1 / 2) × (p.1 / 2 ≤ 2 ^ 62)) (λ z. (sym (aside.lo x d) z, sym (aside.hi x d) z)) r
+  range_now x d r = subst (λ (p : ℕ × ℕ). (p.0 < p.1 / 2) × (p.1 / 2 ≤ 2 ^ 62)) (λ z. (sym (step.aside.lo x d) z, sym (step.aside.hi x d) z)) r
 
   -- the chain is in order afterwards, and its nodes have ranges
   pub chain_now : IsChainKept now
   chain_now = record {
-    ordered = subst (IsOrdered now) (sym aside.head) (ordered_now (to h 0) clear_chain parts.chain.ordered);
-    range = λ x r. let c = chain_back x r in range_now x (chain_apart x c) (parts.chain.range x c);
+    ordered = subst (IsOrdered now) (sym step.aside.head) (ordered_now (to h 0) clear_chain step.parts.chain.ordered);
+    range = λ x r. let c = chain_back x r in range_now x (chain_apart x c) (step.parts.chain.range x c);
   }
 
   module _ (c : Cursor) (clear : (t : ℕ) → Names c t → IsClear h v t) where
@@ -119,7 +128,7 @@ module _ (h now : Heap) (views : List View) (s : ℕ) (v : View) (parts : Parts 
     prev_apart p e idle = clear (cell_of c.prev) (inl refl) p idle (subst (λ (q : Option ℕ). Reach (to h) p (cell_of q)) (sym e) here)
 
     compared_now : (f : Filled) (lo hi x : ℕ) → (IsIdle v x → ⊥) → compared f.mode lo hi (now.lo x) (now.hi x) ≡ compared f.mode lo hi (h.lo x) (h.hi x)
-    compared_now f lo hi x d = λ z. compared f.mode lo hi (aside.lo x d z) (aside.hi x d z)
+    compared_now f lo hi x d = λ z. compared f.mode lo hi (step.aside.lo x d z) (step.aside.hi x d z)
 
     -- a cell that a target names, where it names one
     cell_at : (t : ℕ) → t ≢ 0 → (y : ℕ) × (t ≡ suc y)
@@ -131,9 +140,9 @@ module _ (h now : Heap) (views : List View) (s : ℕ) (v : View) (parts : Parts 
     read_now r = record {
       next_node = r.next_node;
       lo_node = r.lo_node;
-      lo = λ lo y e q. r.lo lo y e q ∙ sym (aside.lo y (cur_apart y q));
+      lo = λ lo y e q. r.lo lo y e q ∙ sym (step.aside.lo y (cur_apart y q));
       marked = λ n e q. let y = cell_at (c.cur / 2) (r.next_node n e) in
-          r.marked n e q ∙ sym (ap now.next y.1 ∙ aside.next y.0 (cur_apart y.0 y.1) ∙ ap h.next (sym y.1));
+          r.marked n e q ∙ sym (ap now.next y.1 ∙ step.aside.next y.0 (cur_apart y.0 y.1) ∙ ap h.next (sym y.1));
       next = λ n x e ch un far.
           let y = cell_at (c.cur / 2) (r.next_node n e) in
           let old = chain_back x ch in
@@ -180,27 +189,42 @@ module _ (h now : Heap) (views : List View) (s : ℕ) (v : View) (parts : Parts 
   sees_on k None x r clear q = sees_start k.todo k.node x r q
   sees_on k (Some c) x r clear q = sees_from c.cur c.next x (clear c refl (c.cur / 2) (inr (inl refl))) (λ n e. clear c refl (n / 2) (inr (inr (n, e, refl)))) q
 
+  -- what a view had to see it still has
+  pub sees_still : (j : ℕ) (w : View) (k : Listed) (x : ℕ) → IsViewOf views j w → w.own ≡ listed k → HasToSee h k w.cursor x → HasToSee now k w.cursor x
+  sees_still j w k x e own q = sees_on k w.cursor x (step.parts.places.linked j w k e own).0 (λ c has. clear_cursor j w c e has) q
+
+  -- what a view's cursor may reach now it might reach before
+  pub back_cursor : (j : ℕ) (w : View) (c : Cursor) (x : ℕ) → IsViewOf views j w → w.cursor ≡ Some c → MayReach now c x → MayReach h c x
+  back_cursor j w c x e has m = may_back c (clear_cursor j w c e has) x m
+
+  -- what is kept of a view's cursor is so after the step
+  pub still_cursor : (j : ℕ) (w : View) (c : Cursor) → IsViewOf views j w → w.cursor ≡ Some c → IsCursorKept now w.own c
+  still_cursor j w c e has = cursor_now c (clear_cursor j w c e has) w.own ((step.parts.each j w e).cursor c has)
+
+  -- no view may reach a node that is idle in the stepping seat's
+  pub idle_alone : (x : ℕ) → IsIdle v x → (InChain h x → ⊥) × ((j : ℕ) (w : View) (c : Cursor) → IsViewOf views j w → w.cursor ≡ Some c → MayReach h c x → ⊥)
+  idle_alone x idle = (clear_chain x idle, λ j w c e has m. step.parts.no_reuse s j x v w c step.at e has idle m)
+
   -- the view of another seat
   pub view_now : (j : ℕ) (w : View) → j ≢ s → IsViewOf views j w → now.epoch j ≡ h.epoch j → IsViewKept now j w
   view_now j w d at' epoch =
-      let k = parts.each j w at' in
-      let clear = λ (c : Cursor) (has : w.cursor ≡ Some c). clear_cursor j w c at' has in
+      let k = step.parts.each j w at' in
       record {
         epoch = k.epoch ∙ sym epoch;
         even = k.even;
         filled = λ f own.
             let t = k.filled f own in
-            let away : IsIdle v f.node → ⊥ = λ q. d (sym (idle_seat h views parts.places s j f.node v w at at' q (inr (f, own, refl)))) in
+            let away : IsIdle v f.node → ⊥ = λ q. d (sym (idle_seat h views step.parts.places s j f.node v w step.at at' q (inr (f, own, refl)))) in
             record {
-              lo = λ a e. aside.lo f.node away ∙ t.lo a e;
-              hi = λ a e. aside.hi f.node away ∙ t.hi a e;
-              aimed = λ a e. aside.next f.node away ∙ t.aimed a e;
+              lo = λ a e. step.aside.lo f.node away ∙ t.lo a e;
+              hi = λ a e. step.aside.hi f.node away ∙ t.hi a e;
+              aimed = λ a e. step.aside.next f.node away ∙ t.aimed a e;
               in_order = t.in_order;
             };
         linked = λ g own.
             let t = k.linked g own in
-            let away = chain_apart g.node (parts.places.linked j w g at' own).0 in
-            record { lo = aside.lo g.node away ∙ t.lo; hi = aside.hi g.node away ∙ t.hi };
-        cursor = λ c has. cursor_now c (clear c has) w.own (k.cursor c has);
-        to_see = λ g own todo. sees_on g w.cursor g.node (parts.places.linked j w g at' own).0 clear (k.to_see g own todo);
+            let away = chain_apart g.node (step.parts.places.linked j w g at' own).0 in
+            record { lo = step.aside.lo g.node away ∙ t.lo; hi = step.aside.hi g.node away ∙ t.hi };
+        cursor = λ c has. still_cursor j w c at' has;
+        to_see = λ g own todo. sees_still j w g g.node at' own (k.to_see g own todo);
       }

@@ -11,12 +11,50 @@ use Rattle.lock_laws.specs.Invariant.{IsViewOf, InChain, MayReach, IsOut, IsIdle
 use Rattle.lock_laws.proofs.Coming.{done}
 use Rattle.lock_laws.proofs.PathSteps.{listed_one}
 use Rattle.lock_laws.proofs.Frames.Parts.{Parts, IsCursorKept}
-use Rattle.lock_laws.proofs.Frames.Steady.{Rival, Looks, homes_same, places_now, stays_out, steady}
-use Rattle.lock_laws.proofs.Frames.Quiet.{Calm, aside_of, idle_alone, known_on, written_on}
+use Rattle.lock_laws.proofs.Frames.Frame.{idle_alone}
+use Rattle.lock_laws.proofs.Frames.Steady.{Rival, Looks, homes_same, places_now, out_on, steady}
+use Rattle.lock_laws.proofs.Frames.Quiet.{Calm, calm_step, known_on, written_on}
 
 -- the own node stays, or its range is held from now on
 abbrev pub OwnStays : View → View → Type 0
 OwnStays v u = (u.own ≡ v.own) ⊎ ((k : Listed) × (v.own ≡ listed k) × (u.own ≡ listed (done k)))
+
+module _ (v u : View) (stays : OwnStays v u) where
+  by_own : {P : Type 0} → (u.own ≡ v.own → P) → ((k : Listed) → v.own ≡ listed k → u.own ≡ listed (done k) → P) → P
+  by_own same now = ⊎_elim same (λ (t : (k : Listed) × (v.own ≡ listed k) × (u.own ≡ listed (done k))). now t.0 t.1 t.2) stays
+
+  -- a node that is being filled afterwards was so before
+  pub filling_back : (f : Filled) → u.own ≡ filling f → v.own ≡ filling f
+  filling_back f e = by_own (λ q. sym q ∙ e) (λ k is now. absurd (cc))
+
+  -- the linked node afterwards is the one before, or that with nothing left to do
+  pub linked_back : (g : Listed) → u.own ≡ listed g → (v.own ≡ listed g) ⊎ ((k : Listed) × (v.own ≡ listed k) × (done k ≡ g))
+  linked_back g e = by_own (λ q. inl (sym q ∙ e)) (λ k is now. inr (k, is, listed_one (done k) g (sym now ∙ e)))
+
+  -- a node that was linked still is
+  pub linked_forth : (k : Listed) → v.own ≡ listed k → (g : Listed) × (u.own ≡ listed g) × (g.node ≡ k.node)
+  linked_forth k e = by_own (λ q. (k, q ∙ e, refl)) (λ b is now. (done b, now, ap (λ (z : Listed). z.node) (listed_one b k (sym is ∙ e))))
+
+  -- which node is the own one stays
+  pub own_same : (x : ℕ) → own_times x u.own ≡ own_times x v.own
+  own_same x = by_own (ap (own_times x)) (λ k is now. ap (own_times x) now ∙ sym (ap (own_times x) is))
+
+-- where a rival that was still to see is so, and the own node then stays, the linked node goes on looking
+pub looks_on : (h now : Heap) (views : List View) (v u : View) → OwnStays v u
+    → ((k g : Listed) → v.own ≡ listed k → Rival views k g → HasToSee h k v.cursor g.node → (u.own ≡ v.own) × HasToSee now k u.cursor g.node)
+    → (g : Listed) → u.own ≡ listed g → Looks h now views v u g
+looks_on h now views v u stays sees g e = ⊎_elim
+    (λ (q : v.own ≡ listed g). record { old = g; own = q; node = refl; range = refl; mode = refl; sees = λ o r see. (refl, (sees g o q r see).1) })
+    (λ (t : (k : Listed) × (v.own ≡ listed k) × (done k ≡ g)). record {
+      old = t.0;
+      own = t.1;
+      node = ap (λ (z : Listed). z.node) t.2;
+      range = ap (λ (z : Listed). z.range) t.2;
+      mode = ap (λ (z : Listed). z.mode) t.2;
+      sees = λ o r see. let w = sees t.0 o t.1 r see in let same : g ≡ t.0 = listed_one g t.0 (sym e ∙ w.0 ∙ t.1) in
+          (ap (λ (z : Listed). z.todo) same, subst (λ (z : Listed). HasToSee now z u.cursor o.node) (sym same) w.1);
+    })
+    (linked_back v u stays g e)
 
 -- from view v to view u only the cursor moves and the own node may get done; what is so of the cursor then
 pub record Moves (h now : Heap) (views : List View) (s : ℕ) (v u : View) : Type 0 where
@@ -52,71 +90,23 @@ module _ (h now : Heap) (views : List View) (s : ℕ) (v u : View) (parts : Part
   hand : u.hand ≡ v.hand
   hand = ap (λ (z : View). z.hand) moves.rest
 
-  filling_back : (f : Filled) → u.own ≡ filling f → v.own ≡ filling f
-  filling_back f e = ⊎_elim
-      (λ (q : u.own ≡ v.own). sym q ∙ e)
-      (λ (t : (k : Listed) × (v.own ≡ listed k) × (u.own ≡ listed (done k))). absurd (let a = t.2 in cc))
-      moves.own
-
-  -- the linked node afterwards is the one before, or that with nothing left to do
-  linked_back : (g : Listed) → u.own ≡ listed g → (v.own ≡ listed g) ⊎ ((k : Listed) × (v.own ≡ listed k) × (done k ≡ g))
-  linked_back g e = ⊎_elim
-      (λ (q : u.own ≡ v.own). inl (sym q ∙ e))
-      (λ (t : (k : Listed) × (v.own ≡ listed k) × (u.own ≡ listed (done k))). inr (t.0, t.1, listed_one (done t.0) g (sym t.2 ∙ e)))
-      moves.own
-
-  linked_forth : (k : Listed) → v.own ≡ listed k → (g : Listed) × (u.own ≡ listed g) × (g.node ≡ k.node)
-  linked_forth k e = ⊎_elim
-      (λ (q : u.own ≡ v.own). (k, q ∙ e, refl))
-      (λ (t : (b : Listed) × (v.own ≡ listed b) × (u.own ≡ listed (done b))). (done t.0, t.2, ap (λ (z : Listed). z.node) (listed_one t.0 k (sym t.1 ∙ e))))
-      moves.own
-
-  own_same : (x : ℕ) → own_times x u.own ≡ own_times x v.own
-  own_same x = ⊎_elim
-      (λ (q : u.own ≡ v.own). ap (own_times x) q)
-      (λ (t : (k : Listed) × (v.own ≡ listed k) × (u.own ≡ listed (done k))). ap (own_times x) t.2 ∙ sym (ap (own_times x) t.1))
-      moves.own
-
   held_forth : (k : Listed) → v.own ≡ listed k → k.todo ≡ Done → u.own ≡ listed k
-  held_forth k e d = ⊎_elim
-      (λ (q : u.own ≡ v.own). q ∙ e)
-      (λ (t : (b : Listed) × (v.own ≡ listed b) × (u.own ≡ listed (done b))).
-      let same = listed_one t.0 k (sym t.1 ∙ e) in t.2 ∙ ap listed (ap done same) ∙ ap (λ a. listed (record k { todo = a })) (sym d))
-      moves.own
+  held_forth k e d = by_own v u moves.own (λ q. q ∙ e) (λ b is now.
+      let same = listed_one b k (sym is ∙ e) in now ∙ ap listed (ap done same) ∙ ap (λ a. listed (record k { todo = a })) (sym d))
 
   written : (g : Listed) → u.own ≡ listed g → IsWritten now g
   written g e = ⊎_elim
-      (λ (q : v.own ≡ listed g). written_on h now g calm ((parts.each s v at).linked g q))
+      (λ (q : v.own ≡ listed g). written_on calm ((parts.each s v at).linked g q))
       (λ (t : (k : Listed) × (v.own ≡ listed k) × (done k ≡ g)).
-      let w = written_on h now t.0 calm ((parts.each s v at).linked t.0 t.1) in subst (IsWritten now) t.2 (record { lo = w.lo; hi = w.hi }))
-      (linked_back g e)
+      let w = written_on calm ((parts.each s v at).linked t.0 t.1) in subst (IsWritten now) t.2 (record { lo = w.lo; hi = w.hi }))
+      (linked_back v u moves.own g e)
 
   looks : (g : Listed) → u.own ≡ listed g → Looks h now views v u g
-  looks g e = ⊎_elim
-      (λ (q : v.own ≡ listed g). record {
-        old = g;
-        own = q;
-        node = refl;
-        range = refl;
-        mode = refl;
-        sees = λ o r see. (refl, (moves.sees g o q r see).1);
-      })
-      (λ (t : (k : Listed) × (v.own ≡ listed k) × (done k ≡ g)). record {
-        old = t.0;
-        own = t.1;
-        node = ap (λ (z : Listed). z.node) t.2;
-        range = ap (λ (z : Listed). z.range) t.2;
-        mode = ap (λ (z : Listed). z.mode) t.2;
-        sees = λ o r see.
-            let w = moves.sees t.0 o t.1 r see in
-            let same : g ≡ t.0 = listed_one g t.0 (sym e ∙ w.0 ∙ t.1) in
-            (ap (λ (z : Listed). z.todo) same, subst (λ (z : Listed). HasToSee now z u.cursor o.node) (sym same) w.1);
-      })
-      (linked_back g e)
+  looks = looks_on h now views v u moves.own moves.sees
 
   idle_back : (x : ℕ) → IsIdle u x → IsIdle v x
   idle_back x (inl r) = inl (subst (λ (l : List ℕ). 1 ≤ times x l) ready r)
-  idle_back x (inr t) = inr (t.0, filling_back t.0 t.1, t.2)
+  idle_back x (inr t) = inr (t.0, filling_back v u moves.own t.0 t.1, t.2)
 
   out_same : (j : ℕ) → IsOut now u j → IsOut now v j
   out_same j (inl p) = inl (sym (ap (λ (z : View). slice_get z.passed j) moves.rest) ∙ p)
@@ -126,19 +116,20 @@ module _ (h now : Heap) (views : List View) (s : ℕ) (v u : View) (parts : Part
   pub moves_kept : Parts now (slice_set views s u)
   moves_kept =
       let k = parts.each s v at in
-      steady h now views s v u parts at (aside_of h now v calm)
+      let step = calm_step s parts at calm in
+      steady step
       (record {
         kept = record {
           epoch = ap (λ (z : View). z.epoch) moves.rest ∙ k.epoch ∙ sym (epochs s v at);
           even = moves.odd;
-          filled = λ f e. known_on h now f calm (k.filled f (filling_back f e));
+          filled = λ f e. known_on calm (k.filled f (filling_back v u moves.own f e));
           linked = written;
           cursor = moves.cursor;
           to_see = moves.to_see;
         };
         reach = moves.reach;
-        idle = λ x idle. idle_alone h now views s v u parts at calm x (idle_back x idle);
-        out = λ j x w c same home' out e has m. stays_out h now views s v parts at (λ j w e d. epochs j w e) s j x v w c same at
+        idle = λ x idle. idle_alone step x (idle_back x idle);
+        out = λ j x w c same home' out e has m. out_on step (λ j w e d. epochs j w e) j x w c same
             (subst (λ (l : List ℕ). 1 ≤ times x l) homes home') (out_same j out) e has m;
         looks = looks;
         held = held_forth;
@@ -147,15 +138,15 @@ module _ (h now : Heap) (views : List View) (s : ℕ) (v u : View) (parts : Part
         epochs = λ j w e d. epochs j w e;
         epoch = inl (epochs s v at);
       })
-      (places_now h now views s v u parts at (aside_of h now v calm) parts.places (record {
-        times_same = λ x. let a = own_same x in let b = ap (times x) ready in let c = ap (times x) used in omega (arith, a, b, c);
+      (places_now u step (record {
+        times_same = λ x. let a = own_same v u moves.own x in let b = ap (times x) ready in let c = ap (times x) used in omega (arith, a, b, c);
         homes = λ x. let a = ap (times x) homes in let b = ap (times x) used in let l = parts.places.homes s x v at in omega (arith, a, b, l);
         at_home = λ x l. home x ∙ parts.places.at_home s x v at (subst (λ (q : List ℕ). 1 ≤ times x q) homes l);
         linked = λ g e. let o = looks g e in (o.old, o.own, o.node);
-        linked_on = linked_forth;
+        linked_on = linked_forth v u moves.own;
         used = λ x e. sym (ap (times x) used) ∙ e;
         used_on = λ x e z. ap (times x) used ∙ e;
-        filling = λ f e. home f.node ∙ parts.places.filling_home s v f at (filling_back f e);
+        filling = λ f e. home f.node ∙ parts.places.filling_home s v f at (filling_back v u moves.own f e);
         hand = λ x e. sym hand ∙ e;
         hand_on = λ x e. inl (hand ∙ e);
       }) (homes_same h now views (slice_set views s u) s home))

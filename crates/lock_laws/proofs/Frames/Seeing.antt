@@ -8,7 +8,7 @@ use Rattle.lock_laws.specs.Paths.{Reach}
 use Rattle.lock_core.specs.Words.{Heap, to}
 use Rattle.lock_core.specs.Nodes.{Listed, listed}
 use Rattle.lock_laws.specs.Invariant.{IsViewOf, InChain, IsOrdered, IsWritten, HasToSee, first_cell_of}
-use Rattle.lock_laws.proofs.Along.{in_line, along, clear_behind}
+use Rattle.lock_laws.proofs.Along.{along, clear_behind, reader_first}
 use Rattle.lock_laws.proofs.Paths.{unreach}
 use Rattle.lock_laws.proofs.Judging.{hi_is, writer_odd, reader_low}
 use Rattle.lock_laws.proofs.Frames.Parts.{Parts}
@@ -64,12 +64,6 @@ module _ (h : Heap) (views : List View) (s : ℕ) (v : View) (k g : Listed) (par
       (λ (t : (k.todo ≡ FromHead) × (k.mode ≡ Writer) × (g.mode ≡ Reader)). two_nodes h g k rival_written mine_written t.2 t.1 (sym e))
       rival.way
 
-  -- where the rival is the writer, the own node isn't behind it
-  pub not_behind_rival : g.mode ≡ Writer → Reach (to h) k.node (to h (suc g.node)) → ⊥
-  not_behind_rival writer r =
-      let b = clear_behind h g.node k.node (to h 0) parts.chain.ordered rival_chain (writer_is h g rival_written writer) r in
-      let e = end_is h g rival_written in let l = mine_written.lo in let o = rival.over.0 in omega (arith, b, e, l, o)
-
   -- where the own node is the writer, the rival isn't behind it
   pub not_behind_mine : k.mode ≡ Writer → Reach (to h) g.node (to h (suc k.node)) → ⊥
   not_behind_mine writer r =
@@ -80,18 +74,11 @@ module _ (h : Heap) (views : List View) (s : ℕ) (v : View) (k g : Listed) (par
   pub sees_anew : HasToSee h k None g.node
   sees_anew = ⊎_elim
       (λ (t : (k.todo ≡ Forward) × (k.mode ≡ Reader) × (g.mode ≡ Writer)). subst
-      (λ (a : Todo). Reach (to h) g.node (to h (first_cell_of a k.node))) (sym t.0) (behind t.2))
+      (λ (a : Todo). Reach (to h) g.node (to h (first_cell_of a k.node))) (sym t.0)
+      (reader_first h k g parts.chain.ordered mine_chain rival_chain mine_written rival_written (λ e. apart (sym e)) t.2 rival.over))
       (λ (t : (k.todo ≡ FromHead) × (k.mode ≡ Writer) × (g.mode ≡ Reader)). subst
       (λ (a : Todo). Reach (to h) g.node (to h (first_cell_of a k.node))) (sym t.0) rival_chain)
       rival.way
-    where
-      behind : g.mode ≡ Writer → Reach (to h) g.node (to h (suc k.node))
-      behind writer = ⊎_elim
-          (λ (r : Reach (to h) g.node (to h (suc k.node))). r)
-          (λ (t : (g.node ≡ k.node) ⊎ Reach (to h) k.node (to h (suc g.node))). absurd
-          (⊎_elim (λ (e : g.node ≡ k.node). apart (sym e))
-          (λ (r : Reach (to h) k.node (to h (suc g.node))). not_behind_rival writer r) t))
-          (in_line (to h) g.node k.node (to h 0) rival_chain mine_chain)
 
   -- at its own node a writer has nothing left to see
   pub blind_at_own : k.mode ≡ Writer → Reach (to h) g.node (suc k.node) → ⊥

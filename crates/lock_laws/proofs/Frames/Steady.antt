@@ -14,12 +14,12 @@ use Rattle.lock_core.specs.Words.{Heap, to, IsMarked, IsUnmarked}
 use Rattle.lock_core.specs.Nodes.{Filled, Listed, filling, listed, own_times}
 use Rattle.lock_laws.specs.Invariant.{IsViewOf, InChain, MayReach, InHand, IsUsed, IsLinked, Places, IsHeldBy, IsAlone}
 use Rattle.lock_laws.specs.Invariant.{HasToSee, Pairs, IsOut, Barrier, IsIdle, NoReuse}
-use Rattle.lock_core.proofs.ByView.{set_view, kept_view, new_view, is_view}
-use Rattle.lock_laws.proofs.PathSteps.{listed_one}
+use Rattle.lock_core.proofs.ByView.{set_view, new_view, is_view}
+use Rattle.lock_laws.proofs.PathSteps.{listed_one, forth}
 use Rattle.lock_laws.proofs.Seats.{only_once}
 use Rattle.lock_laws.proofs.Frames.Idle.{idle_not_chain}
 use Rattle.lock_laws.proofs.Frames.Parts.{Parts, IsViewKept}
-use Rattle.lock_laws.proofs.Frames.Frame.{Aside, chain_now, chain_on, chain_back, chain_apart, mark_is, others, may_back, clear_cursor, view_now, sees_on}
+use Rattle.lock_laws.proofs.Frames.Frame.{StepAside, chain_now, chain_on, chain_back, chain_apart, mark_is, others, back_cursor, sees_still, view_now}
 
 -- where the nodes of the stepping seat's view stand afterwards
 pub record Stands (h now : Heap) (views : List View) (s : ℕ) (v u : View) : Type 0 where
@@ -65,7 +65,7 @@ homes_same h now views after s e = record {
   filling = λ j w f d at own r. e f.node ∙ r;
 }
 
-module _ (h now : Heap) (views : List View) (s : ℕ) (v u : View) (parts : Parts h views) (at : IsViewOf views s v) (aside : Aside h now v) where
+module _ {h now : Heap} {views : List View} {s : ℕ} {v : View} (u : View) (step : StepAside h now views s v) where
   abbrev after : List View
   after = slice_set views s u
 
@@ -76,61 +76,42 @@ module _ (h now : Heap) (views : List View) (s : ℕ) (v u : View) (parts : Part
   by_seat : {P : Type 0} (j : ℕ) (w : View) → IsViewOf after j w → (j ≡ s → u ≡ w → P) → (j ≢ s → IsViewOf views j w → P) → P
   by_seat j w e mine other = ⊎_elim (λ (t : (j ≡ s) × (u ≡ w)). mine t.0 t.1) (λ (t : (j ≢ s) × IsViewOf views j w). other t.0 t.1) (is_after j w e)
 
-  to_after : (j : ℕ) (w : View) → j ≢ s → IsViewOf views j w → IsViewOf after j w
-  to_after j w d e = kept_view views s j u w d e
-
   mine_after : IsViewOf after s u
-  mine_after = new_view views s u v at
+  mine_after = new_view views s u v step.at
 
-  -- a view of seat s is v
-  mine_is : (j : ℕ) (w : View) → IsViewOf views j w → j ≡ s → v ≡ w
-  mine_is j w e q = is_view views s j v w at e q
+  module _ (st : Stands h now views s v u) (ho : Homes h now views after s) where
+    abbrev p : Places h views
+    p = step.parts.places
 
-  module _ (p : Places h views) (st : Stands h now views s v u) (ho : Homes h now views after s) where
     hand_back : (x : ℕ) → (a : InHand after x) → (b : InHand views x) × (b.seat ≡ a.seat)
     hand_back x a =
         ⊎_elim
-        (λ (t : (a.seat ≡ s) × (u ≡ a.view)). (record { seat = s; view = v; at = at; hand = st.hand x (ap (λ (z : View). z.hand) t.1 ∙ a.hand) }, sym t.0))
+        (λ (t : (a.seat ≡ s) × (u ≡ a.view)). (record { seat = s; view = v; at = step.at; hand = st.hand x (ap (λ (z : View). z.hand) t.1 ∙ a.hand) }, sym t.0))
         (λ (t : (a.seat ≢ s) × IsViewOf views a.seat a.view). (record { seat = a.seat; view = a.view; at = t.1; hand = a.hand }, refl))
         (is_after a.seat a.view a.at)
 
     hand_forth : (x : ℕ) → InHand views x → InHand after x ⊎ (now.home x ≡ 1)
-    hand_forth x a =
-        ⊎_elim
-        (λ (q : a.seat ≡ s).
-        ⊎_elim
-        (λ (e : u.hand ≡ Some x). inl (record { seat = s; view = u; at = mine_after; hand = e }))
-        (λ (e : now.home x ≡ 1). inr e)
-        (st.hand_on x (ap (λ (z : View). z.hand) (mine_is a.seat a.view a.at q) ∙ a.hand)))
-        (λ (d : a.seat ≢ s). inl (record { seat = a.seat; view = a.view; at = to_after a.seat a.view d a.at; hand = a.hand }))
-        (cases_eq a.seat s)
+    hand_forth x a = forth views s v u step.at a.seat a.view a.at
+        (λ there same. ⊎_elim (λ (e : u.hand ≡ Some x). inl (record { seat = s; view = u; at = there; hand = e })) inr
+        (st.hand_on x (ap (λ (z : View). z.hand) same ∙ a.hand)))
+        (λ d there. inl (record { seat = a.seat; view = a.view; at = there; hand = a.hand }))
 
     used_forth : (x : ℕ) → h.home x ≡ 0 → IsUsed views x → IsUsed after x
-    used_forth x z a =
-        ⊎_elim
-        (λ (q : a.seat ≡ s). record {
-          seat = s;
-          view = u;
-          at = mine_after;
-          used = st.used_on x (ap (λ (w : View). times x w.used) (mine_is a.seat a.view a.at q) ∙ a.used) z;
-        })
-        (λ (d : a.seat ≢ s). record { seat = a.seat; view = a.view; at = to_after a.seat a.view d a.at; used = a.used })
-        (cases_eq a.seat s)
+    used_forth x z a = forth views s v u step.at a.seat a.view a.at
+        (λ there same. record { seat = s; view = u; at = there; used = st.used_on x (ap (λ (w : View). times x w.used) same ∙ a.used) z })
+        (λ d there. record { seat = a.seat; view = a.view; at = there; used = a.used })
 
     linked_forth : (x : ℕ) → IsLinked views x → IsLinked after x
-    linked_forth x a =
-        ⊎_elim
-        (λ (q : a.seat ≡ s).
-        let g = st.linked_on a.own (ap (λ (z : View). z.own) (mine_is a.seat a.view a.at q) ∙ a.is) in
-        record { seat = s; view = u; at = mine_after; own = g.0; is = g.1; node = g.2 ∙ a.node })
-        (λ (d : a.seat ≢ s). record { seat = a.seat; view = a.view; at = to_after a.seat a.view d a.at; own = a.own; is = a.is; node = a.node })
-        (cases_eq a.seat s)
+    linked_forth x a = forth views s v u step.at a.seat a.view a.at
+        (λ there same. let g = st.linked_on a.own (ap (λ (z : View). z.own) same ∙ a.is) in
+        record { seat = s; view = u; at = there; own = g.0; is = g.1; node = g.2 ∙ a.node })
+        (λ d there. record { seat = a.seat; view = a.view; at = there; own = a.own; is = a.is; node = a.node })
 
     used_way : (x : ℕ) → (InChain h x × IsMarked h x) ⊎ (InHand views x ⊎ (now.home x ≡ 1))
         → (InChain now x × IsMarked now x) ⊎ (InHand after x ⊎ (now.home x ≡ 1))
     used_way x (inl t) = inl (
-      chain_on h now views s v parts at aside x t.0,
-      mark_is h now views s v parts at aside x (chain_apart h now views s v parts at aside x t.0) ∙ t.1,
+      chain_on step x t.0,
+      mark_is step x (chain_apart step x t.0) ∙ t.1,
     )
     used_way x (inr (inl a)) = inr (hand_forth x a)
     used_way x (inr (inr e)) = inr (inr e)
@@ -147,17 +128,17 @@ module _ (h now : Heap) (views : List View) (s : ℕ) (v u : View) (parts : Part
     places_now = record {
       once = λ i x w e. by_seat i w e
           (λ q r. sym (ap (λ (z : View). own_times x z.own + times x z.ready + times x z.used) r) ∙ st.times_same x
-          ∙ p.once s x v at ∙ ap (λ a. if x / 16 == a then 1 else 0) (sym q))
+          ∙ p.once s x v step.at ∙ ap (λ a. if x / 16 == a then 1 else 0) (sym q))
           (λ d e'. p.once i x w e');
       homes = λ i x w e. by_seat i w e (λ q r. subst (λ (z : View). times x z.homes ≤ times x z.used) r (st.homes x)) (λ d e'. p.homes i x w e');
       at_home = λ i x w e l. by_seat i w e
           (λ q r. st.at_home x (subst (λ (z : View). 1 ≤ times x z.homes) (sym r) l))
           (λ d e'. ho.home i x w e' (used_once i x w e' l) (p.at_home i x w e' l));
       linked = λ i w k e own. by_seat i w e
-          (λ q r. let g = st.linked k (ap (λ (z : View). z.own) r ∙ own) in subst (λ n. InChain now n × IsUnmarked now n) g.2 (linked_now s v g.0 at g.1))
+          (λ q r. let g = st.linked k (ap (λ (z : View). z.own) r ∙ own) in subst (λ n. InChain now n × IsUnmarked now n) g.2 (linked_now s v g.0 step.at g.1))
           (λ d e'. linked_now i w k e' own);
-      chain = λ x r. let c = chain_back h now views s v parts at aside x r in
-          let m = mark_is h now views s v parts at aside x (chain_apart h now views s v parts at aside x c) in
+      chain = λ x r. let c = chain_back step x r in
+          let m = mark_is step x (chain_apart step x c) in
           ⊎_elim
           (λ (t : IsMarked h x × IsUsed views x). inl (m ∙ t.0, used_forth x (p.chain_home x c) t.1))
           (λ (t : IsUnmarked h x × IsLinked views x). inr (m ∙ t.0, linked_forth x t.1))
@@ -165,10 +146,10 @@ module _ (h now : Heap) (views : List View) (s : ℕ) (v u : View) (parts : Part
       in_hand = λ x a. let b = hand_back x a in let t = p.in_hand x b.0 in (used_forth x t.1 t.0, ho.hand x a t.1);
       one_hand = λ x a b. let a' = hand_back x a in let b' = hand_back x b in sym a'.1 ∙ p.one_hand x a'.0 b'.0 ∙ b'.1;
       used = λ i x w e q. by_seat i w e
-          (λ a r. let o = st.used x (ap (λ (z : View). times x z.used) r ∙ q) in used_way x (used_home s x v at o (p.used s x v at o)))
+          (λ a r. let o = st.used x (ap (λ (z : View). times x z.used) r ∙ q) in used_way x (used_home s x v step.at o (p.used s x v step.at o)))
           (λ d e'. used_way x (used_home i x w e' q (p.used i x w e' q)));
-      apart = λ x r a. p.apart x (chain_back h now views s v parts at aside x r) (hand_back x a).0;
-      chain_home = λ x r. let c = chain_back h now views s v parts at aside x r in ho.chain x c (p.chain_home x c);
+      apart = λ x r a. p.apart x (chain_back step x r) (hand_back x a).0;
+      chain_home = λ x r. let c = chain_back step x r in ho.chain x c (p.chain_home x c);
       filling_home = λ i w f e own. by_seat i w e
           (λ q r. st.filling f (ap (λ (z : View). z.own) r ∙ own))
           (λ d e'. ho.filling i w f d e' own (p.filling_home i w f e' own));
@@ -179,8 +160,8 @@ module _ (h now : Heap) (views : List View) (s : ℕ) (v u : View) (parts : Part
 
         linked_now : (i : ℕ) (w : View) (k : Listed) → IsViewOf views i w → w.own ≡ listed k → InChain now k.node × IsUnmarked now k.node
         linked_now i w k e own = let t = p.linked i w k e own in (
-          chain_on h now views s v parts at aside k.node t.0,
-          mark_is h now views s v parts at aside k.node (chain_apart h now views s v parts at aside k.node t.0) ∙ t.1,
+          chain_on step k.node t.0,
+          mark_is step k.node (chain_apart step k.node t.0) ∙ t.1,
         )
 
 -- a linked node of another seat and of the other mode that overlaps this one, at a moment when this one still looks
@@ -215,27 +196,56 @@ pub record Looks (h now : Heap) (views : List View) (v u : View) (k : Listed) : 
   -- a rival that was still to see is still to see, and as much is left to do
   pub sees : (g : Listed) → Rival views old g → HasToSee h old v.cursor g.node → (k.todo ≡ old.todo) × HasToSee now k u.cursor g.node
 
+module _ {h now : Heap} {views : List View} (s : ℕ) {v u : View} {k : Listed} (pairs : Pairs h views) (at : IsViewOf views s v)
+    (o : Looks h now views v u k) (other : (j : ℕ) (w : View) (g : Listed) → IsViewOf views j w → w.own ≡ listed g
+    → HasToSee h g w.cursor o.old.node → HasToSee now g w.cursor o.old.node) where
+  -- where the linked node is a reader, it has each overlapping writer to see, or that has it
+  pub as_reader : (j : ℕ) (b : View) (w : Listed) → IsViewOf views j b → b.own ≡ listed w → k.mode ≡ Reader → w.mode ≡ Writer
+      → Overlaps k.range w.range → ((k.todo ≡ Forward) × HasToSee now k u.cursor w.node) ⊎ ((w.todo ≡ FromHead) × HasToSee now w b.cursor k.node)
+  as_reader j b w e own reader writer over =
+      let over' : Overlaps o.old.range w.range = subst (λ a. Overlaps a w.range) (sym o.range) over in
+      ⊎_elim
+      (λ (t : (o.old.todo ≡ Forward) × HasToSee h o.old v.cursor w.node).
+      let r = o.sees w (record { seat = j; view = b; there = e; own = own; way = inl (t.0, o.mode ∙ reader, writer); over = over' }) t.1 in
+      inl (r.0 ∙ t.0, r.1))
+      (λ (t : (w.todo ≡ FromHead) × HasToSee h w b.cursor o.old.node). inr (t.0, subst (HasToSee now w b.cursor) o.node (other j b w e own t.1)))
+      (pairs s j v b o.old w at e o.own own (o.mode ∙ reader) writer over')
+
+  -- and where it is a writer, each overlapping reader
+  pub as_writer : (j : ℕ) (b : View) (r : Listed) → IsViewOf views j b → b.own ≡ listed r → r.mode ≡ Reader → k.mode ≡ Writer
+      → Overlaps r.range k.range → ((r.todo ≡ Forward) × HasToSee now r b.cursor k.node) ⊎ ((k.todo ≡ FromHead) × HasToSee now k u.cursor r.node)
+  as_writer j b r e own reader writer over =
+      let over' : Overlaps r.range o.old.range = subst (Overlaps r.range) (sym o.range) over in
+      ⊎_elim
+      (λ (t : (r.todo ≡ Forward) × HasToSee h r b.cursor o.old.node). inl (t.0, subst (HasToSee now r b.cursor) o.node (other j b r e own t.1)))
+      (λ (t : (o.old.todo ≡ FromHead) × HasToSee h o.old v.cursor r.node).
+      let q = o.sees r (record { seat = j; view = b; there = e; own = own; way = inr (t.0, o.mode ∙ writer, reader); over = (over'.1, over'.0) }) t.1 in
+      inr (q.0 ∙ t.0, q.1))
+      (pairs j s b v r o.old e at own o.own reader (o.mode ∙ writer) over')
+
 -- no view of a seat whose epoch stays reaches what waits for the barrier of one that knows it to be out
-module _ (h now : Heap) (views : List View) (s : ℕ) (v : View) (parts : Parts h views) (at : IsViewOf views s v)
+module _ {h now : Heap} {views : List View} {s : ℕ} {v : View} (step : StepAside h now views s v)
     (epochs : (j : ℕ) (w : View) → IsViewOf views j w → j ≢ s → now.epoch j ≡ h.epoch j) where
   -- a view that is known to be out afterwards was so before
   out_back : (j : ℕ) (w b : View) → IsViewOf views j b → (j ≡ s → now.epoch s ≡ h.epoch s) → IsOut now w j → IsOut h w j
   out_back j w b e same (inl p) = inl p
-  out_back j w b e same (inr n) =
-      inr (
-        n.0,
-        n.1,
-        ⊎_elim
-            (λ (q : j ≡ s). λ z. n.2 (ap now.epoch q ∙ same q ∙ sym (ap h.epoch q) ∙ z))
-            (λ (d : j ≢ s). λ z. n.2 (epochs j b e d ∙ z))
-            (cases_eq j s),
-      )
+  out_back j w b e same (inr n) = inr (
+    n.0,
+    n.1,
+    ⊎_elim
+        (λ (q : j ≡ s). λ z. n.2 (ap now.epoch q ∙ same q ∙ sym (ap h.epoch q) ∙ z)) (λ (d : j ≢ s). λ z. n.2 (epochs j b e d ∙ z)) (cases_eq j s),
+  )
 
   -- a seat that a view knows to be out afterwards reached none of that view's homes before,
   -- unless it is the stepping seat and its epoch changed
-  pub stays_out : (i j x : ℕ) (w b : View) (c : Cursor) → (j ≡ s → now.epoch s ≡ h.epoch s) → IsViewOf views i w
+  stays_out : (i j x : ℕ) (w b : View) (c : Cursor) → (j ≡ s → now.epoch s ≡ h.epoch s) → IsViewOf views i w
       → 1 ≤ times x w.homes → IsOut now w j → IsViewOf views j b → b.cursor ≡ Some c → MayReach h c x → ⊥
-  stays_out i j x w b c same ew home out e has m = parts.barrier i j x w b c ew e has home (out_back j w b e same out) m
+  stays_out i j x w b c same ew home out e has m = step.parts.barrier i j x w b c ew e has home (out_back j w b e same out) m
+
+  -- so it is of the stepping seat's own view
+  pub out_on : (j x : ℕ) (b : View) (c : Cursor) → (j ≡ s → now.epoch s ≡ h.epoch s) → 1 ≤ times x v.homes → IsOut now v j
+      → IsViewOf views j b → b.cursor ≡ Some c → MayReach h c x → ⊥
+  out_on j x b c same home out e has m = stays_out s j x v b c same step.at home out e has m
 
 -- what a step has to say of the stepping seat's view
 pub record Mine (h now : Heap) (views : List View) (s : ℕ) (v u : View) : Type 0 where
@@ -261,8 +271,8 @@ pub record Mine (h now : Heap) (views : List View) (s : ℕ) (v u : View) : Type
   -- its own stays, or it has no cursor
   pub epoch : (now.epoch s ≡ h.epoch s) ⊎ (u.cursor ≡ None)
 
-module _ (h now : Heap) (views : List View) (s : ℕ) (v u : View) (parts : Parts h views) (at : IsViewOf views s v)
-    (aside : Aside h now v) (mine : Mine h now views s v u) (places : Places now (slice_set views s u)) where
+module _ {h now : Heap} {views : List View} {s : ℕ} {v u : View} (step : StepAside h now views s v) (mine : Mine h now views s v u)
+    (places : Places now (slice_set views s u)) where
   abbrev these : List View
   these = slice_set views s u
 
@@ -275,152 +285,104 @@ module _ (h now : Heap) (views : List View) (s : ℕ) (v u : View) (parts : Part
     may : MayReach h cursor x
 
   reach_after : (j x : ℕ) (w : View) (d : Cursor) → IsViewOf these j w → w.cursor ≡ Some d → MayReach now d x → InChain h x ⊎ Met j x
-  reach_after j x w d e has m = by_seat h now views s v u parts at aside j w e
+  reach_after j x w d e has m = by_seat u step j w e
       (λ q r. ⊎_elim inl
       (λ (t : (c : Cursor) × (v.cursor ≡ Some c) × MayReach h c x). inr
-      (record { view = v; cursor = t.0; there = subst (λ a. IsViewOf views a v) (sym q) at; has = t.1; may = t.2 }))
+      (record { view = v; cursor = t.0; there = subst (λ a. IsViewOf views a v) (sym q) step.at; has = t.1; may = t.2 }))
       (mine.reach d x (ap (λ (z : View). z.cursor) r ∙ has) m))
       (λ n e'. inr (record {
         view = w;
         cursor = d;
         there = e';
         has = has;
-        may = may_back h now views s v parts at aside d (clear_cursor h now views s v parts at aside j w d e' has) x m;
+        may = back_cursor step j w d x e' has m;
       }))
 
   each_now : (i : ℕ) (w : View) → IsViewOf these i w → IsViewKept now i w
-  each_now i w e = by_seat h now views s v u parts at aside i w e
+  each_now i w e = by_seat u step i w e
       (λ q r. subst (λ (z : ℕ × View). IsViewKept now z.0 z.1) (λ z. (sym q z, r z)) mine.kept)
-      (λ d e'. view_now h now views s v parts at aside i w d e' (mine.epochs i w e' d))
+      (λ d e'. view_now step i w d e' (mine.epochs i w e' d))
 
   no_reuse_now : NoReuse now these
-  no_reuse_now i j x w y d e e' has idle m = by_seat h now views s v u parts at aside i w e
+  no_reuse_now i j x w y d e e' has idle m = by_seat u step i w e
       (λ q r. let t = mine.idle x (subst (λ (z : View). IsIdle z x) (sym r) idle) in
       ⊎_elim t.0 (λ (b : Met j x). t.1 j b.view b.cursor b.there b.has b.may) (reach_after j x y d e' has m))
       (λ n ew. ⊎_elim
-      (λ (r : InChain h x). idle_not_chain h views parts.places i x w ew idle r)
-      (λ (b : Met j x). parts.no_reuse i j x w b.view b.cursor ew b.there b.has idle b.may)
+      (λ (r : InChain h x). idle_not_chain h views step.parts.places i x w ew idle r)
+      (λ (b : Met j x). step.parts.no_reuse i j x w b.view b.cursor ew b.there b.has idle b.may)
       (reach_after j x y d e' has m))
 
   barrier_now : Barrier now these
   barrier_now i j x w y d e e' has home out m =
       let one = places.at_home i x w e home in
-      let off : InChain h x → ⊥ = λ r. let z = places.chain_home x (chain_on h now views s v parts at aside x r) in omega (arith, one, z) in
+      let off : InChain h x → ⊥ = λ r. let z = places.chain_home x (chain_on step x r) in omega (arith, one, z) in
       let same : j ≡ s → now.epoch s ≡ h.epoch s = λ q. ⊎_elim
       (λ (a : now.epoch s ≡ h.epoch s). a)
-      (λ (none : u.cursor ≡ None). absurd (let z = is_view these s j u y (mine_after h now views s v u parts at aside) e' q in
+      (λ (none : u.cursor ≡ None). absurd (let z = is_view these s j u y (mine_after u step) e' q in
       let k = ap (λ (g : View). g.cursor) z in cc))
       mine.epoch in
       ⊎_elim off
-      (λ (b : Met j x). by_seat h now views s v u parts at aside i w e
+      (λ (b : Met j x). by_seat u step i w e
       (λ q r. mine.out j x b.view b.cursor same (subst (λ (z : View). 1 ≤ times x z.homes) (sym r) home)
       (subst (λ (z : View). IsOut now z j) (sym r) out) b.there b.has b.may)
-      (λ n ew. stays_out h now views s v parts at mine.epochs i j x w b.view b.cursor same ew home out b.there b.has b.may))
+      (λ n ew. stays_out step mine.epochs i j x w b.view b.cursor same ew home out b.there b.has b.may))
       (reach_after j x y d e' has m)
 
   alone_now : now.next 0 % 2 ≡ 1 → IsAlone now these
   alone_now low =
-      let a = parts.alone (mine.low low) in
+      let a = step.parts.alone (mine.low low) in
       let chain : InChain h a.node = subst (Reach (to h) a.node) (sym a.first) here in
-      let apart = chain_apart h now views s v parts at aside a.node chain in
+      let apart = chain_apart step a.node chain in
       record {
         node = a.node;
-        first = aside.head ∙ a.first;
-        last = others h now views s v parts at aside a.node apart ∙ a.last;
+        first = step.aside.head ∙ a.first;
+        last = others step a.node apart ∙ a.last;
         rest = ⊎_elim
-            (λ (m : IsMarked h a.node). inl (mark_is h now views s v parts at aside a.node apart ∙ m))
+            (λ (m : IsMarked h a.node). inl (mark_is step a.node apart ∙ m))
             (λ (b : IsHeldBy views a.node). inr (held_now a.node b))
             a.rest;
-        unseen = λ i w c e has m. by_seat h now views s v u parts at aside i w e
+        unseen = λ i w c e has m. by_seat u step i w e
             (λ q r. mine.unseen low a c (ap (λ (z : View). z.cursor) r ∙ has) m)
-            (λ d e'. a.unseen i w c e' has (may_back h now views s v parts at aside c (clear_cursor h now views s v parts at aside i w c e' has) a.node m));
+            (λ d e'. a.unseen i w c e' has (back_cursor step i w c a.node e' has m));
       }
     where
       held_now : (x : ℕ) → IsHeldBy views x → IsHeldBy these x
-      held_now x b =
-          ⊎_elim
-          (λ (q : b.seat ≡ s). record {
+      held_now x b = forth views s v u step.at b.seat b.view b.at
+          (λ there same. record {
             seat = s;
             view = u;
-            at = mine_after h now views s v u parts at aside;
+            at = there;
             own = b.own;
-            is = mine.held b.own (ap (λ (z : View). z.own) (mine_is h now views s v u parts at aside b.seat b.view b.at q)
-                ∙ b.is) b.done;
+            is = mine.held b.own (ap (λ (z : View). z.own) same ∙ b.is) b.done;
             node = b.node;
             done = b.done;
           })
-          (λ (d : b.seat ≢ s). record {
-            seat = b.seat;
-            view = b.view;
-            at = to_after h now views s v u parts at aside b.seat b.view d b.at;
-            own = b.own;
-            is = b.is;
-            node = b.node;
-            done = b.done;
-          })
-          (cases_eq b.seat s)
-
-  -- what another seat has to see it still has
-  other_sees : (j : ℕ) (w : View) (k : Listed) (x : ℕ) → IsViewOf views j w → w.own ≡ listed k → HasToSee h k w.cursor x → HasToSee now k w.cursor x
-  other_sees j w k x e own q = sees_on h now views s v parts at aside k w.cursor x (parts.places.linked j w k e own).0
-      (λ c has. clear_cursor h now views s v parts at aside j w c e has) q
+          (λ d there. record { seat = b.seat; view = b.view; at = there; own = b.own; is = b.is; node = b.node; done = b.done })
 
   abbrev Pair : View → View → Listed → Listed → Type 0
   Pair a b r w = ((r.todo ≡ Forward) × HasToSee now r a.cursor w.node) ⊎ ((w.todo ≡ FromHead) × HasToSee now w b.cursor r.node)
 
-  as_reader : (k : Listed) → Looks h now views v u k → (j : ℕ) (b : View) (w : Listed) → IsViewOf views j b → b.own ≡ listed w
-      → k.mode ≡ Reader → w.mode ≡ Writer → Overlaps k.range w.range → Pair u b k w
-  as_reader k o j b w e own reader writer over =
-      let over' : Overlaps o.old.range w.range = subst (λ a. Overlaps a w.range) (sym o.range) over in
-      ⊎_elim
-      (λ (t : (o.old.todo ≡ Forward) × HasToSee h o.old v.cursor w.node).
-      let r = o.sees w (record {
-        seat = j;
-        view = b;
-        there = e;
-        own = own;
-        way = inl (t.0, o.mode ∙ reader, writer);
-        over = over';
-      }) t.1 in inl (r.0 ∙ t.0, r.1))
-      (λ (t : (w.todo ≡ FromHead) × HasToSee h w b.cursor o.old.node). inr (t.0, other_sees j b w k.node e own (subst (HasToSee h w b.cursor) o.node t.1)))
-      (parts.pairs s j v b o.old w at e o.own own (o.mode ∙ reader) writer over')
-
-  as_writer : (k : Listed) → Looks h now views v u k → (j : ℕ) (b : View) (r : Listed) → IsViewOf views j b → b.own ≡ listed r
-      → r.mode ≡ Reader → k.mode ≡ Writer → Overlaps r.range k.range → Pair b u r k
-  as_writer k o j b r e own reader writer over =
-      let over' : Overlaps r.range o.old.range = subst (Overlaps r.range) (sym o.range) over in
-      ⊎_elim
-      (λ (t : (r.todo ≡ Forward) × HasToSee h r b.cursor o.old.node). inl (t.0, other_sees j b r k.node e own (subst (HasToSee h r b.cursor) o.node t.1)))
-      (λ (t : (o.old.todo ≡ FromHead) × HasToSee h o.old v.cursor r.node).
-      let q = o.sees r (record {
-        seat = j;
-        view = b;
-        there = e;
-        own = own;
-        way = inr (t.0, o.mode ∙ writer, reader);
-        over = (over'.1, over'.0);
-      }) t.1 in inr (q.0 ∙ t.0, q.1))
-      (parts.pairs j s b v r o.old e at own o.own reader (o.mode ∙ writer) over')
-
   pairs_now : Pairs now these
-  pairs_now i j a b r w ea eb er ew reader writer over = by_seat h now views s v u parts at aside i a ea
-      (λ q1 q. by_seat h now views s v u parts at aside j b eb
+  pairs_now i j a b r w ea eb er ew reader writer over = by_seat u step i a ea
+      (λ q1 q. by_seat u step j b eb
       (λ p1 p. absurd (let same : r ≡ w = listed_one r w
       (sym er ∙ sym (ap (λ (z : View). z.own) q) ∙ ap (λ (z : View). z.own) p ∙ ew) in
       let m = ap (λ (z : Listed). z.mode) same in cc))
-      (λ d e. subst (λ (z : View). Pair z b r w) q (as_reader r (mine.looks r (ap (λ (z : View). z.own) q ∙ er)) j b w e ew reader writer over)))
-      (λ d1 e1. by_seat h now views s v u parts at aside j b eb
-      (λ p1 p. subst (λ (z : View). Pair a z r w) p (as_writer w (mine.looks w (ap (λ (z : View). z.own) p ∙ ew)) i a r e1 er reader writer over))
+      (λ d e. let o = mine.looks r (ap (λ (z : View). z.own) q ∙ er) in subst (λ (z : View). Pair z b r w) q
+      (as_reader s step.parts.pairs step.at o (λ j w g. sees_still step j w g o.old.node) j b w e ew reader writer over)))
+      (λ d1 e1. by_seat u step j b eb
+      (λ p1 p. let o = mine.looks w (ap (λ (z : View). z.own) p ∙ ew) in subst (λ (z : View). Pair a z r w) p
+      (as_writer s step.parts.pairs step.at o (λ j w g. sees_still step j w g o.old.node) i a r e1 er reader writer over))
       (λ d e.
       ⊎_elim
-      (λ (t : (r.todo ≡ Forward) × HasToSee h r a.cursor w.node). inl (t.0, other_sees i a r w.node e1 er t.1))
-      (λ (t : (w.todo ≡ FromHead) × HasToSee h w b.cursor r.node). inr (t.0, other_sees j b w r.node e ew t.1))
-      (parts.pairs i j a b r w e1 e er ew reader writer over)))
+      (λ (t : (r.todo ≡ Forward) × HasToSee h r a.cursor w.node). inl (t.0, sees_still step i a r w.node e1 er t.1))
+      (λ (t : (w.todo ≡ FromHead) × HasToSee h w b.cursor r.node). inr (t.0, sees_still step j b w r.node e ew t.1))
+      (step.parts.pairs i j a b r w e1 e er ew reader writer over)))
 
   -- all that the invariant says is so after the step
   pub steady : Parts now these
   steady = record {
-    chain = chain_now h now views s v parts at aside;
+    chain = chain_now step;
     each = each_now;
     places = places;
     alone = alone_now;

@@ -18,8 +18,9 @@ use Rattle.lock_core.proofs.ByView.{set_view, set_there, is_view}
 use Rattle.lock_core.proofs.Counts.{times_joined, times_itself, times_other, without_none, without_some, once_after}
 use Rattle.lock_laws.proofs.Seats.{only_once}
 use Rattle.lock_laws.proofs.Frames.Parts.{Parts}
+use Rattle.lock_laws.proofs.Frames.Frame.{StepAside, idle_alone}
 use Rattle.lock_laws.proofs.Frames.Steady.{homes_same, places_now, steady}
-use Rattle.lock_laws.proofs.Frames.Quiet.{Calm, aside_of, idle_alone, kept_quiet, mine_quiet}
+use Rattle.lock_laws.proofs.Frames.Quiet.{Calm, calm_step, mine_quiet}
 
 -- ---- lists of flags and of notes
 
@@ -85,6 +86,9 @@ module _ (h : Heap) (views : List View) (s : ℕ) (v w : View) (parts : Parts h 
   calm : Calm h h
   calm = record { head = refl; next = λ x. refl; lo = λ x. refl; hi = λ x. refl }
 
+  step : StepAside h h views s v
+  step = calm_step s parts at calm
+
   idle_back : (x : ℕ) → IsIdle w x → IsIdle v x
   idle_back x (inl r) = inl (subst (λ (l : List ℕ). 1 ≤ times x l) waits.ready r)
   idle_back x (inr g) = inr (g.0, sym waits.own ∙ g.1, g.2)
@@ -93,16 +97,15 @@ module _ (h : Heap) (views : List View) (s : ℕ) (v w : View) (parts : Parts h 
   pub waits_kept : Parts h (slice_set views s w)
   waits_kept =
       let k = parts.each s v at in
-      steady h h views s v w parts at (aside_of h h v calm)
-      (mine_quiet h h views s v w parts at calm waits.own waits.cursor
-      (kept_quiet h h views s v w parts at calm waits.own waits.cursor (waits.epoch ∙ k.epoch)
-      (λ e. waits.cursor ∙ k.even (ap (λ n. n % 2) (sym waits.epoch) ∙ e)))
-      (λ x idle. idle_alone h h views s v w parts at calm x (idle_back x idle))
+      steady step
+      (mine_quiet w step calm waits.own waits.cursor (waits.epoch ∙ k.epoch)
+      (λ e. waits.cursor ∙ k.even (ap (λ n. n % 2) (sym waits.epoch) ∙ e))
+      (λ x idle. idle_alone step x (idle_back x idle))
       (λ j x b c same home out e has m. waits.out j x b c home out e has m)
       (λ l. l)
       (λ j b e d. refl)
       (inl refl))
-      (places_now h h views s v w parts at (aside_of h h v calm) parts.places (record {
+      (places_now w step (record {
         times_same = λ x z. own_times x (waits.own z) + times x (waits.ready z) + times x (waits.used z);
         homes = λ x. let a = waits.homes x in let b = ap (times x) waits.used in omega (arith, a, b);
         at_home = waits.at_home;
@@ -122,11 +125,11 @@ module _ (h : Heap) (views : List View) (s : ℕ) (v w : View) (parts : Parts h 
 
     ready_idle : (x : ℕ) → IsIdle (released w) x → (InChain h x → ⊥)
         × ((j : ℕ) (b : View) (c : Cursor) → IsViewOf views j b → b.cursor ≡ Some c → MayReach h c x → ⊥)
-    ready_idle x (inr g) = idle_alone h h views s v w parts at calm x (inr (g.0, sym waits.own ∙ g.1, g.2))
+    ready_idle x (inr g) = idle_alone step x (inr (g.0, sym waits.own ∙ g.1, g.2))
     ready_idle x (inl r) =
         ⊎_elim
         (λ (z : times x w.homes ≡ 0). let t = times_joined x w.ready w.homes in
-        idle_alone h h views s v w parts at calm x (inl (let q = ap (times x) waits.ready in omega (arith, t, z, q, r))))
+        idle_alone step x (inl (let q = ap (times x) waits.ready in omega (arith, t, z, q, r))))
         (λ (d : times x w.homes ≢ 0). let l : 1 ≤ times x w.homes = omega (arith, d) in (not_chain x l, λ j b c e has m. alone j x b c l e has m))
         (cases_eq (times x w.homes) 0)
 
@@ -158,16 +161,15 @@ module _ (h : Heap) (views : List View) (s : ℕ) (v w : View) (parts : Parts h 
     released_kept =
         let u = released w in
         let k = parts.each s v at in
-        steady h h views s v u parts at (aside_of h h v calm)
-        (mine_quiet h h views s v u parts at calm waits.own waits.cursor
-        (kept_quiet h h views s v u parts at calm waits.own waits.cursor (waits.epoch ∙ k.epoch)
-        (λ e. waits.cursor ∙ k.even (ap (λ n. n % 2) (sym waits.epoch) ∙ e)))
+        steady step
+        (mine_quiet u step calm waits.own waits.cursor (waits.epoch ∙ k.epoch)
+        (λ e. waits.cursor ∙ k.even (ap (λ n. n % 2) (sym waits.epoch) ∙ e))
         ready_idle
         (λ j x b c same home out e has m. omega (arith, home))
         (λ l. l)
         (λ j b e d. refl)
         (inl refl))
-        (places_now h h views s v u parts at (aside_of h h v calm) parts.places (record {
+        (places_now u step (record {
           times_same = counts;
           homes = λ x. omega arith;
           at_home = λ x l. absurd (omega (arith, l));

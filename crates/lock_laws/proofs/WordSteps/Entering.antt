@@ -1,5 +1,5 @@
 -- Enter and Leave: the own epoch counts on.
-use Rattle.std.proofs.Common.{◌≡◌, ◌≢◌, ◌⊎◌, ℕ, suc, ◌+◌, ◌/◌, ◌%◌, ◌≤◌, List, None, inl, inr, refl, sym, ap, ◌∙◌, subst, arith}
+use Rattle.std.proofs.Common.{◌≡◌, ◌≢◌, ◌⊎◌, ℕ, suc, ◌+◌, ◌/◌, ◌%◌, ◌≤◌, List, inl, inr, refl, sym, ap, ◌∙◌, subst, arith}
 use Rattle.std.specs.Prelude.{slice_set, ◌==◌, if◌then◌else◌, Bool, true, false}
 use Rattle.std.proofs.Common.{⊎_elim, eqb-true}
 use Rattle.lock_core.specs.Counted.{times}
@@ -14,8 +14,9 @@ use Rattle.lock_core.specs.Views.{next_epoch, entered, left, kept_own, ready_lef
 use Rattle.lock_laws.specs.Invariant.{IsViewOf, IsIdle}
 use Rattle.lock_core.proofs.Words.{WroteEpoch}
 use Rattle.lock_laws.proofs.Frames.Parts.{Parts}
-use Rattle.lock_laws.proofs.Frames.Steady.{homes_same, places_now, stays_out, steady}
-use Rattle.lock_laws.proofs.Frames.Quiet.{Calm, aside_of, idle_alone, written_on, kept_quiet, mine_quiet, stands_quiet}
+use Rattle.lock_laws.proofs.Frames.Frame.{idle_alone}
+use Rattle.lock_laws.proofs.Frames.Steady.{homes_same, places_now, out_on, steady}
+use Rattle.lock_laws.proofs.Frames.Quiet.{Calm, calm_step, written_on, mine_quiet}
 use Rattle.lock_laws.proofs.Frames.Owns.{own_is}
 
 calm_epoch : (h now : Heap) (s w : ℕ) → WroteEpoch h now s w → Calm h now
@@ -26,21 +27,25 @@ pub enters : (h now : Heap) (views : List View) (s : ℕ) (v : View) → Parts h
     → WroteEpoch h now s (next_epoch (h.epoch s)) → Parts now (slice_set views s (entered v))
 enters h now views s v parts at even wrote =
     let u = entered v in
+    let k = parts.each s v at in
     let calm = calm_epoch h now s _ wrote in
-    let none : v.cursor ≡ None = (parts.each s v at).even even in
-    let cursor : u.cursor ≡ v.cursor = sym none in
-    let kept = kept_quiet h now views s v u parts at calm refl cursor (ap next_epoch (parts.each s v at).epoch ∙ sym wrote.is) (λ e. refl) in
+    let step = calm_step s parts at calm in
     let epochs = λ (j : ℕ) (w : View) (e : IsViewOf views j w) (d : j ≢ s). wrote.others j d in
-    steady h now views s v u parts at (aside_of h now v calm)
-    (mine_quiet h now views s v u parts at calm refl cursor kept
-    (λ x idle. idle_alone h now views s v u parts at calm x idle)
-    (λ j x w c same home out e has m. stays_out h now views s v parts at epochs s j x v w c same at home out e has m)
-    (λ l. sym (ap (λ n. n % 2) (wrote.next 0)) ∙ l)
-    epochs
-    (inr refl))
-    (places_now h now views s v u parts at (aside_of h now v calm) parts.places
-    (stands_quiet h now views s v u parts at wrote.home refl refl refl refl refl)
-    (homes_same h now views (slice_set views s u) s wrote.home))
+    steady step
+    (mine_quiet u step calm refl (sym (k.even even)) (ap next_epoch k.epoch ∙ sym wrote.is) (λ e. refl) (idle_alone step) (out_on step epochs)
+    (λ l. sym (ap (λ n. n % 2) (wrote.next 0)) ∙ l) epochs (inr refl))
+    (places_now u step (record {
+      times_same = λ x. refl;
+      homes = λ x. parts.places.homes s x v at;
+      at_home = λ x l. wrote.home x ∙ parts.places.at_home s x v at l;
+      linked = λ g e. (g, e, refl);
+      linked_on = λ g e. (g, e, refl);
+      used = λ x e. e;
+      used_on = λ x e z. e;
+      filling = λ f e. wrote.home f.node ∙ parts.places.filling_home s v f at e;
+      hand = λ x e. e;
+      hand_on = λ x e. inl e;
+    }) (homes_same h now views (slice_set views s u) s wrote.home))
 
 -- ---- Leave
 
@@ -50,14 +55,12 @@ not_filling (Filling node lo hi mode aimed) f e = cc
 not_filling (Linked node range mode todo) f e = cc
 
 stays_linked : (o : Own) (k : Listed) → kept_own o ≡ listed k → o ≡ listed k
-stays_linked Nothing k e = absurd (cc)
-stays_linked (Filling node lo hi mode aimed) k e = absurd (cc)
 stays_linked (Linked node range mode todo) k e = e
+stays_linked _ k e = absurd (cc)
 
 times_left : (x : ℕ) (o : Own) (ready : List ℕ) → own_times x (kept_own o) + times x (ready_left o ready) ≡ own_times x o + times x ready
-times_left x Nothing ready = refl
 times_left x (Filling node lo hi mode aimed) ready = omega arith
-times_left x (Linked node range mode todo) ready = refl
+times_left x _ ready = refl
 
 -- a node that is ready after Leave was ready or was being filled
 left_idle : (v : View) (x : ℕ) → IsIdle (left v) x → IsIdle v x
@@ -83,21 +86,22 @@ pub leaves : (h now : Heap) (views : List View) (s : ℕ) (v : View) → Parts h
 leaves h now views s v parts at done wrote =
     let u = left v in
     let calm = calm_epoch h now s _ wrote in
+    let step = calm_step s parts at calm in
     let k = parts.each s v at in
     let epochs = λ (j : ℕ) (w : View) (e : IsViewOf views j w) (d : j ≢ s). wrote.others j d in
-    steady h now views s v u parts at (aside_of h now v calm)
+    steady step
     (record {
       kept = record {
         epoch = ap next_epoch k.epoch ∙ sym wrote.is;
         even = λ e. refl;
         filled = λ f e. absurd (not_filling v.own f e);
-        linked = λ g e. written_on h now g calm (k.linked g (stays_linked v.own g e));
+        linked = λ g e. written_on calm (k.linked g (stays_linked v.own g e));
         cursor = λ c e. absurd (cc);
         to_see = λ g e todo. absurd (let d = done g (stays_linked v.own g e) in cc);
       };
       reach = λ d x e m. absurd (cc);
-      idle = λ x idle. idle_alone h now views s v u parts at calm x (left_idle v x idle);
-      out = λ j x w c same home out e has m. stays_out h now views s v parts at epochs s j x v w c same at home out e has m;
+      idle = λ x idle. idle_alone step x (left_idle v x idle);
+      out = out_on step epochs;
       looks = λ g e. let own = stays_linked v.own g e in record {
         old = g;
         own = own;
@@ -112,7 +116,7 @@ leaves h now views s v parts at done wrote =
       epochs = epochs;
       epoch = inr refl;
     })
-    (places_now h now views s v u parts at (aside_of h now v calm) parts.places (record {
+    (places_now u step (record {
       times_same = λ x. ap (λ n. n + times x v.used) (times_left x v.own v.ready);
       homes = λ x. parts.places.homes s x v at;
       at_home = λ x l. wrote.home x ∙ parts.places.at_home s x v at l;

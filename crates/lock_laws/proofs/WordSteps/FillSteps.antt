@@ -15,9 +15,8 @@ use Rattle.lock_laws.proofs.Frames.Owns.{same_some}
 use Rattle.lock_core.proofs.Sizing.{same_filled}
 use Rattle.lock_core.proofs.Words.{WroteLo, WroteHi, WroteCell}
 use Rattle.lock_laws.proofs.Frames.Parts.{Parts, IsCursorKept}
-use Rattle.lock_laws.proofs.Frames.Frame.{Aside, clear_cursor, cursor_now, may_back}
-use Rattle.lock_laws.proofs.Frames.Steady.{homes_same, places_now, stays_out, steady}
-use Rattle.lock_laws.proofs.Frames.Idle.{idle_not_chain}
+use Rattle.lock_laws.proofs.Frames.Frame.{Aside, StepAside, still_cursor, back_cursor, idle_alone}
+use Rattle.lock_laws.proofs.Frames.Steady.{homes_same, places_now, out_on, steady}
 use Rattle.lock_laws.proofs.WordSteps.Homing.{AreSeats}
 
 -- the own node g after the step is f before it, with other things known of its words
@@ -40,35 +39,33 @@ module _ (seats : ℕ) (h now : Heap) (views : List View) (s : ℕ) (v : View) (
   own_same : (x : ℕ) → own_times x refilled.own ≡ own_times x v.own
   own_same x = ap (λ n. own_times x (Filling n g.lo g.hi g.mode g.aimed)) node ∙ sym (ap (own_times x) own)
 
+  step : StepAside h now views s v
+  step = record { parts = parts; at = at; aside = aside }
+
   -- all that the invariant says is so where node g is the own one
   pub refills : Parts now (slice_set views s refilled)
   refills =
-      steady h now views s v refilled parts at aside
+      steady step
       (record {
         kept = record {
           epoch = (parts.each s v at).epoch ∙ sym (epoch s (few s v at));
           even = (parts.each s v at).even;
           filled = λ q e. subst (IsKnown now) (same_filled g q e) known;
           linked = λ q e. absurd (cc);
-          cursor = λ c e. past_stop c e (cursor_now h now views s v parts at aside c
-              (clear_cursor h now views s v parts at aside s v c at e) v.own ((parts.each s v at).cursor c e));
+          cursor = λ c e. past_stop c e (still_cursor step s v c at e);
           to_see = λ q e. absurd (cc);
         };
-        reach = λ d x e m. inr (d, e, may_back h now views s v parts at aside d (clear_cursor h now views s v parts at aside s v d at e) x m);
-        idle = λ x idle. (
-          idle_not_chain h views parts.places s x v at (was_idle x idle),
-          λ j w c e has m. parts.no_reuse s j x v w c at e has (was_idle x idle) m,
-        );
-        out = λ j x w c same here out e has m. stays_out h now views s v parts at epochs s j x v w c same at here out e has m;
+        reach = λ d x e m. inr (d, e, back_cursor step s v d x at e m);
+        idle = λ x idle. idle_alone step x (was_idle x idle);
+        out = out_on step epochs;
         looks = λ q e. absurd (cc);
         held = λ q e todo. absurd (cc);
-        unseen = λ odd a d e m. a.unseen s v d at e (may_back h now views s v parts at aside d
-            (clear_cursor h now views s v parts at aside s v d at e) a.node m);
+        unseen = λ odd a d e m. a.unseen s v d at e (back_cursor step s v d a.node at e m);
         low = low;
         epochs = epochs;
         epoch = inl (epoch s (few s v at));
       })
-      (places_now h now views s v refilled parts at aside parts.places (record {
+      (places_now refilled step (record {
         times_same = λ x. ap (λ n. n + times x v.ready + times x v.used) (own_same x);
         homes = λ x. parts.places.homes s x v at;
         at_home = λ x l. home x ∙ parts.places.at_home s x v at l;

@@ -16,8 +16,9 @@ use Rattle.lock_laws.proofs.Seats.{only_once}
 use Rattle.lock_laws.proofs.Frames.Idle.{idle_not_used}
 use Rattle.lock_core.proofs.Words.{WroteHome}
 use Rattle.lock_laws.proofs.Frames.Parts.{Parts}
-use Rattle.lock_laws.proofs.Frames.Steady.{places_now, stays_out, steady}
-use Rattle.lock_laws.proofs.Frames.Quiet.{Calm, aside_of, idle_alone, kept_quiet, mine_quiet}
+use Rattle.lock_laws.proofs.Frames.Frame.{idle_alone}
+use Rattle.lock_laws.proofs.Frames.Steady.{places_now, out_on, steady}
+use Rattle.lock_laws.proofs.Frames.Quiet.{Calm, calm_step, mine_quiet}
 
 calm_home : (seats : ℕ) (h now : Heap) (n w : ℕ) → WroteHome seats h now n w → Calm h now
 calm_home seats h now n w wrote = record { head = ap (λ k. k / 2) (wrote.next 0); next = λ x. wrote.next (suc x); lo = wrote.lo; hi = wrote.hi }
@@ -37,17 +38,13 @@ pub gives_home : (seats : ℕ) (h now : Heap) (views : List View) (s n : ℕ) (v
 gives_home seats h now views s n v few parts at hand wrote =
     let u = gave_home v in
     let calm = calm_home seats h now n 1 wrote in
+    let step = calm_step s parts at calm in
     let k = parts.each s v at in
     let epochs = λ (j : ℕ) (w : View) (e : IsViewOf views j w) (d : j ≢ s). wrote.epoch j (few j w e) in
-    let kept = kept_quiet h now views s v u parts at calm refl refl (k.epoch ∙ sym (wrote.epoch s (few s v at))) k.even in
-    steady h now views s v u parts at (aside_of h now v calm)
-    (mine_quiet h now views s v u parts at calm refl refl kept
-    (λ x idle. idle_alone h now views s v u parts at calm x idle)
-    (λ j x w c same home out e has m. stays_out h now views s v parts at epochs s j x v w c same at home out e has m)
-    (λ l. sym (ap (λ a. a % 2) (wrote.next 0)) ∙ l)
-    epochs
-    (inl (wrote.epoch s (few s v at))))
-    (places_now h now views s v u parts at (aside_of h now v calm) parts.places (record {
+    steady step
+    (mine_quiet u step calm refl refl (k.epoch ∙ sym (wrote.epoch s (few s v at))) k.even (idle_alone step) (out_on step epochs)
+    (λ l. sym (ap (λ a. a % 2) (wrote.next 0)) ∙ l) epochs (inl (wrote.epoch s (few s v at))))
+    (places_now u step (record {
       times_same = λ x. refl;
       homes = λ x. parts.places.homes s x v at;
       at_home = λ x l. one x (parts.places.at_home s x v at l);
@@ -100,8 +97,9 @@ clears_home seats h now views s n rest v few parts at own even ready wrote =
     let calm = calm_home seats h now n 0 wrote in
     let k = parts.each s v at in
     let none : v.cursor ≡ None = k.even even in
+    let step = calm_step s parts at calm in
     let epochs = λ (j : ℕ) (w : View) (e : IsViewOf views j w) (d : j ≢ s). wrote.epoch j (few j w e) in
-    steady h now views s v u parts at (aside_of h now v calm)
+    steady step
     (record {
       kept = record {
         epoch = k.epoch ∙ sym (wrote.epoch s (few s v at));
@@ -120,8 +118,8 @@ clears_home seats h now views s n rest v few parts at own even ready wrote =
         to_see = λ g e. absurd (cc);
       };
       reach = λ d x e m. absurd (cc);
-      idle = λ x idle. idle_alone h now views s v u parts at calm x (was_ready x idle);
-      out = λ j x w c same home out e has m. stays_out h now views s v parts at epochs s j x v w c same at home out e has m;
+      idle = λ x idle. idle_alone step x (was_ready x idle);
+      out = out_on step epochs;
       looks = λ g e. absurd (cc);
       held = λ g e todo. absurd (cc);
       unseen = λ odd a d e m. absurd (cc);
@@ -129,7 +127,7 @@ clears_home seats h now views s n rest v few parts at own even ready wrote =
       epochs = epochs;
       epoch = inl (wrote.epoch s (few s v at));
     })
-    (places_now h now views s v u parts at (aside_of h now v calm) parts.places (record {
+    (places_now u step (record {
       times_same = λ x. sym (counts x);
       homes = λ x. parts.places.homes s x v at;
       at_home = λ x l. one s x v at (let b = parts.places.homes s x v at in omega (arith, b, l)) (parts.places.at_home s x v at l);

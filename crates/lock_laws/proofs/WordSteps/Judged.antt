@@ -10,7 +10,7 @@ use Rattle.lock_core.specs.declared.compare.Verdict.TheVariants.{Past, Stop, Con
 use Rattle.lock_core.specs.declared.views.View.{View}
 use Rattle.lock_core.specs.declared.views.Cursor.{Cursor}
 use Rattle.lock_core.specs.declared.views.Own.{Own}
-use Rattle.lock_core.specs.declared.views.Own.TheVariants.{Nothing, Filling, Linked}
+use Rattle.lock_core.specs.declared.views.Own.TheVariants.{Filling, Linked}
 use Rattle.lock_core.specs.declared.views.Todo.{Todo}
 use Rattle.lock_core.specs.declared.views.Todo.TheVariants.{Forward, FromHead, Done}
 use Rattle.lock_laws.specs.Paths.{Reach, here, there}
@@ -23,7 +23,7 @@ use Rattle.lock_laws.specs.Invariant.{IsViewOf, InChain, Names, MayReach, IsOrde
 use Rattle.lock_core.proofs.Table.{together}
 use Rattle.lock_core.proofs.ByView.{set_there}
 use Rattle.lock_laws.proofs.Frames.Owns.{same_some}
-use Rattle.lock_laws.proofs.PathSteps.{listed_one}
+use Rattle.lock_laws.proofs.PathSteps.{listed_one, nothing_read}
 use Rattle.lock_laws.proofs.Frames.Parts.{Parts, IsCursorKept}
 use Rattle.lock_laws.proofs.Frames.Steady.{Rival}
 use Rattle.lock_laws.proofs.Coming.{done}
@@ -89,20 +89,17 @@ listed_verdict : (k : Listed) (t : Todo) (lo w : ℕ) → k.todo ≡ t → verdi
 listed_verdict k t lo w e = λ z. validated (e z) k.range lo w
 
 stopped_filling : (o : Own) (f : Filled) → own_stopped o ≡ filling f → o ≡ filling f
-stopped_filling Nothing f e = absurd (cc)
 stopped_filling (Filling node lo hi mode aimed) f e = e
 stopped_filling (Linked node range mode Forward) f e = absurd (cc)
-stopped_filling (Linked node range mode FromHead) f e = absurd (cc)
-stopped_filling (Linked node range mode Done) f e = absurd (cc)
+stopped_filling _ f e = absurd (cc)
 
 stopped_listed : (o : Own) (k : Listed) → own_stopped o ≡ listed k → k.todo ≡ FromHead → o ≡ listed k
-stopped_listed Nothing k e t = absurd (cc)
-stopped_listed (Filling node lo hi mode aimed) k e t = absurd (cc)
 stopped_listed (Linked node range mode Forward) k e t =
     absurd (let q = ap (λ (z : Listed). z.todo) (listed_one (record { node = node; range = range; mode = mode; todo = Done }) k
     e) in cc)
 stopped_listed (Linked node range mode FromHead) k e t = e
 stopped_listed (Linked node range mode Done) k e t = e
+stopped_listed _ k e t = absurd (cc)
 
 module _ (h : Heap) (views : List View) (s : ℕ) (v : View) (c : Cursor) (y n lo : ℕ) (parts : Parts h views)
     (at : IsViewOf views s v) (has : v.cursor ≡ Some c) (even : c.cur % 2 ≡ 0) (cur : c.cur / 2 ≡ suc y) (next : c.next ≡ Some n)
@@ -176,13 +173,7 @@ module _ (h : Heap) (views : List View) (s : ℕ) (v : View) (c : Cursor) (y n l
   kept_past : verdict_of v.own lo (h.hi y) ≡ Past → IsCursorKept h (own_at v.own n) d
   kept_past past = record {
     seen = λ t m. kept.seen t (names_past t m);
-    read = record {
-      next_node = λ n e. absurd (cc);
-      lo_node = λ l e. absurd (cc);
-      lo = λ l x e q. absurd (cc);
-      marked = λ n e q. absurd (cc);
-      next = λ n x e ch un r. absurd (cc);
-    };
+    read = nothing_read h d refl refl;
     range = λ x m. kept.range x (may_past x m);
     kept = λ x m. ⊎_elim
         (λ (r : InChain h x). inl r)
@@ -222,17 +213,17 @@ module _ (h : Heap) (views : List View) (s : ℕ) (v : View) (c : Cursor) (y n l
   abbrev stopped : Cursor
   stopped = record c { next = None }
 
+  names_stop : (t : ℕ) → Names stopped t → Names c t
+  names_stop t (inl e) = inl e
+  names_stop t (inr (inl e)) = inr (inl e)
+  names_stop t (inr (inr m)) = absurd (let e = m.1 in cc)
+
   may_stop : (x : ℕ) → MayReach h stopped x → MayReach h c x
-  may_stop x m = record { target = m.target; named = names m.target m.named; reach = m.reach }
-    where
-      names : (t : ℕ) → Names stopped t → Names c t
-      names t (inl e) = inl e
-      names t (inr (inl e)) = inr (inl e)
-      names t (inr (inr m)) = absurd (let e = m.1 in cc)
+  may_stop x m = record { target = m.target; named = names_stop m.target m.named; reach = m.reach }
 
   kept_stop : verdict_of v.own lo (h.hi y) ≡ Stop → IsCursorKept h (own_stopped v.own) stopped
   kept_stop stop = record {
-    seen = λ t m. kept.seen t (names t m);
+    seen = λ t m. kept.seen t (names_stop t m);
     read = record {
       next_node = λ n e. absurd (cc);
       lo_node = kept.read.lo_node;
@@ -247,11 +238,6 @@ module _ (h : Heap) (views : List View) (s : ℕ) (v : View) (c : Cursor) (y n l
     stop = λ f a b x e1 e2 e3 place q. let same : y ≡ x = omega (arith, cur, q) in
         subst (λ z. compared f.mode a b (h.lo z) (h.hi z) ≡ Stop) same (compared_is f a b Stop stop (stopped_filling v.own f e1) e2 e3);
   }
-    where
-      names : (t : ℕ) → Names stopped t → Names c t
-      names t (inl e) = inl e
-      names t (inr (inl e)) = inr (inl e)
-      names t (inr (inr m)) = absurd (let e = m.1 in cc)
 
   -- a reader that stops has no rival left to see
   blind_at_stop : verdict_of v.own lo (h.hi y) ≡ Stop → (k g : Listed) → v.own ≡ listed k → Rival views k g → HasToSee h k v.cursor g.node → ⊥
@@ -274,11 +260,8 @@ module _ (h : Heap) (views : List View) (s : ℕ) (v : View) (c : Cursor) (y n l
   own_stop stop = by_own v.own refl
     where
       by_own : (o : Own) → v.own ≡ o → (own_stopped o ≡ o) ⊎ ((k : Listed) × (o ≡ listed k) × (own_stopped o ≡ listed (done k)))
-      by_own Nothing e = inl refl
-      by_own (Filling node lo hi mode aimed) e = inl refl
       by_own (Linked node range mode Forward) e = inr (record { node = node; range = range; mode = mode; todo = Forward }, refl, refl)
-      by_own (Linked node range mode FromHead) e = inl refl
-      by_own (Linked node range mode Done) e = inl refl
+      by_own _ e = inl refl
 
   stops : verdict_of v.own lo (h.hi y) ≡ Stop → Parts h (slice_set views s (hi_judged v c y n Stop))
   stops stop = moves_kept h h views s v (hi_judged v c y n Stop) parts at (calm_same h) (λ x. refl) (λ j w e. refl) (λ l. l) (record {

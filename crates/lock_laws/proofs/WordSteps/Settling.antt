@@ -11,9 +11,10 @@ use Rattle.lock_core.specs.StepTable.{IsAtPlace}
 use Rattle.lock_laws.specs.Invariant.{IsViewOf, InChain, Names, MayReach, IsOrdered, HasToSee, SeesFrom}
 use Rattle.lock_laws.proofs.Frames.Owns.{same_some}
 use Rattle.lock_core.proofs.Words.{WroteCell}
+use Rattle.lock_laws.proofs.PathSteps.{nothing_read}
 use Rattle.lock_laws.proofs.Frames.Parts.{Parts, IsCursorKept, IsChainKept}
 use Rattle.lock_laws.proofs.Frames.Frame.{chain_now, chain_on, chain_back}
-use Rattle.lock_laws.proofs.Frames.Quiet.{Calm, aside_of}
+use Rattle.lock_laws.proofs.Frames.Quiet.{Calm, calm_step}
 use Rattle.lock_laws.proofs.WordSteps.Homing.{AreSeats}
 use Rattle.lock_laws.proofs.Frames.Moving.{moves_kept}
 use Rattle.lock_laws.proofs.Frames.Seeing.{rival_chain}
@@ -55,7 +56,7 @@ module _ (seats : ℕ) (h now : Heap) (views : List View) (s : ℕ) (v : View) (
       (named m.target m.named)
 
   chain : IsChainKept now
-  chain = chain_now h now views s v parts at (aside_of h now v calm)
+  chain = chain_now (calm_step s parts at calm)
 
   kept_now : IsCursorKept now v.own d
   kept_now = record {
@@ -63,13 +64,7 @@ module _ (seats : ℕ) (h now : Heap) (views : List View) (s : ℕ) (v : View) (
         (λ (e : t ≡ 0). subst (IsOrdered now) (sym e) (ordered_end now))
         (λ (e : t ≡ to now 0). subst (IsOrdered now) (sym e) chain.ordered)
         (named t n);
-    read = record {
-      next_node = λ n e. absurd (let b = bare.1 in cc);
-      lo_node = λ l e. absurd (let b = bare.2 in cc);
-      lo = λ l y e q. absurd (let b = bare.2 in cc);
-      marked = λ n e q. absurd (let b = bare.1 in cc);
-      next = λ n x e ch un r. absurd (let b = bare.1 in cc);
-    };
+    read = nothing_read now d bare.1 bare.2;
     range = λ x m. chain.range x (inside x m);
     kept = λ x m. inl (inside x m);
     low = λ e. absurd (omega (arith, odd, e));
@@ -86,7 +81,7 @@ module _ (seats : ℕ) (h now : Heap) (views : List View) (s : ℕ) (v : View) (
   sees_all k x r = by_next c.next bare.1
     where
       by_next : (o : Option ℕ) → o ≡ None → SeesFrom now (c.cur - 1) o x
-      by_next None e = subst (Reach (to now) x) (sym cur_is) (chain_on h now views s v parts at (aside_of h now v calm) x r)
+      by_next None e = subst (Reach (to now) x) (sym cur_is) (chain_on (calm_step s parts at calm) x r)
       by_next (Some n) e = absurd (cc)
 
   -- all that the invariant says is so after a Settle that succeeds
@@ -97,7 +92,7 @@ module _ (seats : ℕ) (h now : Heap) (views : List View) (s : ℕ) (v : View) (
         own = inl refl;
         odd = λ e. absurd (let n = (parts.each s v at).even e in cc);
         cursor = λ b e. subst (IsCursorKept now v.own) (same_some d b e) kept_now;
-        reach = λ b x e m. inl (chain_back h now views s v parts at (aside_of h now v calm) x
+        reach = λ b x e m. inl (chain_back (calm_step s parts at calm) x
             (inside x (subst (λ z. MayReach now z x) (sym (same_some d b e)) m)));
         sees = λ k g own r see. (refl, sees_all k g.node (rival_chain h views s v k g parts at own r));
         to_see = λ k own e. sees_all k k.node (parts.places.linked s v k at own).0;

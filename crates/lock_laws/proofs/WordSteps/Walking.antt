@@ -19,8 +19,8 @@ use Rattle.lock_core.proofs.ByView.{is_view}
 use Rattle.lock_core.proofs.Counts.{own_linked}
 use Rattle.lock_laws.proofs.Seats.{one_seat}
 use Rattle.lock_laws.proofs.Frames.Owns.{same_some}
-use Rattle.lock_laws.proofs.PathSteps.{listed_one}
-use Rattle.lock_laws.proofs.Paths.{reach_on, unreach, unends}
+use Rattle.lock_laws.proofs.PathSteps.{listed_one, nothing_read}
+use Rattle.lock_laws.proofs.Paths.{reach_on, unreach, unends, nothing_at_end}
 use Rattle.lock_laws.proofs.Frames.Parts.{Parts, IsCursorKept}
 use Rattle.lock_laws.proofs.Frames.Steady.{Rival}
 use Rattle.lock_laws.proofs.Coming.{CameHome, coming, done}
@@ -123,37 +123,35 @@ module _ (h : Heap) (views : List View) (s : ℕ) (v : View) (parts : Parts h vi
   abbrev d : Cursor
   d = record { prev = start_of v.own; cur = word; next = None; lo = None; seen = seen_after 0 word }
 
+  abbrev From : Option ℕ → Type 0
+  From p = (p ≡ None) ⊎ ((q : ℕ) × (p ≡ Some q) × InChain h q × IsUnmarked h q)
+
+  -- a path in order, with nodes of the chain alone
+  abbrev Leads : ℕ → Type 0
+  Leads t = IsOrdered h t × ((x : ℕ) → Reach (to h) x t → InChain h x)
+
   -- the cell where it begins is the head, or that of a node of the chain without mark
-  from_chain : Start v.own → (start_of v.own ≡ None) ⊎ ((q : ℕ) × (start_of v.own ≡ Some q) × InChain h q × IsUnmarked h q)
+  from_chain : Start v.own → From (start_of v.own)
   from_chain (at_head e n) = inl e
   from_chain (behind_own k e t q) = let l = parts.places.linked s v k at e in inr (k.node, q, l.0, l.1)
 
-  abbrev From : Type 0
-  From = (start_of v.own ≡ None) ⊎ ((q : ℕ) × (start_of v.own ≡ Some q) × InChain h q × IsUnmarked h q)
+  prev_leads : (p : Option ℕ) → From p → Leads (cell_of p)
+  prev_leads p (inl e) = subst (λ (o : Option ℕ). Leads (cell_of o)) (sym e) (ordered_end h, λ x r. absurd (nothing_at_end (to h) x r))
+  prev_leads p (inr t) = subst (λ (o : Option ℕ). Leads (cell_of o)) (sym t.1)
+      (ordered_from h t.0 (to h 0) parts.chain.ordered t.2, λ x r. reach_from (to h) x t.0 (to h 0) t.2 r)
 
-  prev_ordered : (p : Option ℕ) → ((p ≡ None) ⊎ ((q : ℕ) × (p ≡ Some q) × InChain h q × IsUnmarked h q)) → IsOrdered h (cell_of p)
-  prev_ordered p (inl e) = subst (λ (o : Option ℕ). IsOrdered h (cell_of o)) (sym e) (ordered_end h)
-  prev_ordered p (inr t) = subst (λ (o : Option ℕ). IsOrdered h (cell_of o)) (sym t.1) (ordered_from h t.0 (to h 0) parts.chain.ordered t.2)
+  cur_leads : (p : Option ℕ) → From p → Leads (to h (cell_of p))
+  cur_leads p (inl e) = subst (λ (o : Option ℕ). Leads (to h (cell_of o))) (sym e) (parts.chain.ordered, λ x r. r)
+  cur_leads p (inr t) = subst (λ (o : Option ℕ). Leads (to h (cell_of o))) (sym t.1)
+      (ordered_behind h t.0 (to h 0) parts.chain.ordered t.2, λ x r. reach_on (to h) x t.0 (to h 0) t.2 r)
 
-  cur_ordered : (p : Option ℕ) → ((p ≡ None) ⊎ ((q : ℕ) × (p ≡ Some q) × InChain h q × IsUnmarked h q)) → IsOrdered h (to h (cell_of p))
-  cur_ordered p (inl e) = subst (λ (o : Option ℕ). IsOrdered h (to h (cell_of o))) (sym e) parts.chain.ordered
-  cur_ordered p (inr t) = subst (λ (o : Option ℕ). IsOrdered h (to h (cell_of o))) (sym t.1) (ordered_behind h t.0 (to h 0) parts.chain.ordered t.2)
-
-  prev_inside : (p : Option ℕ) (x : ℕ) → ((p ≡ None) ⊎ ((q : ℕ) × (p ≡ Some q) × InChain h q × IsUnmarked h q)) → Reach (to h) x (cell_of p) → InChain h x
-  prev_inside p x (inl e) r = absurd (let z : Reach (to h) x 0 = subst (λ (o : Option ℕ). Reach (to h) x (cell_of o)) e r in elim z [ ])
-  prev_inside p x (inr t) r = reach_from (to h) x t.0 (to h 0) t.2 (subst (λ (o : Option ℕ). Reach (to h) x (cell_of o)) t.1 r)
-
-  cur_inside : (p : Option ℕ) (x : ℕ) → ((p ≡ None) ⊎ ((q : ℕ) × (p ≡ Some q) × InChain h q × IsUnmarked h q)) → Reach (to h) x (to h (cell_of p)) → InChain h x
-  cur_inside p x (inl e) r = subst (λ (o : Option ℕ). Reach (to h) x (to h (cell_of o))) e r
-  cur_inside p x (inr t) r = reach_on (to h) x t.0 (to h 0) t.2 (subst (λ (o : Option ℕ). Reach (to h) x (to h (cell_of o))) t.1 r)
+  leads : (t : ℕ) → Names d t → Leads t
+  leads t (inl e) = subst (λ a. Leads a) (sym e) (prev_leads (start_of v.own) (from_chain (starts v.own)))
+  leads t (inr (inl e)) = subst (λ a. Leads a) (sym e) (cur_leads (start_of v.own) (from_chain (starts v.own)))
+  leads t (inr (inr n)) = absurd (let e = n.1 in cc)
 
   inside : (x : ℕ) → MayReach h d x → InChain h x
-  inside x m = by_name m.named
-    where
-      by_name : Names d m.target → InChain h x
-      by_name (inl e) = prev_inside (start_of v.own) x (from_chain (starts v.own)) (subst (Reach (to h) x) e m.reach)
-      by_name (inr (inl e)) = cur_inside (start_of v.own) x (from_chain (starts v.own)) (subst (Reach (to h) x) e m.reach)
-      by_name (inr (inr t)) = absurd (let e = t.1 in cc)
+  inside x m = (leads m.target m.named).1 x m.reach
 
   -- only a walk from the head finds a low bit
   low_head : word % 2 ≡ 1 → start_of v.own ≡ None
@@ -165,14 +163,8 @@ module _ (h : Heap) (views : List View) (s : ℕ) (v : View) (parts : Parts h vi
 
   kept : IsCursorKept h (own_at v.own word) d
   kept = record {
-    seen = λ t n. by_name t n;
-    read = record {
-      next_node = λ n e. absurd (cc);
-      lo_node = λ l e. absurd (cc);
-      lo = λ l y e q. absurd (cc);
-      marked = λ n e q. absurd (cc);
-      next = λ n x e c u r. absurd (cc);
-    };
+    seen = λ t n. (leads t n).0;
+    read = nothing_read h d refl refl;
     range = λ x m. parts.chain.range x (inside x m);
     kept = λ x m. inl (inside x m);
     low = λ e. (low_head e, refl, refl);
@@ -180,11 +172,6 @@ module _ (h : Heap) (views : List View) (s : ℕ) (v : View) (parts : Parts h vi
     stop = λ f lo hi y e1 e2 e3 place e4. absurd (no_place y place e4);
   }
     where
-      by_name : (t : ℕ) → Names d t → IsOrdered h t
-      by_name t (inl e) = subst (IsOrdered h) (sym e) (prev_ordered (start_of v.own) (from_chain (starts v.own)))
-      by_name t (inr (inl e)) = subst (IsOrdered h) (sym e) (cur_ordered (start_of v.own) (from_chain (starts v.own)))
-      by_name t (inr (inr n)) = absurd (let e = n.1 in cc)
-
       no_prev : (f : Filled) (p : ℕ) → v.own ≡ filling f → start_of v.own ≡ Some p → ⊥
       no_prev f p e q = let z : start_of v.own ≡ None = ap start_of e in cc
 
