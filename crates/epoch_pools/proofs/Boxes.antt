@@ -25,6 +25,5 @@ view_first_of (x ∷ l) b is = ap (λ (y : Box View). y.value) is
 -- with another box in the place of a list behind the first, its view is there
 pub view_put : (l : List (Box View)) (list : ℕ) (b : Box View) (vs : List View) (v : View) → 0 < list → views_in l ≡ vs → b.value ≡ v
     → views_in (set l (list - 1) b) ≡ views_of list vs v
-view_put l list b vs v more before here =
-    map-set (λ (x : Box View). x.value) l (list - 1) b ∙ ((λ i. set (before i) (list - 1) (here i))
+view_put l list b vs v more before here = map-set (λ (x : Box View). x.value) l (list - 1) b ∙ ((λ i. set (before i) (list - 1) (here i))
     ∙ sym (ap (λ (t : Bool). if t then vs else set vs (list - 1) v) (ne_eqb list 0 (λ e. absurd (omega arith)))))

@@ -1,15 +1,14 @@
 -- A look behind the own link: what the seat holds counts from then on. A narrow range counts at once, and conflicts
 -- with no wide one, since list 0 has none or has both. A wide range has passed one list more, in which nobody holds a
 -- range, or the seat holds its own.
-use Rattle.std.proofs.Common.{◌≡◌, ◌≢◌, ◌⊎◌, ℕ, ◌+◌, ◌*◌, ◌<◌, ◌≤◌, Bool, List, map, drop, get_or, set, length, refl, sym, ap, ◌∙◌}
-use Rattle.std.proofs.Common.{subst, arith, inl, inr, ⊎_elim, ne_eqb}
+use Rattle.std.proofs.Common.{◌≡◌, ◌≢◌, ◌⊎◌, ℕ, ◌+◌, ◌*◌, ◌<◌, ◌≤◌, Bool, List, map, drop, get_or, set, refl, sym, ap, ◌∙◌, subst, arith, ⊎_elim, ne_eqb}
 use Rattle.std.specs.Prelude.{slice_get, slice_index, Option, Some, None, if◌then◌else◌}
 use Rattle.std.proofs.lemmas.List.{map-set}
 use mathlib.Core.Option.{some}
 use mathlib.Core.Logic.{dite}
 use native.Mathlib.Decide.{ℕ_discrete, dec_le}
 use lib.ListN.{get_elem?}
-use Rattle.atomic_table.proofs.Lists.{at_map, at_set, set_again, set_here, set_else}
+use Rattle.atomic_table.proofs.Lists.{at_map, set_again, set_here, set_else}
 use Rattle.lock_core.specs.Grants.{Grants, Conflicts, IsFree}
 use Rattle.lock_core.specs.declared.range.Held.{Held}
 use Rattle.lock_core.specs.declared.views.View.{View}
@@ -24,170 +23,115 @@ use Rattle.epoch_pools.specs.declared.views.Standing.TheVariants.{Free, Narrow, 
 use Rattle.epoch_pools.specs.Standings.{counted_of_many, passed_by}
 use Rattle.epoch_pools.specs.Beside.{core_at, held_in, grant_in}
 use Rattle.epoch_pools.specs.Running.{pass_kept, IsCutBy, machine_at, cores_of, pass_of, grants_in, IsNarrow, IsWide, AreLocks, AreLists, lists_with}
+use Rattle.epoch_pools.proofs.Granting.{GainLaw}
+use Rattle.epoch_pools.proofs.Placing.{apart_with}
 use Rattle.epoch_pools.proofs.Slices.{slice_word}
-use Rattle.epoch_pools.proofs.Counting.{nothing_held, one_list, counts_many, counts_exclude}
+use Rattle.epoch_pools.proofs.Counting.{turned, nothing_held, one_list, counts_many, counts_exclude}
 
 -- list i was found empty, or holds that range for the seat too
 abbrev pub IsClear : {P : Type 0} → ℕ → List ℕ → SeatLists P → ℕ → Held → Type 0
 IsClear seats words w i h = (slice_index words (i * word_count seats) ≡ 0) ⊎ (held_in w i ≡ Some h)
 
-module _ {P : Type 0} (holds : Grants → List ℕ → List P → Type 0) (rested : P → P)
-    (gains : (grants : Grants) (words : List ℕ) (passes : List P) (seat : ℕ) (h : Held) → holds grants words passes → get_elem? grants seat ≡ some None
-    → IsFree grants seat h → holds (set grants seat (Some h)) words passes) where
+module _ {P : Type 0} (holds : Grants → List ℕ → List P → Type 0) (rested : P → P) (gains : GainLaw holds) where
   module _ (lists seats : ℕ) (takes : Held → ℕ → Type 0) (words : List ℕ) (parts : List (SeatLists P)) (n : ℕ) (w : SeatLists P) (several : 1 < lists)
-      (cut : IsCutBy lists takes)
-      (r : AreLists lists seats takes holds words parts) (here : get_elem? parts n ≡ some w) where
+      (cut : IsCutBy lists takes) (r : AreLists lists seats takes holds words parts) (here : get_elem? parts n ≡ some w) where
     -- nobody else holds what conflicts with it, in a list that the seat has looked at
     clear : (i : ℕ) → i < lists → (h : Held) → IsClear seats words w i h → (b : ℕ) (y : SeatLists P) (g : Held) → b ≢ n → get_elem? parts b ≡ some y
         → held_in y i ≡ Some g → ¬ (Conflicts g h)
-    clear i less h looks b y g differ there held conflict =
-        let m : Machine = machine_at i seats words (map cores_of parts) in
+    clear i less h looks b y g differ there held conflict = let m : Machine = machine_at i seats words (map cores_of parts) in
         ⊎_elim
-        (λ (empty : slice_index words (i * word_count seats) ≡ 0).
-        let z : i * word_count seats + 0 ≡ i * word_count seats = omega arith in
+        (λ (empty : slice_index words (i * word_count seats) ≡ 0). let z : i * word_count seats + 0 ≡ i * word_count seats = omega arith in
         let head : slice_index m.words 0 ≡ 0 = slice_word (word_count seats) (i * word_count seats) 0 words (omega arith) ∙ (ap (λ k. get_or words k 0) z
         ∙ empty) in
         let at : slice_get m.views b ≡ Some (core_at i y.cores) = to_get m.views b (core_at i y.cores) (at_map (core_at i) (map cores_of parts) b y.cores
         (at_map cores_of parts b y there)) in
         nothing_held m (r.apart.locks i less) head b (core_at i y.cores) g at held)
-        (λ (own : held_in w i ≡ Some h). one_list lists seats takes words parts r.apart i b n y w g h less differ there here held own conflict)
-        looks
+        (λ (own : held_in w i ≡ Some h). one_list lists seats takes words parts r.apart i b n y w g h less differ there here held own conflict) looks
 
-    -- a seat of which only the way to count changes, if that is so with the others
-    module _ (trace : Record) (stand : Standing) (narrow_new : (i : ℕ) → stand ≡ Narrow i → IsNarrow lists takes w i) (wide_new : (p : ℕ) → stand ≡ Wide p
-        → IsWide lists w p)
-        (narrow_passed : (b j p : ℕ) (y : SeatLists P) (g h : Held) → n ≢ b → get_elem? parts b ≡ some y → stand ≡ Narrow j → y.standing ≡ Wide p → j < p
-        → held_in w j ≡ Some g → held_in y 0 ≡ Some h → takes h j → ¬ (Conflicts g h))
-        (wide_passed : (a j p : ℕ) (x : SeatLists P) (g h : Held) → a ≢ n → get_elem? parts a ≡ some x → x.standing ≡ Narrow j → stand ≡ Wide p → j < p
-        → held_in x j ≡ Some g → held_in w 0 ≡ Some h → takes h j → ¬ (Conflicts g h))
-        (none : grant_in lists w ≡ None) where
+    -- a seat of which only the way to count changes
+    module _ (trace : Record) (stand : Standing) where
       abbrev q : SeatLists P
       q = lists_with lists rested w w.cores stand trace
 
       abbrev parts' : List (SeatLists P)
       parts' = set parts n q
 
-      part_is : (k : ℕ) (x : SeatLists P) → get_elem? parts' k ≡ some x → ((k ≡ n) × (q ≡ x)) ⊎ ((k ≢ n) × (get_elem? parts k ≡ some x))
-      part_is k x there = at_set parts n k q x there
-
       cores_stay : map cores_of parts' ≡ map cores_of parts
       cores_stay = map-set cores_of parts n q ∙ set_again (map cores_of parts) n w.cores (at_map cores_of parts n w here)
 
-      apart_now : AreLocks lists seats takes words parts'
-      apart_now = record {
-        many = λ k x there. ⊎_elim
-            (λ (t : (k ≡ n) × (q ≡ x)). subst (λ (y : SeatLists P). length y.cores ≡ lists) t.1 (r.apart.many n w here))
-            (λ (t : (k ≢ n) × (get_elem? parts k ≡ some x)). r.apart.many k x t.1)
-            (part_is k x there);
-        locks = λ i less. subst (λ (l : List (List View)). IsLock (machine_at i seats words l)) (sym cores_stay) (r.apart.locks i less);
-        narrow_one = λ k i x there is. ⊎_elim
-            (λ (t : (k ≡ n) × (q ≡ x)).
-            let one : IsNarrow lists takes w i = narrow_new i (ap (λ (y : SeatLists P). y.standing) t.1 ∙ is) in
-            subst (λ (y : SeatLists P). IsNarrow lists takes y i) t.1 (record { there = one.there; range = one.range; held = one.held; only = one.only }))
-            (λ (t : (k ≢ n) × (get_elem? parts k ≡ some x)). r.apart.narrow_one k i x t.1 is)
-            (part_is k x there);
-        wide_one = λ k p x there is. ⊎_elim
-            (λ (t : (k ≡ n) × (q ≡ x)).
-            let one : IsWide lists w p = wide_new p (ap (λ (y : SeatLists P). y.standing) t.1 ∙ is) in
-            subst (λ (y : SeatLists P). IsWide lists y p) t.1 (record { first = one.first; most = one.most; range = one.range; held = one.held }))
-            (λ (t : (k ≢ n) × (get_elem? parts k ≡ some x)). r.apart.wide_one k p x t.1 is)
-            (part_is k x there);
-        passed = λ a b j p x y g h differ at_a at_b narrow_a wide_b below held_a held_b taken. ⊎_elim
-            (λ (s : (a ≡ n) × (q ≡ x)). ⊎_elim
-            (λ (u : (b ≡ n) × (q ≡ y)). absurd (differ (s.0 ∙ sym u.0)))
-            (λ (u : (b ≢ n) × (get_elem? parts b ≡ some y)).
-            narrow_passed b j p y g h (λ e. u.0 (sym e)) u.1 (ap (λ (z : SeatLists P). z.standing) s.1 ∙ narrow_a) wide_b below (ap (λ
-            (z : SeatLists P). held_in z j) s.1 ∙ held_a) held_b taken)
-            (part_is b y at_b))
-            (λ (s : (a ≢ n) × (get_elem? parts a ≡ some x)). ⊎_elim
-            (λ (u : (b ≡ n) × (q ≡ y)).
-            wide_passed a j p x g h s.0 s.1 narrow_a (ap (λ (z : SeatLists P). z.standing) u.1 ∙ wide_b) below held_a (ap (λ
-            (z : SeatLists P). held_in z 0) u.1 ∙ held_b) taken)
-            (λ (u : (b ≢ n) × (get_elem? parts b ≡ some y)). r.apart.passed a b j p x y g h differ s.1 u.1 narrow_a wide_b below held_a held_b taken)
-            (part_is b y at_b))
-            (part_is a x at_a);
-      }
+      locks_stay : (j : ℕ) → j < lists → IsLock (machine_at j seats words (map cores_of parts'))
+      locks_stay j less = subst (λ (l : List (List View)). IsLock (machine_at j seats words l)) (sym cores_stay) (r.apart.locks j less)
 
-      abbrev grants : Grants
-      grants = grants_in lists parts
+      -- where the lists are locks still with it, and nothing counted before
+      module _ (apart : AreLocks lists seats takes words parts') (none : grant_in lists w ≡ None) where
+        abbrev grants : Grants
+        grants = grants_in lists parts
 
-      abbrev passes : List P
-      passes = map pass_of parts
+        abbrev passes : List P
+        passes = map pass_of parts
 
-      abbrev client : List ℕ
-      client = drop (lists * word_count seats) words
+        abbrev client : List ℕ
+        client = drop (lists * word_count seats) words
 
-      grant_here : get_elem? grants n ≡ some (grant_in lists w)
-      grant_here = at_map (grant_in lists) parts n w here
+        grant_here : get_elem? grants n ≡ some (grant_in lists w)
+        grant_here = at_map (grant_in lists) parts n w here
 
-      pass_here : get_elem? passes n ≡ some w.pass
-      pass_here = at_map pass_of parts n w here
+        pass_here : get_elem? passes n ≡ some w.pass
+        pass_here = at_map pass_of parts n w here
 
-      grants_now : grants_in lists parts' ≡ set grants n (grant_in lists q)
-      grants_now = map-set (grant_in lists) parts n q
+        grants_now : grants_in lists parts' ≡ set grants n (grant_in lists q)
+        grants_now = map-set (grant_in lists) parts n q
 
-      free_now : (h : Held) → grant_in lists q ≡ Some h → IsFree grants n h
-      free_now h e k g differ there conflict =
-          counts_exclude lists seats takes words parts' apart_now cut k n g h differ
-          (ap (λ l. get_elem? l k) grants_now ∙ (set_else grants n k (grant_in lists q) differ ∙ there))
-          (ap (λ l. get_elem? l n) grants_now ∙ (set_here grants n (grant_in lists q) (at_below grants n (grant_in lists w) grant_here) ∙ ap some e))
-          conflict
+        free_now : (h : Held) → grant_in lists q ≡ Some h → IsFree grants n h
+        free_now h e k g differ there conflict = counts_exclude lists seats takes words parts' apart cut k n g h differ
+            (ap (λ l. get_elem? l k) grants_now ∙ (set_else grants n k (grant_in lists q) differ ∙ there))
+            (ap (λ l. get_elem? l n) grants_now ∙ (set_here grants n (grant_in lists q) (at_below grants n (grant_in lists w) grant_here) ∙ ap some e)) conflict
 
-      pass_same : map pass_of parts' ≡ passes
-      pass_same = map-set pass_of parts n q ∙ (ap (λ (o : Option Held). set passes n (pass_kept rested o (grant_in lists q) w.pass)) none
-          ∙ set_again passes n w.pass pass_here)
+        pass_same : map pass_of parts' ≡ passes
+        pass_same = map-set pass_of parts n q ∙ (ap (λ (o : Option Held). set passes n (pass_kept rested o (grant_in lists q) w.pass)) none
+            ∙ set_again passes n w.pass pass_here)
 
-      by_grant : (o : Option Held) → grant_in lists q ≡ o → holds (set grants n o) client passes
-      by_grant None e = subst (λ (l : Grants). holds l client passes) (sym (set_again grants n None (grant_here ∙ ap some none))) r.guard
-      by_grant (Some h) e = gains grants client passes n h r.guard (grant_here ∙ ap some none) (free_now h e)
+        by_grant : (o : Option Held) → grant_in lists q ≡ o → holds (set grants n o) client passes
+        by_grant None e = subst (λ (l : Grants). holds l client passes) (sym (set_again grants n None (grant_here ∙ ap some none))) r.guard
+        by_grant (Some h) e = gains grants client passes n h r.guard (grant_here ∙ ap some none) (free_now h e)
 
-      -- the lists' rule with the new standing
-      pub counted : AreLists lists seats takes holds words parts'
-      counted = record {
-        apart = apart_now;
-        guard = subst (λ (z : Grants × List P). holds z.0 client z.1) (λ k. (sym grants_now k, sym pass_same k)) (by_grant (grant_in lists q) refl);
-      }
+        -- the lists' rule with the new standing
+        pub counted : AreLists lists seats takes holds words parts'
+        counted = record {
+          apart = apart;
+          guard = subst (λ (z : Grants × List P). holds z.0 client z.1) (λ k. (sym grants_now k, sym pass_same k)) (by_grant (grant_in lists q) refl);
+        }
 
     -- a look at list 0 behind the link of a narrow range makes it count
     pub narrow_looks : (trace : Record) (i : ℕ) (g : Held) → w.standing ≡ Free → i < lists → held_in w i ≡ Some g → ((j : ℕ) → takes g j → j ≡ i)
-        → IsClear seats words w 0 g
-        → AreLists lists seats takes holds words (set parts n (lists_with lists rested w w.cores (Narrow i) trace))
-    narrow_looks trace i g is less held only looks =
-        counted trace (Narrow i)
-        (λ j e. let same : i ≡ j = cc in subst (IsNarrow lists takes w) same (record { there = less; range = g; held = held; only = only }))
+        → IsClear seats words w 0 g → AreLists lists seats takes holds words (set parts n (lists_with lists rested w w.cores (Narrow i) trace))
+    narrow_looks trace i g is less held only looks = counted trace (Narrow i)
+        (apart_with r.apart words n (q trace (Narrow i)) (r.apart.many n w here) (locks_stay trace (Narrow i))
+        (λ j e. let same : i ≡ j = cc in subst (IsNarrow lists takes (q trace (Narrow i))) same (record { there = less; range = g; held = held; only = only }))
         (λ p e. absurd (cc))
-        (λ b j p y k h differ there e wide_b below held_j held_b taken conflict.
-        let same : i ≡ j = cc in
-        let mine : ◌≡◌ {A = Option Held} (Some g) (Some k) = sym held ∙ (ap (held_in w) same ∙ held_j) in
-        let one : g ≡ k = cc in
+        (λ b j p y k h differ there e wide_b below held_j held_b taken conflict. let same : i ≡ j = cc in
+        let mine : ◌≡◌ {A = Option Held} (Some g) (Some k) = sym held ∙ (ap (held_in w) same ∙ held_j) in let one : g ≡ k = cc in
         clear 0 (r.apart.wide_one b p y there wide_b).first g looks b y h (λ e. differ (sym e)) there held_b
-        ((let c : Conflicts g h = subst (λ (z : Held). Conflicts z h) (sym one) conflict in ((c.0.1, c.0.0), ⊎_elim (λ a. inr a) (λ b. inl b) c.1))))
-        (λ a j p x k h differ there narrow_a e below held_a held_w taken. absurd (cc))
+        (turned g h (subst (λ (z : Held). Conflicts z h) (sym one) conflict)))
+        (λ a j p x k h differ there narrow_a e below held_a held_w taken. absurd (cc)))
         (counts_many lists w.standing (held_in w) (λ e. omega arith) ∙ ap (λ (s : Standing). counted_of_many lists s (held_in w)) is)
 
     -- a look at the next list that a wide range takes, behind its link in list 0, passes that list
     pub wide_looks : (trace : Record) (j up : ℕ) (h : Held) → (w.standing ≡ Free) ⊎ ((p : ℕ) × (w.standing ≡ Wide p)) → held_in w 0 ≡ Some h
-        → passed_by w.standing ≤ j → j < up → up ≤ lists
-        → ((c : ℕ) → passed_by w.standing ≤ c → c < up → c ≢ j → ¬ (takes h c)) → IsClear seats words w j h
+        → passed_by w.standing ≤ j → j < up → up ≤ lists → ((c : ℕ) → passed_by w.standing ≤ c → c < up → c ≢ j → ¬ (takes h c)) → IsClear seats words w j h
         → AreLists lists seats takes holds words (set parts n (lists_with lists rested w w.cores (Wide up) trace))
-    wide_looks trace j up h stood held from below_up most others looks =
-        counted trace (Wide up)
-        (λ i e. absurd (cc))
-        (λ p e. let same : up ≡ p = cc in subst (IsWide lists w) same (record { first = omega arith; most = most; range = h; held = held }))
+    wide_looks trace j up h stood held from below_up most others looks = counted trace (Wide up)
+        (apart_with r.apart words n (q trace (Wide up)) (r.apart.many n w here) (locks_stay trace (Wide up)) (λ i e. absurd (cc))
+        (λ p e. let same : up ≡ p = cc in subst (IsWide lists (q trace (Wide up))) same (record { first = omega arith; most = most; range = h; held = held }))
         (λ b i p y g k differ there e wide_b below held_i held_b taken. absurd (cc))
-        (λ a c p x g k differ there narrow_a e below held_a held_w taken conflict.
-        let same : up ≡ p = cc in
-        let mine : ◌≡◌ {A = Option Held} (Some h) (Some k) = sym held ∙ held_w in
-        let one : h ≡ k = cc in
+        (λ a c p x g k differ there narrow_a e below held_a held_w taken conflict. let same : up ≡ p = cc in
+        let mine : ◌≡◌ {A = Option Held} (Some h) (Some k) = sym held ∙ held_w in let one : h ≡ k = cc in
         let taken_h : takes h c = subst (λ (z : Held). takes z c) (sym one) taken in
         let with_h : Conflicts g h = subst (λ (z : Held). Conflicts g z) (sym one) conflict in
         let low : c < up = subst (λ z. c < z) (sym same) below in
-        dite (ℕ_discrete c j)
-        (λ (at : c ≡ j). clear j (omega arith) h looks a x g differ there (ap (held_in x) (sym at) ∙ held_a) with_h)
-        (λ other. dite (dec_le (passed_by w.standing) c)
-        (λ (le : passed_by w.standing ≤ c). absurd (others c le low other taken_h))
-        (λ less. before a c x g differ there narrow_a held_a taken_h with_h less)))
-        (not_yet stood)
+        dite (ℕ_discrete c j) (λ (at : c ≡ j). clear j (omega arith) h looks a x g differ there (ap (held_in x) (sym at) ∙ held_a) with_h)
+        (λ other. dite (dec_le (passed_by w.standing) c) (λ (le : passed_by w.standing ≤ c). absurd (others c le low other taken_h))
+        (λ less. before a c x g differ there narrow_a held_a taken_h with_h less)))) (not_yet stood)
       where
         -- a list that was passed before
         before : (a c : ℕ) (x : SeatLists P) (g : Held) → a ≢ n → get_elem? parts a ≡ some x → x.standing ≡ Narrow c → held_in x c ≡ Some g → takes h c
@@ -196,8 +140,7 @@ module _ {P : Type 0} (holds : Grants → List ℕ → List P → Type 0) (reste
             (λ (e : w.standing ≡ Free). let z : passed_by w.standing ≡ 0 = ap passed_by e in less (omega arith))
             (λ (t : (p : ℕ) × (w.standing ≡ Wide p)). let z : passed_by w.standing ≡ t.0 = ap passed_by t.1 in
             r.apart.passed a n c t.0 x w g h differ there here narrow_a t.1 (below_of c t.0 (λ le. less (subst (λ k. k ≤ c)
-            (sym z) le))) held_a held taken conflict)
-            stood
+            (sym z) le))) held_a held taken conflict) stood
           where
             below_of : (c p : ℕ) → (p ≤ c → ⊥) → c < p
             below_of c p above = dite (dec_le p c) (λ le. absurd (above le)) (λ less. omega arith)
@@ -206,8 +149,6 @@ module _ {P : Type 0} (holds : Grants → List ℕ → List P → Type 0) (reste
         not_yet : (w.standing ≡ Free) ⊎ ((p : ℕ) × (w.standing ≡ Wide p)) → grant_in lists w ≡ None
         not_yet t = counts_many lists w.standing (held_in w) (λ e. omega arith) ∙ ⊎_elim
             (λ (e : w.standing ≡ Free). ap (λ (s : Standing). counted_of_many lists s (held_in w)) e)
-            (λ (t : (p : ℕ) × (w.standing ≡ Wide p)).
-            let z : passed_by w.standing ≡ t.0 = ap passed_by t.1 in let less : t.0 < lists = omega arith in
+            (λ (t : (p : ℕ) × (w.standing ≡ Wide p)). let z : passed_by w.standing ≡ t.0 = ap passed_by t.1 in let less : t.0 < lists = omega arith in
             ap (λ (s : Standing). counted_of_many lists s (held_in w)) t.1 ∙ ap (λ (b : Bool). if b then held_in w 0 else None) (ne_eqb t.0 lists
-            (λ e. omega arith)))
-            t
+            (λ e. omega arith))) t

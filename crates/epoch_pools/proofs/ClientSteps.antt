@@ -1,13 +1,12 @@
 -- A step on a client word keeps the table's rule by the guard's law of steps alone: it leaves the words of all lists
 -- and the views of the lists as they are.
-use Rattle.std.proofs.Common.{◌≡◌, ◌≢◌, ℕ, ◌+◌, ◌-◌, ◌*◌, ◌<◌, ◌≤◌, List, [], ◌∷◌, map, take, drop, get_or, set, length, sym, refl, ap, ◌∙◌}
-use Rattle.std.proofs.Common.{subst, arith, ⊎_elim}
+use Rattle.std.proofs.Common.{◌≡◌, ℕ, ◌+◌, ◌-◌, ◌*◌, ◌<◌, ◌≤◌, List, [], ◌∷◌, map, take, drop, get_or, set, length, sym, refl, ap, ◌∙◌, subst, arith, ⊎_elim}
 use Rattle.std.proofs.lemmas.List.{map-set, take-set-le, drop-set-add, get_or-drop, length-drop}
 use mathlib.Core.Option.{some}
 use lib.ListN.{get_elem?}
 use Rattle.atomic_table.specs.Table.{Me, keeps, stepped, Allows}
 use Rattle.atomic_table.specs.Seated.{TableId}
-use Rattle.atomic_table.proofs.Lists.{set_again, at_map, at_set}
+use Rattle.atomic_table.proofs.Lists.{set_again, at_map}
 use Rattle.lock_core.specs.Grants.{Grants}
 use Rattle.list_cuts.specs.Cut.{Regions, list_count}
 use Rattle.lock_core.specs.Client.{ClientStep, place_of, words_after, Moment, IsAllowed, IsMade}
@@ -23,18 +22,16 @@ use Rattle.epoch_pools.specs.declared.views.Beside.{Beside}
 use Rattle.epoch_pools.specs.declared.views.ListView.{ListView}
 use Rattle.epoch_pools.specs.Standings.{counted_of}
 use Rattle.epoch_pools.specs.Beside.{core_at, held_in, grant_in, inner_pass, shown, shown_grant}
-use Rattle.epoch_pools.specs.Running.{IsCutBy, takes_in, cores_of, pass_of, grants_in, view, AreLocks, IsRunningList}
-use Rattle.epoch_pools.specs.Running.{client_lists, client_part, IsClientPlay}
+use Rattle.epoch_pools.specs.Running.{IsCutBy, takes_in, cores_of, pass_of, grants_in, view, AreLocks, IsRunningList, client_lists, client_part, IsClientPlay}
 use Rattle.epoch_pools.specs.Hands.{ListShape, IsTable, IsSeatOf, cut_of, part_in, shown_of}
-use Rattle.epoch_pools.proofs.Placing.{part_here, placed}
+use Rattle.epoch_pools.proofs.Placing.{apart_with, part_here, placed}
 use Rattle.epoch_pools.proofs.Slices.{further}
 use Rattle.epoch_pools.proofs.Turning.{core_shown}
 use Rattle.epoch_pools.proofs.Counting.{counts_exclude}
 
 -- the lists of a cut are such that ranges in conflict take one in common
 pub cut_by : (c : Regions) → 0 < c.count → IsCutBy (list_count c) (takes_in c)
-cut_by c more g h range_g range_h conflict =
-    let m = overlaps_meet_law c g.range h.range more range_g range_h conflict.0 in (m.list, m.there, m.left, m.right)
+cut_by c more g h range_g range_h conflict = let m = overlaps_meet_law c g.range h.range more range_g range_h conflict.0 in (m.list, m.there, m.left, m.right)
 
 -- what a hand shows of what counts is what counts
 pub grant_shown : {P : Type 0} (lists i : ℕ) (w : SeatLists P) → shown_grant (shown lists i w) ≡ grant_in lists w
@@ -48,62 +45,26 @@ pub locks_stay : {P : Type 0} (lists seats : ℕ) (takes : Held → ℕ → Type
 locks_stay {P} lists seats takes words words' parts n w q r here cores standing same =
     let all : map cores_of (set parts n q) ≡ map cores_of parts = map-set cores_of parts n q
     ∙ (ap (set (map cores_of parts) n) cores ∙ set_again (map cores_of parts) n w.cores (at_map cores_of parts n w here)) in
-    record {
-      many = λ k x there. ⊎_elim
-          (λ (t : (k ≡ n) × (q ≡ x)). ap (λ (y : SeatLists P). length y.cores) (sym t.1) ∙ (ap (λ (l : List View). length l) cores ∙ r.many n w here))
-          (λ (t : (k ≢ n) × (get_elem? parts k ≡ some x)). r.many k x t.1)
-          (at_set parts n k q x there);
-      locks = λ i less. subst IsLock (λ k. record { seats = seats; words = same i less k; views = map (core_at i) (sym all k) }) (r.locks i less);
-      narrow_one = λ k i x there is. ⊎_elim
-          (λ (t : (k ≡ n) × (q ≡ x)).
-          let one = r.narrow_one n i w here (sym standing ∙ (ap (λ (y : SeatLists P). y.standing) t.1 ∙ is)) in
-          record {
-            there = one.there;
-            range = one.range;
-            held = held_same i x t.1 ∙ one.held;
-            only = one.only;
-          })
-          (λ (t : (k ≢ n) × (get_elem? parts k ≡ some x)). r.narrow_one k i x t.1 is)
-          (at_set parts n k q x there);
-      wide_one = λ k p x there is. ⊎_elim
-          (λ (t : (k ≡ n) × (q ≡ x)).
-          let one = r.wide_one n p w here (sym standing ∙ (ap (λ (y : SeatLists P). y.standing) t.1 ∙ is)) in
-          record { first = one.first; most = one.most; range = one.range; held = held_same 0 x t.1 ∙ one.held })
-          (λ (t : (k ≢ n) × (get_elem? parts k ≡ some x)). r.wide_one k p x t.1 is)
-          (at_set parts n k q x there);
-      passed = λ a b i p x y g h differ at_a at_b narrow_a wide_b below held_a held_b.
-          let u = was a x at_a in let v = was b y at_b in
-          r.passed a b i p u.0 v.0 g h differ u.1 v.1 (u.2 ∙ narrow_a) (v.2 ∙ wide_b) below (u.3 i ∙ held_a) (v.3 0 ∙ held_b);
-    }
-  where
-    held_same : (i : ℕ) (x : SeatLists P) → q ≡ x → held_in x i ≡ held_in w i
-    held_same i x e = ap (λ (y : SeatLists P). held_in y i) (sym e) ∙ ap (λ (l : List View). held_at (core_at i l).own) cores
-
-    -- what a part was before
-    was : (k : ℕ) (x : SeatLists P) → get_elem? (set parts n q) k ≡ some x
-        → (u : SeatLists P) × (get_elem? parts k ≡ some u) × (u.standing ≡ x.standing) × ((i : ℕ) → held_in u i ≡ held_in x i)
-    was k x there = ⊎_elim
-        (λ (t : (k ≡ n) × (q ≡ x)). (
-          w,
-          ap (get_elem? parts) t.0 ∙ here,
-          sym standing ∙ ap (λ (y : SeatLists P). y.standing) t.1,
-          λ i. sym (held_same i x t.1),
-        ))
-        (λ (t : (k ≢ n) × (get_elem? parts k ≡ some x)). (x, t.1, refl, λ i. refl))
-        (at_set parts n k q x there)
+    let holds : (i : ℕ) → held_in q i ≡ held_in w i = λ i. ap (λ (l : List View). held_at (core_at i l).own) cores in
+    apart_with r words' n q (ap (λ (l : List View). length l) cores ∙ r.many n w here)
+    (λ i less. subst IsLock (λ k. record { seats = seats; words = same i less k; views = map (core_at i) (sym all k) }) (r.locks i less))
+    (λ i is. let one = r.narrow_one n i w here (sym standing ∙ is) in
+    record { there = one.there; range = one.range; held = holds i ∙ one.held; only = one.only })
+    (λ p is. let one = r.wide_one n p w here (sym standing ∙ is) in
+    record { first = one.first; most = one.most; range = one.range; held = holds 0 ∙ one.held })
+    (λ b i p y g h differ there is wide_b below held_q. r.passed n b i p w y g h differ here there (sym standing ∙ is) wide_b below (sym (holds i) ∙ held_q))
+    (λ a i p x g h differ there narrow_a is below held_a held_q.
+    r.passed a n i p x w g h differ there here narrow_a (sym standing ∙ is) below held_a (sym (holds 0) ∙ held_q))
 
 -- the words of a list stay where a word behind all lists changes
 words_before : (n a base place : ℕ) (words : List ℕ) (value : ℕ) → a + n ≤ base → take n (drop a words) ≡ take n (drop a (set words (base + place) value))
-words_before n a base place words value le =
-    let at : base + place ≡ a + ((base - a) + place) = omega arith in
+words_before n a base place words value le = let at : base + place ≡ a + ((base - a) + place) = omega arith in
     sym (ap (λ k. take n (drop a (set words k value))) at
     ∙ (ap (take n) (drop-set-add a words ((base - a) + place) value) ∙ take-set-le n (drop a words) ((base - a) + place) value (omega arith)))
 
 module _ {P N : Type 0} (begin : P) (c : Regions) (seats clients : ℕ) (holds : Grants → List ℕ → List P → Type 0) (allows : Grants → List ℕ → List P → ℕ
-    → ClientStep → N → P → Type 0) (note : N)
-    (law : (grants : Grants) (words : List ℕ) (passes : List P) (seat : ℕ) (step : ClientStep) (note : N) (after : P)
-    → holds grants words passes → allows grants words passes seat step note after
-    → holds grants (words_after words step) (set passes seat after)) where
+    → ClientStep → N → P → Type 0) (note : N) (law : (grants : Grants) (words : List ℕ) (passes : List P) (seat : ℕ) (step : ClientStep) (note : N) (after : P)
+    → holds grants words passes → allows grants words passes seat step note after → holds grants (words_after words step) (set passes seat after)) where
   -- one case for all client steps; f says what the step makes of the word
   pub client_keeps : (lists i : ℕ) (step : ClientStep) (f : ℕ → ℕ) (slots id : ℕ) (me : Me (Unit {0}) (ListView P)) (w : SeatLists P) (word : ℕ)
       (then : ℕ → Me (Unit {0}) (ListView P) → Type 0)
@@ -114,8 +75,7 @@ module _ {P N : Type 0} (begin : P) (c : Regions) (seats clients : ℕ) (holds :
       → Allows (IsRunningList c seats clients holds) slots id me word f then
   client_keeps lists i step f slots id me w word then is full word_is below changes allowed told s running _ at small =
       let parts = running.0 in let owner = running.1 in let r = running.2 in
-      let base : ℕ = list_count c * word_count seats in let place = place_of step in
-      let words = drop base s.words in
+      let base : ℕ = list_count c * word_count seats in let place = place_of step in let words = drop base s.words in
       let at' : get_elem? s.views id ≡ some (view (w ∷ [])) = at ∙ ap some is in
       let here = part_here c seats clients holds s parts owner r id w at' in
       let same : lists ≡ list_count c = sym full ∙ r.lists_are.apart.many w.number w here in
@@ -123,17 +83,14 @@ module _ {P N : Type 0} (begin : P) (c : Regions) (seats clients : ℕ) (holds :
       let y : ℕ = get_or words place 0 in
       let found : get_or s.words word 0 ≡ y = ap (λ k. get_or s.words k 0) word_is ∙ sym (get_or-drop base s.words place 0) in
       let grant : shown_grant (shown lists i w) ≡ grant_in (list_count c) w = grant_shown lists i w ∙ ap (λ k. grant_in k w) same in
-      let moment : Moment holds w.number (shown_grant (shown lists i w)) w.pass grants words passes =
-      record {
+      let moment : Moment holds w.number (shown_grant (shown lists i w)) w.pass grants words passes = record {
         met = r.lists_are.guard;
         exclusive = counts_exclude (list_count c) seats (takes_in c) s.words parts r.lists_are.apart (cut_by c r.cut);
         grant = at_map (grant_in (list_count c)) parts w.number w here ∙ ap some (sym grant);
         own = at_map pass_of parts w.number w here;
-      } in
-      let wide : length words ≡ clients = let w = r.wide in length-drop base s.words ∙ omega arith in
+      } in let wide : length words ≡ clients = let w = r.wide in length-drop base s.words ∙ omega arith in
       let small' : y < 18446744073709551616 = subst (λ (n : ℕ). n < 18446744073709551616) found small in
-      let t = allowed grants words passes moment (omega arith) small' in
-      let q : SeatLists P = client_lists w place t.0 in
+      let t = allowed grants words passes moment (omega arith) small' in let q : SeatLists P = client_lists w place t.0 in
       let stay : (j : ℕ) → j < list_count c → take (word_count seats) (drop (j * word_count seats) s.words)
       ≡ take (word_count seats) (drop (j * word_count seats) (set s.words (base + place) (f y))) = λ j less.
       words_before (word_count seats) (j * word_count seats) base place s.words (f y) (further j (list_count c) (word_count seats) less) in
@@ -147,8 +104,7 @@ module _ {P N : Type 0} (begin : P) (c : Regions) (seats clients : ℕ) (holds :
         keeps,
         tt,
         subst (λ (z : ℕ × ℕ). IsRunningList c seats clients holds (stepped s z.0 (f z.1) id me.1 (view (q ∷ [])) keeps)) (λ k. (sym word_is k, sym found k))
-            (placed c seats clients holds s parts owner r (base + place) (f y) id me.1 w q at' refl refl
-            (record {
+            (placed c seats clients holds s parts owner r (base + place) (f y) id me.1 w q at' refl refl (record {
               apart = apart;
               guard = subst (λ (z : Grants × (List ℕ × List P)). holds z.0 z.1.0 z.1.1)
                   (λ k. (grants_now k, ((changes words ∙ sym (drop-set-add base s.words place (f y))) k, sym (map-set pass_of parts w.number q) k)))
@@ -159,13 +115,12 @@ module _ {P N : Type 0} (begin : P) (c : Regions) (seats clients : ℕ) (holds :
           pass = t.0;
           shows = ap (λ (x : SeatLists P). shown lists i (client_lists x place t.0)) (sym part);
           made = subst (λ (x : SeatLists P). IsMade holds allows note (shown lists i x).number (shown_grant (shown lists i x)) x.pass step
-              (get_or s.words word 0) t.0)
-              (sym part) (grants, words, passes, moment, sym found, t.1);
+              (get_or s.words word 0) t.0) (sym part) (grants, words, passes, moment, sym found, t.1);
         }),
       )
 
   -- the same for a token, with the names that the call has
-  pub token_client : (number many lists i first words play_lists play_list : ℕ) (step : ClientStep) (f : ℕ → ℕ) (slots id : ℕ) (me : Me (Unit {0}) (ListView P))
+  pub token_client : {number many lists i first words play_lists play_list : ℕ} (step : ClientStep) (f : ℕ → ℕ) (slots id : ℕ) (me : Me (Unit {0}) (ListView P))
       (p : SeatPart (Beside P)) (word : ℕ) (then : ℕ → Me (Unit {0}) (ListView P) → Type 0)
       → me.0.parts ≡ part_in begin me.0.parts ∷ [] → IsSeatOf (part_in begin me.0.parts) number many lists i first words → shown_of begin lists i me.0.parts ≡ p
       → play_lists ≡ p.pass.lists → play_list ≡ p.pass.list → word ≡ list_count c * word_count seats + place_of step → place_of step < clients
@@ -173,33 +128,30 @@ module _ {P N : Type 0} (begin : P) (c : Regions) (seats clients : ℕ) (holds :
       → IsAllowed holds allows note p.number (shown_grant p) (inner_pass p) step
       → ((found : ℕ) (me' : Me (Unit {0}) (ListView P)) → IsClientPlay begin holds allows note play_lists play_list step me found me' → then found me')
       → Allows (IsRunningList c seats clients holds) slots id me word f then
-  token_client number many lists i first words play_lists play_list step f slots id me p word then one seat_of is lists_are list_is word_is below changes
-      allowed told =
-      let a : play_lists ≡ lists = lists_are ∙ ap (λ (x : SeatPart (Beside P)). x.pass.lists) (sym is) in
+  token_client {number} {many} {lists} {i} {first} {words} {play_lists} {play_list} step f slots id me p word then one seat_of is lists_are list_is
+      word_is below changes allowed told = let a : play_lists ≡ lists = lists_are ∙ ap (λ (x : SeatPart (Beside P)). x.pass.lists) (sym is) in
       let b : play_list ≡ i = list_is ∙ ap (λ (x : SeatPart (Beside P)). x.pass.list) (sym is) in
       client_keeps play_lists play_list step f slots id me (part_in begin me.0.parts) word then (ap view one) (seat_of.full ∙ sym a) word_is below changes
       (subst (λ (x : SeatPart (Beside P)). IsAllowed holds allows note x.number (shown_grant x) (inner_pass x) step)
       (sym ((λ k. shown_of begin (a k) (b k) me.0.parts) ∙ is)) allowed) told
 
   -- the same for a store, which tells that there was a value and not which
-  pub token_stores : (number many lists i first words play_lists play_list : ℕ) (step : ClientStep) (value slots id : ℕ) (me : Me (Unit {0}) (ListView P))
+  pub token_stores : {number many lists i first words play_lists play_list : ℕ} (step : ClientStep) (value slots id : ℕ) (me : Me (Unit {0}) (ListView P))
       (p : SeatPart (Beside P)) (word : ℕ)
       → me.0.parts ≡ part_in begin me.0.parts ∷ [] → IsSeatOf (part_in begin me.0.parts) number many lists i first words → shown_of begin lists i me.0.parts ≡ p
       → play_lists ≡ p.pass.lists → play_list ≡ p.pass.list → word ≡ list_count c * word_count seats + place_of step → place_of step < clients
-      → ((words : List ℕ) → words_after words step ≡ set words (place_of step) value)
-      → IsAllowed holds allows note p.number (shown_grant p) (inner_pass p) step
+      → ((words : List ℕ) → words_after words step ≡ set words (place_of step) value) → IsAllowed holds allows note p.number (shown_grant p) (inner_pass p) step
       → Allows (IsRunningList c seats clients holds) slots id me word (λ _. value)
       (λ _ me'. (found : ℕ) × IsClientPlay begin holds allows note play_lists play_list step me found me')
-  token_stores number many lists i first words play_lists play_list step value slots id me p word one seat_of is lists_are list_is word_is below changes
-      allowed =
-      token_client number many lists i first words play_lists play_list step (λ _. value) slots id me p word
+  token_stores {number} {many} {lists} {i} {first} {words} {play_lists} {play_list} step value slots id me p word one seat_of is lists_are list_is word_is
+      below changes allowed = token_client step (λ _. value) slots id me p word
       (λ _ me'. (found : ℕ) × IsClientPlay begin holds allows note play_lists play_list step me found me')
       one seat_of is lists_are list_is word_is below changes allowed (λ found me' told. (found, told))
 
-module _ {P N : Type 0} (begin : P) (holds : Grants → List ℕ → List P → Type 0) (allows : Grants → List ℕ → List P → ℕ → ClientStep → N → P → Type 0) (note : N)
-    (play_lists play_list : ℕ) (step : ClientStep) (found : ℕ) (me me' : Me (Unit {0}) (ListView P))
+module _ {P N : Type 0} {begin : P} {holds : Grants → List ℕ → List P → Type 0} {allows : Grants → List ℕ → List P → ℕ → ClientStep → N → P → Type 0} {note : N}
+    {play_lists play_list : ℕ} {step : ClientStep} {found : ℕ} {me me' : Me (Unit {0}) (ListView P)}
     (play : IsClientPlay begin holds allows note play_lists play_list step me found me') where
-  module _ (lists i : ℕ) (p : SeatPart (Beside P)) (is : shown_of begin lists i me.0.parts ≡ p) (lists_are : play_lists ≡ p.pass.lists)
+  module _ {lists i : ℕ} {p : SeatPart (Beside P)} (is : shown_of begin lists i me.0.parts ≡ p) (lists_are : play_lists ≡ p.pass.lists)
       (list_is : play_list ≡ p.pass.list) where
     same_lists_are : play_lists ≡ lists
     same_lists_are = lists_are ∙ ap (λ (x : SeatPart (Beside P)). x.pass.lists) (sym is)
@@ -225,12 +177,10 @@ module _ {P N : Type 0} (begin : P) (holds : Grants → List ℕ → List P → 
 pub client_place : {shares : List ℕ} {key_seats key_words slots : ℕ} {table : TableId} {cut : Regions} {seats client start : ℕ} {shape : ListShape}
     {i word place : ℕ} → IsTable shares key_seats key_words table.words slots cut seats client start
     → record { table = table; seats = seats; client = client; cut = cut } ≡ shape → place ≡ i → i < shape.client
-    → word ≡ list_count shape.cut * word_count shape.seats + i
-    → (word < table.words) × (word ≡ list_count (cut_of shares) * word_count key_seats + place)
+    → word ≡ list_count shape.cut * word_count shape.seats + i → (word < table.words) × (word ≡ list_count (cut_of shares) * word_count key_seats + place)
     × (place < key_words - list_count (cut_of shares) * word_count key_seats)
 client_place {shares} {key_seats} {key_words} {slots} {table} {cut} {seats} {client} {start} {shape} {i} {word} {place} t same is below at =
-    let b = t.same_words in let w = t.wide in
-    let many : client ≡ shape.client = ap (λ (s : ListShape). s.client) same in
+    let b = t.same_words in let w = t.wide in let many : client ≡ shape.client = ap (λ (s : ListShape). s.client) same in
     let key : list_count (cut_of shares) * word_count key_seats ≡ list_count cut * word_count seats =
     λ k. list_count (t.same_cut k) * word_count (t.same_seats k) in
     let now : list_count cut * word_count seats ≡ list_count shape.cut * word_count shape.seats =

@@ -31,11 +31,9 @@ get_else (x ∷ xs) (suc i) (suc j) a n = get_else xs i j a (λ e. n (ap suc e))
 
 -- a seat has a view of each list
 pub core_there : (lists i : ℕ) (cores : List View) → length cores ≡ lists → i < lists → slice_get cores i ≡ Some (core_at i cores)
-core_there lists i cores many less =
-    let t = there cores i (omega arith) in
+core_there lists i cores many less = let t = there cores i (omega arith) in
     let at : slice_get cores i ≡ Some t.0 = to_get cores i t.0 t.1 in
-    let core : core_at i cores ≡ t.0 = ap (λ (o : Option View). unwrap_or o blank) at in
-    at ∙ ap (λ (x : View). Some x) (sym core)
+    let core : core_at i cores ≡ t.0 = ap (λ (o : Option View). unwrap_or o blank) at in at ∙ ap (λ (x : View). Some x) (sym core)
 
 -- the view that a step leaves, and the views of other lists
 pub core_new : (lists i : ℕ) (cores : List View) (now : View) → length cores ≡ lists → i < lists → core_at i (set cores i now) ≡ now
@@ -44,9 +42,17 @@ core_new lists i cores now many less = ap (λ (o : Option View). unwrap_or o bla
 pub core_else : (i j : ℕ) (cores : List View) (now : View) → j ≢ i → core_at j (set cores i now) ≡ core_at j cores
 core_else i j cores now differ = ap (λ (o : Option View). unwrap_or o blank) (get_else cores i j now differ)
 
-module _ (lists seats : ℕ) (words : List ℕ) (all : List (List View)) (n i : ℕ) (cores : List View) (step : Step) (line : Plan)
-    (locks : (j : ℕ) → j < lists → IsLock (machine_at j seats words all)) (here : get_elem? all n ≡ some cores) (many : length cores ≡ lists) (less : i < lists)
-    (enabled : plan seats n (core_at i cores) step ≡ Some line) (low : line.place < word_count seats) where
+-- a step of seat n in list i, whose line is this, where each list is a lock
+pub record IsStepIn (lists seats : ℕ) (words : List ℕ) (all : List (List View)) (n i : ℕ) (cores : List View) (step : Step) (line : Plan) : Type 0 where
+  pub locks : (j : ℕ) → j < lists → IsLock (machine_at j seats words all)
+  pub here : get_elem? all n ≡ some cores
+  pub many : length cores ≡ lists
+  pub less : i < lists
+  pub enabled : plan seats n (core_at i cores) step ≡ Some line
+  pub low : line.place < word_count seats
+
+module _ {lists seats : ℕ} {words : List ℕ} {all : List (List View)} {n i : ℕ} {cores : List View} {step : Step} {line : Plan}
+    (s : IsStepIn lists seats words all n i cores step line) where
   abbrev base : ℕ
   base = word_count seats
 
@@ -75,23 +81,22 @@ module _ (lists seats : ℕ) (words : List ℕ) (all : List (List View)) (n i : 
   next = carried_out m n line
 
   pub seen : slice_get m.views n ≡ Some v
-  seen = to_get m.views n v (at_map (core_at i) all n cores here)
+  seen = to_get m.views n v (at_map (core_at i) all n cores s.here)
 
   pub stepped : after m n step ≡ Some next
-  stepped = given-is _ _ v _ seen (given-is _ _ line _ enabled refl)
+  stepped = given-is _ _ v _ seen (given-is _ _ line _ s.enabled refl)
 
   pub found_is : get_or m.words line.place 0 ≡ found
-  found_is = slice_word base start line.place words low
+  found_is = slice_word base start line.place words s.low
 
   pub seen_next : slice_get next.views n ≡ Some now
   seen_next = new_view m.views n _ v seen ∙ ap (λ k. Some (line.view k)) found_is
 
   -- the stepping list
   pub this : next ≡ machine_at i seats words' (set all n cores')
-  this =
-      let words_now : set m.words line.place (line.write (get_or m.words line.place 0)) ≡ take base (drop start words') = ap (λ k. set m.words line.place
-      (line.write k)) found_is ∙ sym (this_slice base start line.place words (line.write found) low) in
-      let core : core_at i cores' ≡ now = core_new lists i cores now many less in
+  this = let words_now : set m.words line.place (line.write (get_or m.words line.place 0)) ≡ take base (drop start words') = ap (λ k. set m.words line.place
+      (line.write k)) found_is ∙ sym (this_slice base start line.place words (line.write found) s.low) in
+      let core : core_at i cores' ≡ now = core_new lists i cores now s.many s.less in
       let views_now : set m.views n (line.view (get_or m.words line.place 0)) ≡ map (core_at i) (set all n cores') = ap (λ k. set m.views n
       (line.view k)) found_is ∙ (ap (set m.views n) (sym core) ∙ sym (map-set (core_at i) all n cores')) in
       λ k. record { seats = seats; words = words_now k; views = views_now k }
@@ -100,14 +105,14 @@ module _ (lists seats : ℕ) (words : List ℕ) (all : List (List View)) (n i : 
   other : (j : ℕ) → j ≢ i → machine_at j seats words all ≡ machine_at j seats words' (set all n cores')
   other j differ =
       let words_now : take base (drop (j * base) words) ≡ take base (drop (j * base) words') = sym (other_slice base start (j * base) line.place words
-      (line.write found) (slices_apart i j base (λ e. differ (sym e))) low) in
+      (line.write found) (slices_apart i j base (λ e. differ (sym e))) s.low) in
       let core : core_at j cores' ≡ core_at j cores = core_else i j cores now differ in
       let views_now : map (core_at j) all ≡ map (core_at j) (set all n cores') = sym (map-set (core_at j) all n cores' ∙ (ap (set (map
-      (core_at j) all) n) core ∙ set_again (map (core_at j) all) n (core_at j cores) (at_map (core_at j) all n cores here))) in
+      (core_at j) all) n) core ∙ set_again (map (core_at j) all) n (core_at j cores) (at_map (core_at j) all n cores s.here))) in
       λ k. record { seats = seats; words = words_now k; views = views_now k }
 
   pub locks_after : (j : ℕ) → j < lists → IsLock (machine_at j seats words' (set all n cores'))
   locks_after j there = dite (ℕ_discrete j i)
       (λ e. subst (λ k. IsLock (machine_at k seats words' (set all n cores'))) (sym e) (subst IsLock this (every_step_keeps step m next n
-      (locks i less) stepped)))
-      (λ differ. subst IsLock (other j differ) (locks j there))
+      (s.locks i s.less) stepped)))
+      (λ differ. subst IsLock (other j differ) (s.locks j there))

@@ -39,8 +39,7 @@ nothing_there k a e = some-ne-none a (sym e)
 joined_stands : {P : Type 0} (views : List (ListView P)) (id other own n : ℕ) (v w : ListView P) → get_elem? views id ≡ some v
     → other ≢ id → get_elem? views other ≡ some w → Stands views own n
     → Stands (set (set views id (view (v.parts ++ w.parts))) other (view [])) (cond (eqb own other) id own) n
-joined_stands {P} views id other own n v w at_v differ at_w st =
-    let both : ListView P = view (v.parts ++ w.parts) in
+joined_stands {P} views id other own n v w at_v differ at_w st = let both : ListView P = view (v.parts ++ w.parts) in
     let now : List (ListView P) = set (set views id both) other (view []) in
     let here : get_elem? now id ≡ some both = set_else (set views id both) other id (view []) (λ e. differ (sym e))
     ∙ set_here views id both (at_below views id v at_v) in
@@ -64,20 +63,13 @@ joined_stands {P} views id other own n v w at_v differ at_w st =
       has = at_longer v.parts w.parts st.place st.part (subst (λ (z : ListView P). get_elem? z.parts st.place ≡ some st.part) (sym is) st.has);
       number = st.number;
     })
-    (λ neither. record {
-      holder = st.holder;
-      at = ap (get_elem? now) stay ∙ (set_else (set views id both) other own (view []) no ∙ (set_else views id own both neither ∙ st.at));
-      place = st.place;
-      part = st.part;
-      has = st.has;
-      number = st.number;
-    }))
+    (λ neither. let at = ap (get_elem? now) stay ∙ (set_else (set views id both) other own (view []) no ∙ (set_else views id own both neither ∙ st.at)) in
+    record { holder = st.holder; at = at; place = st.place; part = st.part; has = st.has; number = st.number }))
 
 module _ {P : Type 0} (c : Regions) (seats clients : ℕ) (holds : Grants → List ℕ → List P → Type 0) where
   -- one seat takes in what belongs to another
   pub joins : (id other : ℕ) (v w : ListView P) → Joins (IsRunningList c seats clients holds) id v other w (view (v.parts ++ w.parts)) (view [])
-  joins id other v w s running at_v differ at_w' =
-      let parts = running.0 in let owner = running.1 in let r = running.2 in
+  joins id other v w s running at_v differ at_w' = let parts = running.0 in let owner = running.1 in let r = running.2 in
       let both : ListView P = view (v.parts ++ w.parts) in
       let at_w : get_elem? s.views other ≡ some w = sym (set_else s.views id other both differ) ∙ at_w' in
       let owner' : ℕ → ℕ = λ n. cond (eqb (owner n) other) id (owner n) in
@@ -89,15 +81,12 @@ module _ {P : Type 0} (c : Regions) (seats clients : ℕ) (holds : Grants → Li
           cut = r.cut;
           wide = r.wide;
           count = r.count;
-          owned = λ id' v' at' k p there. ⊎_elim
-              (λ t. absurd (nothing_there k p (subst (λ (z : ListView P). get_elem? z.parts k ≡ some p) (sym t.1) there)))
+          owned = λ id' v' at' k p there. ⊎_elim (λ t. absurd (nothing_there k p (subst (λ (z : ListView P). get_elem? z.parts k ≡ some p) (sym t.1) there)))
               (λ t. ⊎_elim
-              (λ u. ⊎_elim
-              (λ in_v. let o = r.owned id v at_v k p in_v in (o.0, stays p.number (λ e. differ (sym e ∙ o.1)) ∙ (o.1 ∙ sym u.0)))
+              (λ u. ⊎_elim (λ in_v. let o = r.owned id v at_v k p in_v in (o.0, stays p.number (λ e. differ (sym e ∙ o.1)) ∙ (o.1 ∙ sym u.0)))
               (λ in_w. let o = r.owned other w at_w in_w.0 p in_w.1 in (o.0, moved p.number o.1 ∙ sym u.0))
               (append_at v.parts w.parts k p (subst (λ (z : ListView P). get_elem? z.parts k ≡ some p) (sym u.1) there)))
-              (λ u. let o = r.owned id' v' u.1 k p there in (o.0, stays p.number (λ e. t.0 (sym o.1 ∙ e)) ∙ o.1))
-              (at_set s.views id id' both v' t.1))
+              (λ u. let o = r.owned id' v' u.1 k p there in (o.0, stays p.number (λ e. t.0 (sym o.1 ∙ e)) ∙ o.1)) (at_set s.views id id' both v' t.1))
               (at_set (set s.views id both) other id' (view []) v' at');
           stands = λ n lt. joined_stands s.views id other (owner n) n v w at_v differ at_w (r.stands n lt);
           same = r.same;
@@ -109,8 +98,7 @@ module _ {P : Type 0} (c : Regions) (seats : ℕ) (holds : Grants → List ℕ �
     (some_list : 0 < list_count c) (r : AreLists (list_count c) seats (takes_in c) holds words parts) where
   -- a seat that holds nothing in any list has no grant
   no_grant : (k : ℕ) (p : SeatLists P) → get_elem? parts k ≡ some p → ((j : ℕ) → j < list_count c → held_in p j ≡ None) → grant_in (list_count c) p ≡ None
-  no_grant k p here none = dite (ℕ_discrete (list_count c) 1)
-      (λ one. counts_one (list_count c) p.standing (held_in p) one ∙ none 0 some_list)
+  no_grant k p here none = dite (ℕ_discrete (list_count c) 1) (λ one. counts_one (list_count c) p.standing (held_in p) one ∙ none 0 some_list)
       (λ several. counts_many (list_count c) p.standing (held_in p) several ∙ by_standing p.standing refl)
     where
       either : (b : Bool) → ◌≡◌ {A = Option Held} (if b then None else None) None
@@ -126,8 +114,7 @@ module _ {P : Type 0} (c : Regions) (seats : ℕ) (holds : Grants → List ℕ �
 -- a seat whose hand is idle holds nothing in any list
 nothing_in : {P : Type 0} (lists i : ℕ) (p : SeatLists P) → i < lists → IsIdle (core_at i p.cores)
     → (1 < lists → (j : ℕ) → j < lists → j ≢ i → IsIdle (core_at j (slice_set p.cores i blank))) → (j : ℕ) → j < lists → held_in p j ≡ None
-nothing_in lists i p within idle others j less = dite (ℕ_discrete j i)
-    (λ e. ap (λ n. held_at (core_at n p.cores).own) e ∙ ap held_at idle.own)
+nothing_in lists i p within idle others j less = dite (ℕ_discrete j i) (λ e. ap (λ n. held_at (core_at n p.cores).own) e ∙ ap held_at idle.own)
     (λ differ. ap (λ (x : View). held_at x.own) (sym (core_else i j p.cores blank differ)) ∙ ap held_at (others (omega arith) j less differ).own)
 
 no_grants : {P : Type 0} (lists : ℕ) (parts : List (SeatLists P)) (n : ℕ) → length parts ≡ n
@@ -135,17 +122,14 @@ no_grants : {P : Type 0} (lists : ℕ) (parts : List (SeatLists P)) (n : ℕ) �
 no_grants lists [] zero e all = refl
 no_grants lists [] (suc n) e all = absurd (omega arith)
 no_grants lists (x ∷ xs) zero e all = absurd (omega arith)
-no_grants lists (x ∷ xs) (suc n) e all =
-    let h = all 0 x refl in let t = no_grants lists xs n (omega arith) (λ k p at. all (suc k) p at) in λ i. h i ∷ t i
+no_grants lists (x ∷ xs) (suc n) e all = let h = all 0 x refl in let t = no_grants lists xs n (omega arith) (λ k p at. all (suc k) p at) in λ i. h i ∷ t i
 
 -- the passes of parts are those of the hands that show them
 passes_in : {P : Type 0} (table : TableId) (parts : List (SeatLists P)) (hands : List (HandState (Beside P))) → AreShownAt table parts hands
     → map pass_of parts ≡ map pass_in hands
-passes_in {P} table parts hands all = same_lists (map pass_of parts) (map pass_in hands)
-    (length-map parts pass_of ∙ (all.0 ∙ sym (length-map hands pass_in)))
+passes_in {P} table parts hands all = same_lists (map pass_of parts) (map pass_in hands) (length-map parts pass_of ∙ (all.0 ∙ sym (length-map hands pass_in)))
     (λ k pass at. let t = at_unmap pass_in hands k pass at in
-    let u = at_there parts k (subst (λ n. k < n) (sym all.0) (at_below hands k t.0 t.1)) in
-    let h = all.1 k u.0 u.1 in
+    let u = at_there parts k (subst (λ n. k < n) (sym all.0) (at_below hands k t.0 t.1)) in let h = all.1 k u.0 u.1 in
     let same : hand_with table (shown h.0 h.1 u.0) ≡ t.0 = some-injective _ _ (sym h.4 ∙ t.1) in
     at_map pass_of parts k u.0 u.1 ∙ ap some (ap (λ (x : HandState (Beside P)). x.part.pass.pass) same ∙ t.2))
 
@@ -164,15 +148,13 @@ closes {P} c seats clients holds table shared hands id v words xs count idle oth
     ap (get_elem? parts) (sym (number k p there)) ∙ o.0) in
     let none : (k : ℕ) (p : SeatLists P) → get_elem? parts k ≡ some p → grant_in (list_count c) p ≡ None = λ k p there.
     let there' : get_elem? v.parts k ≡ some p = ap (λ (l : List (SeatLists P)). get_elem? l k) (sym same) ∙ there in
-    let h = is.1 k p there' in
-    let lists : h.0 ≡ list_count c = sym h.2 ∙ r.lists_are.apart.many k p there in
+    let h = is.1 k p there' in let lists : h.0 ≡ list_count c = sym h.2 ∙ r.lists_are.apart.many k p there in
     no_grant c seats holds s.words parts (let n = r.cut in omega arith) r.lists_are k p there
     (nothing_in (list_count c) h.1 p (subst (λ n. h.1 < n) lists h.3) (idle k (hand_with shared (shown h.0 h.1 p)) h.4).2
     (λ several. others several k (hand_with shared (shown h.0 h.1 p)) h.4)) in
     let grants : grants_in (list_count c) parts ≡ replicate seats None = no_grants (list_count c) parts seats r.count none in
     subst (λ (z : Grants × (List ℕ × List P)). holds z.0 z.1.0 z.1.1)
-    (λ i. (grants i, (ap (drop (list_count c * word_count seats)) final.2 i, (ap (map pass_of) same ∙ passes_in shared v.parts hands is) i)))
-    r.lists_are.guard
+    (λ i. (grants i, (ap (drop (list_count c * word_count seats)) final.2 i, (ap (map pass_of) same ∙ passes_in shared v.parts hands is) i))) r.lists_are.guard
 
 module _ {P : Type 0} (table : TableId) where
   -- no part shows no hand
@@ -196,8 +178,7 @@ module _ {P : Type 0} (table : TableId) where
       let new_is : new ≡ front ++ p ∷ [] = grown ∙ ap (λ x. front ++ x) one in (
         (
           ap length new_is ∙ (length-append front (p ∷ []) ∙ (ap (λ n. n + 1) all.0 ∙ sym (length-append front_hands (s ∷ [])))),
-          λ k x there. ⊎_elim
-              (λ old. let t = all.1 k x old in (t.0, t.1, t.2, t.3, at_longer front_hands (s ∷ []) k (hand_with table (shown t.0 t.1 x)) t.4))
+          λ k x there. ⊎_elim (λ old. let t = all.1 k x old in (t.0, t.1, t.2, t.3, at_longer front_hands (s ∷ []) k (hand_with table (shown t.0 t.1 x)) t.4))
               (λ (last : (x ≡ p) × (k ≡ length front)). (
                 lists,
                 i,
@@ -205,8 +186,7 @@ module _ {P : Type 0} (table : TableId) where
                 less,
                 at_last front_hands s k (sym all.0 ∙ sym last.1) ∙ ap some (sym same ∙ ap (λ (y : SeatLists P). hand_with table (shown lists i y))
                     (sym last.0)),
-              ))
-              (last_at front p x k (ap (λ l. get_elem? l k) (sym new_is) ∙ there)),
+              )) (last_at front p x k (ap (λ l. get_elem? l k) (sym new_is) ∙ there)),
         ),
         append_snoc front_hands s now ∙ (ap (λ l. front_hands ++ s ∷ l) rest ∙ (ap (λ l. front_hands ++ l) (sym split) ∙ so)),
       )
@@ -222,9 +202,7 @@ module _ {P : Type 0} (table : TableId) where
 -- one word more is copied
 pub copied : (words out new : List ℕ) (from i n : ℕ) → out ≡ take i (drop from words) → new ≡ out ++ n ∷ []
     → get_elem? words (from + i) ≡ some n → new ≡ take (i + 1) (drop from words)
-copied words out new from i n is grown at =
-    let lt = at_below words (from + i) n at in
-    let len = length-drop from words in
+copied words out new from i n is grown at = let lt = at_below words (from + i) n at in let len = length-drop from words in
     let z : i + 1 ≡ suc i = omega arith in
     let value : get_or (drop from words) i 0 ≡ n = get_or-drop from words i 0 ∙ at_or words (from + i) n 0 at in
     let longer : take (suc i) (drop from words) ≡ take i (drop from words) ++ n ∷ [] =

@@ -9,7 +9,7 @@ use lib.ListN.{get_elem?}
 use Rattle.atomic_table.specs.Table.{Me, keeps, Allows}
 use Rattle.atomic_table.specs.Seated.{TableId}
 use Rattle.atomic_table.proofs.Lists.{at_map, set_again}
-use Rattle.lock_core.specs.Grants.{Grants, IsFree}
+use Rattle.lock_core.specs.Grants.{Grants}
 use Rattle.list_cuts.specs.Cut.{Regions, list_count}
 use Rattle.lock_core.specs.declared.range.Held.{Held}
 use Rattle.lock_core.specs.declared.views.View.{View}
@@ -26,6 +26,7 @@ use Rattle.epoch_pools.specs.Beside.{held_in, grant_in, shown, shown_core}
 use Rattle.epoch_pools.specs.Hands.{IsHandView, AreOthers, part_in, shown_of, IsSeatOf}
 use Rattle.epoch_pools.specs.Passing.{look_trace, MayCount, MayPass, HoldsToo, after_look, standing_by, IsLookPlay, IsLook, narrow, wide, glance}
 use Rattle.epoch_pools.specs.Running.{pass_kept, takes_in, pass_of, grants_in, AreLists, view, lists_with, IsRunningList}
+use Rattle.epoch_pools.proofs.Granting.{GainLaw}
 use Rattle.epoch_pools.proofs.Slices.{further}
 use Rattle.epoch_pools.proofs.Placing.{part_here, placed, same_seat}
 use Rattle.epoch_pools.proofs.ClientSteps.{cut_by, locks_stay}
@@ -33,23 +34,18 @@ use Rattle.epoch_pools.proofs.Counting.{counts_many}
 use Rattle.epoch_pools.proofs.Turning.{core_shown}
 use Rattle.epoch_pools.proofs.Clearing.{IsClear, narrow_looks, wide_looks}
 
-module _ {P : Type 0} (begin : P) (c : Regions) (seats clients : ℕ) (holds : Grants → List ℕ → List P → Type 0) (rested : P → P)
-    (gains : (grants : Grants) (words : List ℕ) (passes : List P) (seat : ℕ) (h : Held) → holds grants words passes
-    → get_elem? grants seat ≡ some None → IsFree grants seat h → holds (set grants seat (Some h)) words passes) where
+module _ {P : Type 0} (begin : P) (c : Regions) (seats clients : ℕ) (holds : Grants → List ℕ → List P → Type 0) (rested : P → P) (gains : GainLaw holds) where
   -- a seat that has only made a look which passed nothing
   abbrev pub only_looked : SeatLists P → SeatLists P
-  only_looked w =
-      record { number = w.number; seats = w.seats; cores = w.cores; standing = w.standing; pass = w.pass; trace = look_trace w.trace }
+  only_looked w = record { number = w.number; seats = w.seats; cores = w.cores; standing = w.standing; pass = w.pass; trace = look_trace w.trace }
 
   unpassed : (words : List ℕ) (parts : List (SeatLists P)) (w : SeatLists P) → AreLists (list_count c) seats (takes_in c) holds words parts
       → get_elem? parts w.number ≡ some w → AreLists (list_count c) seats (takes_in c) holds words (set parts w.number (only_looked w))
-  unpassed words parts w l here =
-      let grants : grants_in (list_count c) parts ≡ grants_in (list_count c) (set parts w.number (only_looked w)) =
+  unpassed words parts w l here = let grants : grants_in (list_count c) parts ≡ grants_in (list_count c) (set parts w.number (only_looked w)) =
       sym (set_again (grants_in (list_count c) parts) w.number (grant_in (list_count c) w) (at_map (grant_in (list_count c)) parts w.number w here))
       ∙ sym (map-set (grant_in (list_count c)) parts w.number (only_looked w)) in
       let passes : map pass_of parts ≡ map pass_of (set parts w.number (only_looked w)) =
-      sym (set_again (map pass_of parts) w.number w.pass (at_map pass_of parts w.number w here))
-      ∙ sym (map-set pass_of parts w.number (only_looked w)) in
+      sym (set_again (map pass_of parts) w.number w.pass (at_map pass_of parts w.number w here)) ∙ sym (map-set pass_of parts w.number (only_looked w)) in
       record {
         apart = locks_stay (list_count c) seats (takes_in c) words words parts w.number w (only_looked w) l.apart here refl refl (λ i less. refl);
         guard = subst (λ (z : Grants × List P). holds z.0 (drop (list_count c * word_count seats) words) z.1) (λ k. (grants k, passes k)) l.guard;
@@ -96,15 +92,12 @@ module _ {P : Type 0} (begin : P) (c : Regions) (seats clients : ℕ) (holds : G
       → (too ≡ true) ⊎ (slice_index words (at * word_count seats) ≡ 0)
       → AreLists (list_count c) seats (takes_in c) holds words (set parts w.number (looked_at true w standing)))
       → ((words : List ℕ) (parts : List (SeatLists P)) → AreLists (list_count c) seats (takes_in c) holds words parts → get_elem? parts w.number ≡ some w
-      → grant_in (list_count c) w ≡ None)
-      → Allows (IsRunningList c seats clients holds) slots id me place (λ n. n) (IsLookPlay begin c lists i standing too me)
+      → grant_in (list_count c) w ≡ None) → Allows (IsRunningList c seats clients holds) slots id me place (λ n. n) (IsLookPlay begin c lists i standing too me)
   looks_by lists i at standing too slots id place me w is full place_is good none s running _ there small =
       let parts = running.0 in let owner = running.1 in let r = running.2 in
       let at' : get_elem? s.views id ≡ some (view (w ∷ [])) = there ∙ ap some is in
       let here = part_here c seats clients holds s parts owner r id w at' in
-      let many : w.seats ≡ seats = r.same w.number w here in
-      let y : ℕ = get_or s.words place 0 in
-      let b : Bool = too || y == 0 in
+      let many : w.seats ≡ seats = r.same w.number w here in let y : ℕ = get_or s.words place 0 in let b : Bool = too || y == 0 in
       let q : SeatLists P = looked_at b w standing in
       let words_stay : s.words ≡ set s.words place y = sym (set-get_or s.words place 0) in
       let part : part_in begin me.0.parts ≡ w = ap (λ (v : ListView P). part_in begin v.parts) is in
@@ -141,13 +134,10 @@ module _ {P : Type 0} (begin : P) (c : Regions) (seats clients : ℕ) (holds : G
   glances : (lists i : ℕ) (standing : Standing) (slots id place : ℕ) (me : Me (Unit {0}) (ListView P)) (w : SeatLists P) → me.0 ≡ view (w ∷ [])
       → length w.cores ≡ lists → w.standing ≡ standing
       → Allows (IsRunningList c seats clients holds) slots id me place (λ n. n) (IsLookPlay begin c lists i standing false me)
-  glances lists i standing slots id place me w is full stands s running _ there small =
-      let parts = running.0 in let owner = running.1 in let r = running.2 in
+  glances lists i standing slots id place me w is full stands s running _ there small = let parts = running.0 in let owner = running.1 in let r = running.2 in
       let at' : get_elem? s.views id ≡ some (view (w ∷ [])) = there ∙ ap some is in
-      let here = part_here c seats clients holds s parts owner r id w at' in
-      let y : ℕ = get_or s.words place 0 in
-      let q : SeatLists P = only_looked w in
-      let words_stay : s.words ≡ set s.words place y = sym (set-get_or s.words place 0) in
+      let here = part_here c seats clients holds s parts owner r id w at' in let y : ℕ = get_or s.words place 0 in
+      let q : SeatLists P = only_looked w in let words_stay : s.words ≡ set s.words place y = sym (set-get_or s.words place 0) in
       let part : part_in begin me.0.parts ≡ w = ap (λ (v : ListView P). part_in begin v.parts) is in (
         view (q ∷ []),
         keeps,
@@ -188,63 +178,52 @@ module _ {P : Type 0} (begin : P) (c : Regions) (seats clients : ℕ) (holds : G
         (λ (t : too ≡ true). let h = held_too t in
         inr (sym (ap (λ (v : View). held_at v.own) (core_shown lists i w at))
         ∙ (ap (λ (x : SeatPart (Beside P)). held_at (shown_core x at).own) is ∙ (h.too ∙ (sym h.own ∙ held)))))
-        (λ (e : slice_index words (at * word_count seats) ≡ 0). inl e)
-        looks
+        (λ (e : slice_index words (at * word_count seats) ≡ 0). inl e) looks
 
     pub narrow_good : (too : Bool) (may : MayCount c p) → (too ≡ true → HoldsToo p 0) → (too ≡ true) ⊎ (slice_index words (0 * word_count seats) ≡ 0)
         → AreLists (list_count c) seats (takes_in c) holds words (set parts w.number (looked_at true w (Narrow p.pass.list)))
-    narrow_good too may held_too looks =
-        let several : 1 < list_count c = (let a = may.several in let b = lists_are in let d = many in omega arith) in
+    narrow_good too may held_too looks = let several : 1 < list_count c = (let a = may.several in let b = lists_are in let d = many in omega arith) in
         subst (λ k. AreLists (list_count c) seats (takes_in c) holds words (set parts w.number (looked_at true w (Narrow k)))) list_is
         (narrow_looks holds rested gains (list_count c) seats (takes_in c) words parts w.number w several (cut_by c cut) l here (look_trace w.trace) i may.range
         (stands ∙ may.standing) (subst (λ n. i < n) many less) (holds_there ∙ may.held) (λ j t. may.takes.alone j t ∙ sym list_is)
         (clear 0 too may.range may.held held_too looks))
 
     pub narrow_none : MayCount c p → grant_in (list_count c) w ≡ None
-    narrow_none may =
-        let several : 1 < list_count c = (let a = may.several in let b = lists_are in let d = many in omega arith) in
+    narrow_none may = let several : 1 < list_count c = (let a = may.several in let b = lists_are in let d = many in omega arith) in
         counts_many (list_count c) w.standing (held_in w) (λ e. omega arith)
         ∙ ap (λ (t : Standing). counted_of_many (list_count c) t (held_in w)) (stands ∙ may.standing)
 
     stood : (at up : ℕ) → MayPass c p at up → (w.standing ≡ Free) ⊎ ((n : ℕ) × (w.standing ≡ Wide n))
-    stood at up may = ⊎_elim
-        (λ (e : p.pass.standing ≡ Free). inl (stands ∙ e))
-        (λ (t : (n : ℕ) × (p.pass.standing ≡ Wide n)). inr (t.0, stands ∙ t.1))
+    stood at up may = ⊎_elim (λ (e : p.pass.standing ≡ Free). inl (stands ∙ e)) (λ (t : (n : ℕ) × (p.pass.standing ≡ Wide n)). inr (t.0, stands ∙ t.1))
         may.standing
 
     pub wide_good : (at up : ℕ) (too : Bool) (may : MayPass c p at up) → (too ≡ true → HoldsToo p at)
         → (too ≡ true) ⊎ (slice_index words (at * word_count seats) ≡ 0)
         → AreLists (list_count c) seats (takes_in c) holds words (set parts w.number (looked_at true w (Wide up)))
-    wide_good at up too may held_too looks =
-        let several : 1 < list_count c = (let a = may.several in let b = lists_are in let d = many in omega arith) in
+    wide_good at up too may held_too looks = let several : 1 < list_count c = (let a = may.several in let b = lists_are in let d = many in omega arith) in
         let first : i ≡ 0 = list_is ∙ may.first in
         let passed : passed_by w.standing ≡ passed_by p.pass.standing = ap passed_by stands in
         wide_looks holds rested gains (list_count c) seats (takes_in c) words parts w.number w several (cut_by c cut) l here
         (look_trace w.trace) at up may.range
         (stood at up may) (ap (held_in w) (sym first) ∙ (holds_there ∙ may.held)) (subst (λ n. n ≤ at) (sym passed) may.from) may.below
         (let a = may.most in let b = lists_are in let d = many in omega arith)
-        (λ other from below differ. may.others other (subst (λ n. n ≤ other) passed from) below differ)
-        (clear at too may.range may.held held_too looks)
+        (λ other from below differ. may.others other (subst (λ n. n ≤ other) passed from) below differ) (clear at too may.range may.held held_too looks)
 
     pub wide_none : (at up : ℕ) → MayPass c p at up → grant_in (list_count c) w ≡ None
-    wide_none at up may =
-        let several : 1 < list_count c = (let a = may.several in let b = lists_are in let d = many in omega arith) in
+    wide_none at up may = let several : 1 < list_count c = (let a = may.several in let b = lists_are in let d = many in omega arith) in
         let passed : passed_by w.standing ≡ passed_by p.pass.standing = ap passed_by stands in
         let low : passed_by w.standing < list_count c =
         (let a = may.from in let b = may.below in let d = may.most in let e = lists_are in let f = many in omega arith) in
         counts_many (list_count c) w.standing (held_in w) (λ e. omega arith) ∙ ⊎_elim
         (λ (e : w.standing ≡ Free). ap (λ (t : Standing). counted_of_many (list_count c) t (held_in w)) e)
-        (λ (t : (n : ℕ) × (w.standing ≡ Wide n)).
-        let z : passed_by w.standing ≡ t.0 = ap passed_by t.1 in
+        (λ (t : (n : ℕ) × (w.standing ≡ Wide n)). let z : passed_by w.standing ≡ t.0 = ap passed_by t.1 in
         ap (λ (x : Standing). counted_of_many (list_count c) x (held_in w)) t.1
-        ∙ ap (λ (b : Bool). if b then held_in w 0 else None) (ne_eqb t.0 (list_count c) (λ e. omega arith)))
-        (stood at up may)
+        ∙ ap (λ (b : Bool). if b then held_in w 0 else None) (ne_eqb t.0 (list_count c) (λ e. omega arith))) (stood at up may)
 
   -- each look that a seat may make, in a table of that cut
   seat_looks : 0 < c.count → (lists i at : ℕ) (standing : Standing) (too : Bool) (slots id place : ℕ) (me : Me (Unit {0}) (ListView P)) (w : SeatLists P)
       (p : SeatPart (Beside P)) → me.0 ≡ view (w ∷ []) → shown lists i w ≡ p → length w.cores ≡ lists → i < lists → IsLook c p at standing too
-      → place ≡ at * word_count w.seats
-      → Allows (IsRunningList c seats clients holds) slots id me place (λ n. n) (IsLookPlay begin c lists i standing too me)
+      → place ≡ at * word_count w.seats → Allows (IsRunningList c seats clients holds) slots id me place (λ n. n) (IsLookPlay begin c lists i standing too me)
   seat_looks cut lists i at _ _ slots id place me w p is shows full less (narrow too may first held_too) there =
       looks_by lists i at (Narrow p.pass.list) too slots id place me w is full there
       (λ words parts l here looks. narrow_good cut lists i w p shows full less words parts l here too may
@@ -266,19 +245,13 @@ module _ {P : Type 0} (begin : P) (c : Regions) (seats clients : ℕ) (holds : G
       → place ≡ at * word_count counted
       → Allows (IsRunningList key_cut key_seats clients holds) slots id me place (λ n. n) (IsLookPlay begin play_cut play_lists play_list standing too me)
   token_looks cut key_cut play_cut key_seats same_cut same_play same number counted lists i first words play_lists play_list at standing too slots id place me
-      p one seat_of is
-      lists_are list_is look there =
-      let w : SeatLists P = part_in begin me.0.parts in
+      p one seat_of is lists_are list_is look there = let w : SeatLists P = part_in begin me.0.parts in
       subst (λ (z : ((Regions × Regions) × ℕ) × (ℕ × ℕ)). Allows (IsRunningList z.0.0.0 z.0.1 clients holds) slots id me place (λ n. n)
       (IsLookPlay begin z.0.0.1 z.1.0 z.1.1 standing too me))
       (λ k. (
         ((sym same_cut k, sym same_play k), sym same k),
-        (
-          (ap (λ (x : SeatPart (Beside P)). x.pass.lists) is ∙ sym lists_are) k,
-          (ap (λ (x : SeatPart (Beside P)). x.pass.list) is ∙ sym list_is) k,
-        ),
-      ))
-      (seat_looks cut lists i at standing too slots id place me w p (ap view one) is seat_of.full seat_of.within look
+        ((ap (λ (x : SeatPart (Beside P)). x.pass.lists) is ∙ sym lists_are) k, (ap (λ (x : SeatPart (Beside P)). x.pass.list) is ∙ sym list_is) k),
+      )) (seat_looks cut lists i at standing too slots id place me w p (ap view one) is seat_of.full seat_of.within look
       (there ∙ ap (λ n. at * word_count n) (sym seat_of.seats_are)))
 
 -- the head of a list is one of the table's words
@@ -289,27 +262,23 @@ head_there begin parts id other number many lists i first at place p same seat_o
     let lists_are : lists ≡ p.pass.lists = ap (λ (x : SeatPart (Beside _)). x.pass.lists) is in
     let behind : at * word_count many + word_count many ≤ lists * word_count many = further at lists (word_count many) (omega arith) in
     let all : lists * word_count many ≤ id.words = seat_of.words_there in
-    let words : id.words ≡ other.words = ap (λ (t : TableId). t.words) same in
-    omega arith
+    let words : id.words ≡ other.words = ap (λ (t : TableId). t.words) same in omega arith
 
 module _ {P : Type 0} {begin : P} {play_cut : Regions} {play_lists play_list : ℕ} {standing : Standing} {too : Bool} {found : ℕ}
     {me me' : Me (Unit {0}) (ListView P)} (play : IsLookPlay begin play_cut play_lists play_list standing too me found me') where
   -- what a token shows after a look, with the names that the call has
   pub part_looked : {lists i : ℕ} {p : SeatPart (Beside P)} → shown_of begin lists i me.0.parts ≡ p → play_lists ≡ p.pass.lists → play_list ≡ p.pass.list
       → shown_of begin lists i me'.0.parts ≡ after_look p (standing_by (too || found == 0) standing p)
-  part_looked {lists} {i} {p} is lists_are list_is =
-      let a : play_lists ≡ lists = lists_are ∙ ap (λ (x : SeatPart (Beside P)). x.pass.lists) (sym is) in
+  part_looked {lists} {i} {p} is lists_are list_is = let a : play_lists ≡ lists = lists_are ∙ ap (λ (x : SeatPart (Beside P)). x.pass.lists) (sym is) in
       let b : play_list ≡ i = list_is ∙ ap (λ (x : SeatPart (Beside P)). x.pass.list) (sym is) in
       subst (λ (z : ℕ × ℕ). shown_of begin z.0 z.1 me'.0.parts
       ≡ after_look (shown_of begin z.0 z.1 me.0.parts) (standing_by (too || found == 0) standing (shown_of begin z.0 z.1 me.0.parts)))
-      (λ k. (a k, b k)) play.shows
-      ∙ ap (λ (x : SeatPart (Beside P)). after_look x (standing_by (too || found == 0) standing x)) is
+      (λ k. (a k, b k)) play.shows ∙ ap (λ (x : SeatPart (Beside P)). after_look x (standing_by (too || found == 0) standing x)) is
 
   -- the token is of the same seat still
   pub seat_looked : {number many lists list first words words' : ℕ} → IsSeatOf (part_in begin me.0.parts) number many lists list first words → words' ≡ words
       → IsSeatOf (part_in begin me'.0.parts) number many lists list first words'
-  seat_looked s same = same_seat play.left (ap (λ (x : SeatPart (Beside P)). x.number) play.shows) (ap (λ (x : SeatPart (Beside P)). x.seats) play.shows)
-      s same
+  seat_looked s same = same_seat play.left (ap (λ (x : SeatPart (Beside P)). x.number) play.shows) (ap (λ (x : SeatPart (Beside P)). x.seats) play.shows) s same
 
 -- a look by which nothing comes to count leaves the standing, whatever it finds
 pub glance_part : {P : Type 0} (b : Bool) (p : SeatPart (Beside P)) → after_look p (standing_by b p.pass.standing p) ≡ after_look p p.pass.standing
@@ -326,10 +295,10 @@ pub look_view : {P : Type 0} (p : SeatPart (Beside P)) (standing : Standing) →
 look_view p standing h = record { sound = h.sound; pooled = h.pooled; looked = h.looked }
 
 -- so it is a hand still
-pub look_hand : {P : Type 0} (p q : SeatPart (Beside P)) (standing : Standing) (core : View) (views : List View) → q ≡ after_look p standing
+pub look_hand : {P : Type 0} {p q : SeatPart (Beside P)} (standing : Standing) {core : View} {views : List View} → q ≡ after_look p standing
     → (p.core ≡ core) × IsHandView p × AreOthers p.seats p.number p.pass.lists p.pass.list p.pass.others views
     → (q.core ≡ core) × IsHandView q × AreOthers q.seats q.number q.pass.lists q.pass.list q.pass.others views
-look_hand {P} p q standing core views is h = (
+look_hand {P} {p} {q} standing {core} {views} is h = (
   ap (λ (x : SeatPart (Beside P)). x.core) is ∙ h.0,
   subst (λ (x : SeatPart (Beside P)). IsHandView x) (sym is) (look_view p standing h.1),
   subst (λ (x : SeatPart (Beside P)). AreOthers x.seats x.number x.pass.lists x.pass.list x.pass.others views) (sym is) h.2,

@@ -1,18 +1,23 @@
 -- A step puts one new part at its seat's number and changes one word: what is to be shown for the table's rule to
 -- hold after it.
-use Rattle.std.proofs.Common.{◌≡◌, ◌≤◌, ◌*◌, ℕ, zero, suc, List, [], ◌∷◌, set, sym, refl, ap, ◌∙◌, subst, length-set, ⊎_elim}
+use Rattle.std.proofs.Common.{◌≡◌, ◌≢◌, ◌<◌, ◌≤◌, ◌*◌, ℕ, zero, suc, Some, List, [], ◌∷◌, map, length, set, sym, refl, ap, ◌∙◌, subst, length-set, ⊎_elim}
 use mathlib.Core.Option.{some, some-injective, some-ne-none}
 use mathlib.Core.Logic.{dite}
 use native.Mathlib.Decide.{ℕ_discrete}
 use lib.ListN.{get_elem?}
 use Rattle.atomic_table.specs.Table.{State, Me, keeps, stepped}
 use Rattle.atomic_table.proofs.Lists.{at_set, set_here, set_else}
-use Rattle.lock_core.specs.Grants.{Grants}
+use Rattle.lock_core.specs.Grants.{Grants, Conflicts}
+use Rattle.lock_core.specs.declared.range.Held.{Held}
+use Rattle.lock_laws.specs.Laws.{IsLock}
 use Rattle.list_cuts.specs.Cut.{Regions, list_count}
 use Rattle.epoch_pools.specs.declared.views.SeatLists.{SeatLists}
 use Rattle.epoch_pools.specs.declared.views.ListView.{ListView}
 use Rattle.lock_core.specs.Words.{word_count}
+use Rattle.epoch_pools.specs.declared.views.Standing.TheVariants.{Narrow, Wide}
+use Rattle.epoch_pools.specs.Beside.{held_in}
 use Rattle.epoch_pools.specs.Hands.{part_in, IsSeatOf}
+use Rattle.epoch_pools.specs.Running.{machine_at, cores_of, IsNarrow, IsWide, AreLocks}
 use Rattle.epoch_pools.specs.Running.{view, takes_in, AreLists, IsOneLeft, IsOwned, Stands, Ruled, IsRunningList}
 use Rattle.lock_core.proofs.ByPlace.{below as at_below}
 
@@ -25,33 +30,51 @@ pub same_seat : {P : Type 0} {begin : P} {me me' : Me (Unit {0}) (ListView P)} �
     → (part_in begin me'.0.parts).number ≡ (part_in begin me.0.parts).number → (part_in begin me'.0.parts).seats ≡ (part_in begin me.0.parts).seats
     → {number many lists list first words words' : ℕ} → IsSeatOf (part_in begin me.0.parts) number many lists list first words → words' ≡ words
     → IsSeatOf (part_in begin me'.0.parts) number many lists list first words'
-same_seat left same_number same_seats {number} {many} {lists} s same = record {
-  number_is = same_number ∙ s.number_is;
-  seats_are = same_seats ∙ s.seats_are;
-  there = s.there;
-  few = s.few;
-  full = left.full ∙ s.full;
-  within = s.within;
-  most = s.most;
-  begins = s.begins;
-  low = s.low;
-  words_there = subst (λ n. lists * word_count many ≤ n) (sym same) s.words_there;
-}
+same_seat left same_number same_seats {number} {many} {lists} s same = let words = subst (λ (n : ℕ). lists * word_count many ≤ n) (sym same) s.words_there in
+    assumption (same_number ∙ s.number_is, same_seats ∙ s.seats_are, left.full ∙ s.full, s)
+
+-- where the item at n becomes q, what is so of each item is so, if it is of q
+at_each : {A : Type 0} (Q : A → Type 0) (l : List A) (n : ℕ) (q : A) → Q q → ((k : ℕ) (x : A) → get_elem? l k ≡ some x → Q x)
+    → (k : ℕ) (x : A) → get_elem? (set l n q) k ≡ some x → Q x
+at_each Q l n q mine rest k x at = ⊎_elim (λ t. subst Q t.1 mine) (λ t. rest k x t.1) (at_set l n k q x at)
+
+module _ {P : Type 0} {lists seats : ℕ} {takes : Held → ℕ → Type 0} {words : List ℕ} {parts : List (SeatLists P)}
+    (r : AreLocks lists seats takes words parts) (words' : List ℕ) (n : ℕ) (q : SeatLists P) where
+  -- where one seat's part becomes q, each list is a lock still and what counts is held, if so it is of q and the others
+  pub apart_with : length q.cores ≡ lists → ((i : ℕ) → i < lists → IsLock (machine_at i seats words' (map cores_of (set parts n q))))
+      → ((i : ℕ) → q.standing ≡ Narrow i → IsNarrow lists takes q i) → ((p : ℕ) → q.standing ≡ Wide p → IsWide lists q p)
+      → ((b i p : ℕ) (y : SeatLists P) (g h : Held) → n ≢ b → get_elem? parts b ≡ some y → q.standing ≡ Narrow i → y.standing ≡ Wide p → i < p
+      → held_in q i ≡ Some g → held_in y 0 ≡ Some h → takes h i → ¬ (Conflicts g h))
+      → ((a i p : ℕ) (x : SeatLists P) (g h : Held) → a ≢ n → get_elem? parts a ≡ some x → x.standing ≡ Narrow i → q.standing ≡ Wide p → i < p
+      → held_in x i ≡ Some g → held_in q 0 ≡ Some h → takes h i → ¬ (Conflicts g h)) → AreLocks lists seats takes words' (set parts n q)
+  apart_with full locks narrow wide narrow_passed wide_passed = record {
+    many = at_each (λ (y : SeatLists P). length y.cores ≡ lists) parts n q full r.many;
+    locks = locks;
+    narrow_one = λ k i. at_each (λ (y : SeatLists P). y.standing ≡ Narrow i → IsNarrow lists takes y i) parts n q (narrow i) (λ k. r.narrow_one k i) k;
+    wide_one = λ k p. at_each (λ (y : SeatLists P). y.standing ≡ Wide p → IsWide lists y p) parts n q (wide p) (λ k. r.wide_one k p) k;
+    passed = λ a b i p x y g h differ at_a at_b narrow_a wide_b below held_a held_b taken. ⊎_elim
+        (λ (s : (a ≡ n) × (q ≡ x)). ⊎_elim (λ (u : (b ≡ n) × (q ≡ y)). absurd (differ (s.0 ∙ sym u.0)))
+        (λ (u : (b ≢ n) × (get_elem? parts b ≡ some y)). narrow_passed b i p y g h (λ e. u.0 (sym e)) u.1 (ap (λ (z : SeatLists P). z.standing) s.1 ∙ narrow_a)
+        wide_b below (ap (λ (z : SeatLists P). held_in z i) s.1 ∙ held_a) held_b taken) (at_set parts n b q y at_b))
+        (λ (s : (a ≢ n) × (get_elem? parts a ≡ some x)). ⊎_elim
+        (λ (u : (b ≡ n) × (q ≡ y)). wide_passed a i p x g h s.0 s.1 narrow_a (ap (λ (z : SeatLists P). z.standing) u.1 ∙ wide_b) below held_a
+        (ap (λ (z : SeatLists P). held_in z 0) u.1 ∙ held_b) taken)
+        (λ (u : (b ≢ n) × (get_elem? parts b ≡ some y)). r.passed a b i p x y g h differ s.1 u.1 narrow_a wide_b below held_a held_b taken)
+        (at_set parts n b q y at_b)) (at_set parts n a q x at_a);
+  }
 
 module _ {P : Type 0} where
   owned_after : (views : List (ListView P)) (parts : List (SeatLists P)) (owner : ℕ → ℕ) (id : ℕ) (p q : SeatLists P)
       → IsOwned views parts owner → get_elem? views id ≡ some (view (p ∷ [])) → q.number ≡ p.number
       → IsOwned (set views id (view (q ∷ []))) (set parts p.number q) owner
-  owned_after views parts owner id p q o at same id' v at' k x there =
-      let here = o id (view (p ∷ [])) at 0 p refl in
+  owned_after views parts owner id p q o at same id' v at' k x there = let here = o id (view (p ∷ [])) at 0 p refl in
       ⊎_elim
       (λ t. let is : q ≡ x = only q x k (subst (λ (z : ListView P). get_elem? z.parts k ≡ some x) (sym t.1) there) in
       subst (λ (y : SeatLists P). (get_elem? (set parts p.number q) y.number ≡ some y) × (owner y.number ≡ id')) is
       (subst (λ (n : ℕ). (get_elem? (set parts p.number q) n ≡ some q) × (owner n ≡ id')) (sym same)
       (set_here parts p.number q (at_below parts p.number p here.0), here.1 ∙ sym t.0)))
       (λ t. let r = o id' v t.1 k x there in
-      (set_else parts p.number x.number q (λ e. t.0 (sym r.1 ∙ (ap owner e ∙ here.1))) ∙ r.0, r.1))
-      (at_set views id id' (view (q ∷ [])) v at')
+      (set_else parts p.number x.number q (λ e. t.0 (sym r.1 ∙ (ap owner e ∙ here.1))) ∙ r.0, r.1)) (at_set views id id' (view (q ∷ [])) v at')
 
   stands_after : (views : List (ListView P)) (id own n : ℕ) (p q : SeatLists P) → get_elem? views id ≡ some (view (p ∷ []))
       → q.number ≡ p.number → Stands views own n → Stands (set views id (view (q ∷ []))) own n
@@ -66,26 +89,13 @@ module _ {P : Type 0} where
         has = refl;
         number = same ∙ (ap (λ (x : SeatLists P). x.number) one ∙ st.number);
       })
-      (λ differ. record {
-        holder = st.holder;
-        at = set_else views id own (view (q ∷ [])) differ ∙ st.at;
-        place = st.place;
-        part = st.part;
-        has = st.has;
-        number = st.number;
-      })
-
-  same_after : (seats : ℕ) (parts : List (SeatLists P)) (i : ℕ) (q : SeatLists P) → q.seats ≡ seats
-      → ((n : ℕ) (p : SeatLists P) → get_elem? parts n ≡ some p → p.seats ≡ seats) → (n : ℕ) (p : SeatLists P)
-      → get_elem? (set parts i q) n ≡ some p → p.seats ≡ seats
-  same_after seats parts i q mine rest n p at = ⊎_elim (λ t. subst (λ (x : SeatLists P). x.seats ≡ seats) t.1 mine) (λ t. rest n p t.1)
-      (at_set parts i n q p at)
+      (λ differ. let at = set_else views id own (view (q ∷ [])) differ ∙ st.at in
+      record { holder = st.holder; at = at; place = st.place; part = st.part; has = st.has; number = st.number })
 
 module _ {P : Type 0} (c : Regions) (seats clients : ℕ) (holds : Grants → List ℕ → List P → Type 0) where
   -- the seat's part is the one of its number
   pub part_here : (s : State (Unit {0}) (ListView P)) (parts : List (SeatLists P)) (owner : ℕ → ℕ)
-      → Ruled c seats clients holds s parts owner → (id : ℕ) (p : SeatLists P) → get_elem? s.views id ≡ some (view (p ∷ []))
-      → get_elem? parts p.number ≡ some p
+      → Ruled c seats clients holds s parts owner → (id : ℕ) (p : SeatLists P) → get_elem? s.views id ≡ some (view (p ∷ [])) → get_elem? parts p.number ≡ some p
   part_here s parts owner r id p at = (r.owned id (view (p ∷ [])) at 0 p refl).0
 
   -- the rule holds after a step that leaves the part q where p was, if the lists' rule and the guard's do
@@ -103,7 +113,7 @@ module _ {P : Type 0} (c : Regions) (seats clients : ℕ) (holds : Grants → Li
       wide = length-set s.words i n ∙ r.wide;
       owned = owned_after s.views parts owner id p q r.owned at number;
       stands = λ m lt. stands_after s.views id (owner m) m p q at number (r.stands m lt);
-      same = same_after seats parts p.number q (many ∙ r.same p.number p (part_here s parts owner r id p at)) r.same;
+      same = at_each (λ (x : SeatLists P). x.seats ≡ seats) parts p.number q (many ∙ r.same p.number p (part_here s parts owner r id p at)) r.same;
       lists_are = good;
     },
   )

@@ -4,16 +4,11 @@ use Rattle.std.specs.Prelude.{Option, ◌==◌, if◌then◌else◌}
 use Rattle.lock_core.specs.declared.views.View.{View}
 use Rattle.lock_core.specs.declared.views.Cursor.{Cursor}
 use Rattle.lock_core.specs.declared.steps.Step.{Step}
-use Rattle.lock_core.specs.declared.steps.Step.TheVariants.{Enter, Leave, ReadEpoch, ReadHome, GiveHome, FillLo, FillHi}
-use Rattle.lock_core.specs.declared.steps.Step.TheVariants.{Aim, ClearHome, Walk, ReadLo, ReadHi, Link, Unlink, Mark}
-use Rattle.lock_core.specs.declared.steps.Step.TheVariants.{QuickLink, QuickUnlink, Settle}
 use Rattle.lock_core.specs.declared.compare.Verdict.{Verdict}
 use Rattle.lock_core.specs.declared.compare.Verdict.TheVariants.{Past, Stop, Conflict}
 use Rattle.lock_core.specs.Views.{released, came_home, walked, hi_judged, linked, unlinked, dropped, todo_of, quick_linked, quick_unlinked, settled}
 use Rattle.lock_core.specs.Compare.{verdict_of}
-use Rattle.lock_core.specs.StepTable.{Plan, IsLine, enter, leave, read_epoch, read_home, give_home, fill_lo, fill_hi}
-use Rattle.lock_core.specs.StepTable.{aim, clear_home, walk, read_lo, read_hi, link, unlink, mark, quick_link}
-use Rattle.lock_core.specs.StepTable.{quick_unlink, settle}
+use Rattle.lock_core.specs.StepTable.{Plan, IsLine, read_epoch, read_home, walk, read_hi, link, unlink, quick_link, quick_unlink, settle}
 use Rattle.lock_core.specs.Operations.{planned, IsEnabled}
 use Rattle.lock_core.proofs.Enabled.{line_of}
 use Rattle.epoch_pools.specs.Pools.{IsWhole, IsPooled}
@@ -35,37 +30,23 @@ homes_judged v c y n Conflict = refl
 -- with one seat a node that came home is ready at once
 homes_home : (seats : ℕ) (v : View) (n w : ℕ) → seats ≡ 1 → v.homes ≡ []
     → (if w == 1 then (if seats == 1 then released (came_home seats v n) else came_home seats v n) else v).homes ≡ []
-homes_home seats v n w one none =
-    homes_if (w == 1) (if seats == 1 then released (came_home seats v n) else came_home seats v n) v []
-    (ap (λ (b : Bool). (if b then released (came_home seats v n) else came_home seats v n).homes) (eq-eqb seats 1 one))
-    none
+homes_home seats v n w one none = homes_if (w == 1) (if seats == 1 then released (came_home seats v n) else came_home seats v n) v []
+    (ap (λ (b : Bool). (if b then released (came_home seats v n) else came_home seats v n).homes) (eq-eqb seats 1 one)) none
 
 -- a seat that is alone reads no other epoch
 alone_line : (seats s : ℕ) (v : View) (step : Step) (p : Plan) → IsLine seats s v step p → s < seats → seats ≡ 1 → v.homes ≡ []
     → (w : ℕ) → (p.view w).homes ≡ []
-alone_line seats s v Enter p (enter even hand) below one none w = none
-alone_line seats s v Leave p (leave odd hand own) below one none w = none
-alone_line seats s v (ReadEpoch k) p (read_epoch j even some less other) below one none w = absurd (some none)
-alone_line seats s v (ReadHome k) p (read_home n even used new) below one none w = homes_home seats v n w one none
-alone_line seats s v GiveHome p (give_home n hand) below one none w = none
-alone_line seats s v (FillLo k) p (fill_lo f lo own aimed cursor) below one none w = none
-alone_line seats s v (FillHi k m) p (fill_hi f lo hi mode own low less most aimed cursor) below one none w = none
-alone_line seats s v Aim p (aim f lo hi x own low high at) below one none w = none
-alone_line seats s v (ClearHome k) p (clear_home n rest own even ready) below one none w = none
-alone_line seats s v Walk p (walk cell odd hand at) below one none w = homes_walked v v.cursor w ∙ none
-alone_line seats s v ReadLo p (read_lo c y n cursor node next plain) below one none w = none
-alone_line seats s v ReadHi p (read_hi c y n lo cursor node next plain low own) below one none w = homes_judged v c y n (verdict_of v.own lo w) ∙ none
-alone_line seats s v Link p (link f c lo hi own cursor low high aimed plain place) below one none w =
+alone_line seats s v _ _ (read_epoch j even some less other) below one none w = absurd (some none)
+alone_line seats s v _ _ (read_home n even used new) below one none w = homes_home seats v n w one none
+alone_line seats s v _ _ (walk cell odd hand at) below one none w = homes_walked v v.cursor w ∙ none
+alone_line seats s v _ _ (read_hi c y n lo cursor node next plain low own) below one none w = homes_judged v c y n (verdict_of v.own lo w) ∙ none
+alone_line seats s v _ _ (link f c lo hi own cursor low high aimed plain place) below one none w =
     homes_if (w == c.cur) (linked v f.node lo hi f.mode (todo_of f.mode)) (dropped v) [] none none
-alone_line seats s v Unlink p (unlink c y n cursor node next odd hand) below one none w =
-    homes_if (w == c.cur) (unlinked v c y (n - 1)) (dropped v) [] none none
-alone_line seats s v Mark p (mark k own) below one none w = none
-alone_line seats s v QuickLink p (quick_link f lo hi own low high aimed even) below one none w =
-    homes_if (w == 0) (quick_linked v f.node lo hi f.mode) v [] none none
-alone_line seats s v QuickUnlink p (quick_unlink k own done hand) below one none w =
-    homes_if (w == 2 * suc k.node + 1) (quick_unlinked v k.node) v [] none none
-alone_line seats s v Settle p (settle c cursor prev odd) below one none w =
-    homes_if (w == c.cur) (settled v c) (dropped v) [] none none
+alone_line seats s v _ _ (unlink c y n cursor node next odd hand) below one none w = homes_if (w == c.cur) (unlinked v c y (n - 1)) (dropped v) [] none none
+alone_line seats s v _ _ (quick_link f lo hi own low high aimed even) below one none w = homes_if (w == 0) (quick_linked v f.node lo hi f.mode) v [] none none
+alone_line seats s v _ _ (quick_unlink k own done hand) below one none w = homes_if (w == 2 * suc k.node + 1) (quick_unlinked v k.node) v [] none none
+alone_line seats s v _ _ (settle c cursor prev odd) below one none w = homes_if (w == c.cur) (settled v c) (dropped v) [] none none
+alone_line seats s v _ _ _ below one none w = none
 
 -- a step that the hand's view enables leaves its pools so, where the running rule tells that no node was lost
 pub pooled_after : (seats s : ℕ) (v : View) (step : Step) (w : ℕ) → s < seats → IsEnabled seats s v step → IsPooled seats s v

@@ -23,8 +23,7 @@ use Rattle.epoch_pools.proofs.Counting.{counts_one, counts_many}
 use Rattle.epoch_pools.proofs.Keeping.{MayRestIn}
 
 module _ {P : Type 0} (rested : P → P) (lists i : ℕ) (w : SeatLists P) (step : Step) (found : ℕ) (full : length w.cores ≡ lists) (less : i < lists)
-    (on_held : is_here w.standing i ≡ true → held_in w i ≢ None)
-    (on : (h : Held) → held_in w i ≡ Some h
+    (on_held : is_here w.standing i ≡ true → held_in w i ≢ None) (on : (h : Held) → held_in w i ≡ Some h
     → (held_at (core_after (shown lists i w) step found).own ≡ Some h) ⊎ (held_at (core_after (shown lists i w) step found).own ≡ None)) where
   abbrev p : SeatPart (Beside P)
   p = shown lists i w
@@ -88,15 +87,12 @@ module _ {P : Type 0} (rested : P → P) (lists i : ℕ) (w : SeatLists P) (step
 
   -- what is given back in a list where nothing counts leaves what stands beside it
   back_else : lists ≢ 1 → is_here w.standing i ≡ false → given_back rested p.pass ≡ p.pass
-  back_else several e =
-      let counted : is_counted lists w.standing i ≡ false =
+  back_else several e = let counted : is_counted lists w.standing i ≡ false =
       ap (λ (t : Bool × Bool). t.0 || t.1 && is_whole w.standing lists) (λ k. (ne_eqb lists 1 several k, e k)) in
       λ k. beside_of (ap (λ (b : Bool). if b then Free else w.standing) e k) (ap (λ (b : Bool). if b then rested w.pass else w.pass) counted k)
 
-  back_here : lists ≢ 1 → is_here w.standing i ≡ true
-      → given_back rested p.pass ≡ beside_of Free (if is_whole w.standing lists then rested w.pass else w.pass)
-  back_here several e =
-      let counted : is_counted lists w.standing i ≡ is_whole w.standing lists =
+  back_here : lists ≢ 1 → is_here w.standing i ≡ true → given_back rested p.pass ≡ beside_of Free (if is_whole w.standing lists then rested w.pass else w.pass)
+  back_here several e = let counted : is_counted lists w.standing i ≡ is_whole w.standing lists =
       ap (λ (t : Bool × Bool). t.0 || t.1 && is_whole w.standing lists) (λ k. (ne_eqb lists 1 several k, e k)) in
       λ k. beside_of (ap (λ (b : Bool). if b then Free else w.standing) e k) (ap (λ (b : Bool). if b then rested w.pass else w.pass) counted k)
 
@@ -110,8 +106,7 @@ module _ {P : Type 0} (rested : P → P) (lists i : ℕ) (w : SeatLists P) (step
   by_here several false e (Some h) None x y =
       stays (ap (λ (b : Bool). was_free b (held_at now.own)) e) (both several (same_else w.standing e)) ∙ sym (back_else several e)
   by_here several true e None behind x y = absurd (on_held e x)
-  by_here several true e (Some h) (Some g) x y =
-      let one : held_at now.own ≡ Some h = ⊎_elim (λ (a : held_at now.own ≡ Some h). a)
+  by_here several true e (Some h) (Some g) x y = let one : held_at now.own ≡ Some h = ⊎_elim (λ (a : held_at now.own ≡ Some h). a)
       (λ (a : held_at now.own ≡ None). absurd (let z : ◌≡◌ {A = Option Held} (Some g) None = sym y ∙ a in cc)) (on h x) in
       let kept : standing_after w.standing i (held_at now.own) ≡ w.standing = ap (λ (t : Bool × Option Held). was_free t.0 t.1) (λ k. (e k, one k)) in
       stays kept (both several (here_counts w.standing e (held_in q)
@@ -121,8 +116,7 @@ module _ {P : Type 0} (rested : P → P) (lists i : ℕ) (w : SeatLists P) (step
       let grant : grant_in lists w ≡ (if is_whole w.standing lists then Some h else None) = counts_many lists w.standing (held_in w) several
       ∙ (here_counts w.standing e (held_in w) ∙ ap (λ (o : Option Held). if is_whole w.standing lists then o else None) x) in
       let pass : pass_kept rested (grant_in lists w) (counted_of lists (standing_after w.standing i (held_at now.own)) (held_in q)) w.pass
-      ≡ (if is_whole w.standing lists then rested w.pass else w.pass) =
-      ap (λ (o : Option Held). pass_kept rested (grant_in lists w) o w.pass)
+      ≡ (if is_whole w.standing lists then rested w.pass else w.pass) = ap (λ (o : Option Held). pass_kept rested (grant_in lists w) o w.pass)
       (ap (λ (t : Standing). counted_of lists t (held_in q)) lost ∙ counts_many lists Free (held_in q) several)
       ∙ (ap (λ (o : Option Held). pass_kept rested o None w.pass) grant ∙ by_whole (is_whole w.standing lists)) in
       (λ k. beside_of (lost k) (pass k)) ∙ sym (back_here several e)
@@ -134,8 +128,7 @@ module _ {P : Type 0} (rested : P → P) (lists i : ℕ) (w : SeatLists P) (step
   -- with one list
   by_one : lists ≡ 1 → (before behind : Option Held) → held_in w i ≡ before → held_at now.own ≡ behind
       → after ≡ pass_kept (given_back rested) before behind p.pass
-  by_one one before behind x y =
-      let first : i ≡ 0 = omega arith in
+  by_one one before behind x y = let first : i ≡ 0 = omega arith in
       let was : grant_in lists w ≡ before = counts_one lists w.standing (held_in w) one ∙ (ap (held_in w) (sym first) ∙ x) in
       let is : counted_of lists (standing_after w.standing i (held_at now.own)) (held_in q) ≡ behind =
       counts_one lists (standing_after w.standing i (held_at now.own)) (held_in q) one ∙ (ap (held_in q) (sym first) ∙ (held_now ∙ y)) in
@@ -163,8 +156,7 @@ module _ {P : Type 0} (rested : P → P) (lists i : ℕ) (w : SeatLists P) (step
 
   -- the step shows as that of one list
   pub step_shows : shown lists i q ≡ part_after (given_back rested) p step found
-  step_shows =
-      let beside : after ≡ pass_kept (given_back rested) (held_in w i) (held_at now.own) p.pass = dite (ℕ_discrete lists 1)
+  step_shows = let beside : after ≡ pass_kept (given_back rested) (held_in w i) (held_at now.own) p.pass = dite (ℕ_discrete lists 1)
       (λ one. by_one one (held_in w i) (held_at now.own) refl refl)
       (λ several. by_here several (is_here w.standing i) refl (held_in w i) (held_at now.own) refl refl) in
       (λ k. record {
@@ -173,8 +165,7 @@ module _ {P : Type 0} (rested : P → P) (lists i : ℕ) (w : SeatLists P) (step
         core = core_is k;
         pass = record { lists = lists; list = i; others = others_stay k; standing = q.standing; pass = q.pass };
         trace = q.trace;
-      })
-      ∙ (λ k. record { number = w.number; seats = w.seats; core = now; pass = beside k; trace = q.trace })
+      }) ∙ (λ k. record { number = w.number; seats = w.seats; core = now; pass = beside k; trace = q.trace })
 
 -- what counts is whole
 whole_counts : (lists : ℕ) (s : Standing) (held : ℕ → Option Held) (h : Held) → counted_of_many lists s held ≡ Some h → is_whole s lists ≡ true
@@ -194,8 +185,7 @@ rests_in is_at_rest lists i w step less on_held rests giving counts h grant = by
     several_counted : lists ≢ 1 → is_here w.standing i ≡ true → is_counted lists w.standing i ≡ true
     several_counted several here =
         let whole : is_whole w.standing lists ≡ true = whole_counts lists w.standing (held_in w) h (sym (counts_many lists w.standing (held_in w) several)
-        ∙ grant) in
-        ap (λ (t : Bool × (Bool × Bool)). t.0 || t.1.0 && t.1.1) (λ k. (ne_eqb lists 1 several k, (here k, whole k)))
+        ∙ grant) in ap (λ (t : Bool × (Bool × Bool)). t.0 || t.1.0 && t.1.1) (λ k. (ne_eqb lists 1 several k, (here k, whole k)))
 
     one_counted : lists ≡ 1 → is_counted lists w.standing i ≡ true
     one_counted one = ap (λ (b : Bool). b || is_here w.standing i && is_whole w.standing lists) (eq-eqb lists 1 one)
@@ -207,7 +197,5 @@ rests_in is_at_rest lists i w step less on_held rests giving counts h grant = by
     by_held : (o : Option Held) → held_in w i ≡ o → is_at_rest w.pass
     by_held (Some g) e = rests giving g e (dite (ℕ_discrete lists 1) one_counted
         (λ several. several_counted several (⊎_elim (λ one. absurd (several one)) (λ (here : is_here w.standing i ≡ true). here) counts)))
-    by_held None e = ⊎_elim
-        (λ (one : lists ≡ 1). absurd (let x : ◌≡◌ {A = Option Held} (Some h) None = sym (one_held one) ∙ e in cc))
-        (λ (here : is_here w.standing i ≡ true). absurd (on_held here e))
-        counts
+    by_held None e = ⊎_elim (λ (one : lists ≡ 1). absurd (let x : ◌≡◌ {A = Option Held} (Some h) None = sym (one_held one) ∙ e in cc))
+        (λ (here : is_here w.standing i ≡ true). absurd (on_held here e)) counts

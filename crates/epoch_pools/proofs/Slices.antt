@@ -9,11 +9,9 @@ use native.Mathlib.Decide.{dec_le}
 
 -- another slice stays
 pub other_slice : (n a b x : ℕ) (l : List ℕ) (v : ℕ) → (a + n ≤ b) ⊎ (b + n ≤ a) → x < n → take n (drop b (set l (a + x) v)) ≡ take n (drop b l)
-other_slice n a b x l v apart low = ⊎_elim
-    (λ before. ap (take n) (drop-set-lt b l (a + x) v (omega arith)))
+other_slice n a b x l v apart low = ⊎_elim (λ before. ap (take n) (drop-set-lt b l (a + x) v (omega arith)))
     (λ behind. let at : a + x ≡ b + ((a - b) + x) = omega arith in
-    ap (λ k. take n (drop b (set l k v))) at ∙ (ap (take n) (drop-set-add b l ((a - b) + x) v) ∙ take-set-le n (drop b l) ((a - b) + x) v (omega arith)))
-    apart
+    ap (λ k. take n (drop b (set l k v))) at ∙ (ap (take n) (drop-set-add b l ((a - b) + x) v) ∙ take-set-le n (drop b l) ((a - b) + x) v (omega arith))) apart
 
 -- the slice in which the word lies
 pub this_slice : (n a x : ℕ) (l : List ℕ) (v : ℕ) → x < n → take n (drop a (set l (a + x) v)) ≡ set (take n (drop a l)) x v
@@ -33,8 +31,6 @@ further x y n h = let a : suc x * n ≤ y * n = mul-le-mul_right n h in omega (a
 
 -- the slices of two lists lie apart
 pub slices_apart : (i j n : ℕ) → i ≢ j → (i * n + n ≤ j * n) ⊎ (j * n + n ≤ i * n)
-slices_apart i j n differ = dite (dec_le (suc i) j)
-    (λ less. inl (further i j n less))
-    (λ no. dite (dec_le (suc j) i)
-    (λ less. inr (further j i n less))
+slices_apart i j n differ = dite (dec_le (suc i) j) (λ less. inl (further i j n less))
+    (λ no. dite (dec_le (suc j) i) (λ less. inr (further j i n less))
     (λ neither. absurd (differ (omega arith))))

@@ -2,18 +2,12 @@
 -- rely on then, and that a store returns 0. The steps of epochs and homes leave what their calls name.
 use Rattle.std.proofs.Common.{◌≡◌, ℕ, ◌+◌, ◌%◌, ◌^◌, ◌<◌, true, false, Bool, refl, sym, ap, ◌∙◌, subst, arith, eq-eqb, ne_eqb}
 use Rattle.std.specs.Prelude.{Option, Some, None, is_some, ◌==◌, ◌||◌, if◌then◌else◌}
-use Rattle.lock_core.specs.declared.range.Held.{Held}
 use Rattle.lock_core.specs.declared.views.View.{View}
 use Rattle.lock_core.specs.declared.views.Cursor.{Cursor}
-use Rattle.lock_core.specs.declared.views.Own.{Own}
-use Rattle.lock_core.specs.declared.views.Own.TheVariants.{Nothing, Filling, Linked}
 use Rattle.lock_core.specs.declared.steps.Step.{Step}
-use Rattle.lock_core.specs.declared.steps.Step.TheVariants.{Enter, Leave, ReadEpoch, ReadHome, GiveHome, FillLo, FillHi}
-use Rattle.lock_core.specs.declared.steps.Step.TheVariants.{Aim, ClearHome, Walk, ReadLo, ReadHi, Link, Unlink, Mark}
-use Rattle.lock_core.specs.declared.steps.Step.TheVariants.{QuickLink, QuickUnlink, Settle}
+use Rattle.lock_core.specs.declared.steps.Step.TheVariants.{Enter, GiveHome, FillLo, FillHi, Aim, ClearHome, Mark}
 use Rattle.lock_core.specs.declared.ops.Act.{Act}
 use Rattle.lock_core.specs.declared.ops.Act.TheVariants.{Load, Store, Add, Exchange}
-use Rattle.lock_core.specs.Views.{kept_own}
 use Rattle.lock_core.specs.StepTable.{Plan, IsLine, enter, give_home, fill_lo, fill_hi, aim, clear_home}
 use Rattle.lock_core.specs.Machine.{held_at}
 use Rattle.lock_core.specs.Sizes.{IsViewSound}
@@ -26,8 +20,7 @@ use Rattle.epoch_pools.specs.declared.views.SeatPart.{SeatPart}
 use Rattle.epoch_pools.specs.Record.{record_after, looked_on, looked_with, is_judging, gained_by}
 use Rattle.epoch_pools.specs.Pools.{IsWhole}
 use Rattle.epoch_pools.specs.Running.{pass_kept, IsAnswer, line_for, Enables, core_after, part_after, Told}
-use Rattle.epoch_pools.specs.Hands.{IsHandView, quiet_after}
-use Rattle.epoch_pools.proofs.Granting.{kept_again}
+use Rattle.epoch_pools.specs.Hands.{IsHandView}
 use Rattle.epoch_pools.proofs.Pools.{pooled_after}
 
 -- after a store the record doesn't depend on what the word was
@@ -38,19 +31,7 @@ record_same t v now (FillLo lo) place found answer s = refl
 record_same t v now (FillHi hi mode) place found answer s = refl
 record_same t v now Aim place found answer s = refl
 record_same t v now (ClearHome n) place found answer s = refl
-record_same t v now Enter place found answer s = absurd s
-record_same t v now Leave place found answer s = absurd s
-record_same t v now (ReadEpoch j) place found answer s = absurd s
-record_same t v now (ReadHome n) place found answer s = absurd s
-record_same t v now Walk place found answer s = absurd s
-record_same t v now ReadLo place found answer s = absurd s
-record_same t v now ReadHi place found answer s = absurd s
-record_same t v now Link place found answer s = absurd s
-record_same t v now Unlink place found answer s = absurd s
-record_same t v now Mark place found answer s = absurd s
-record_same t v now QuickLink place found answer s = absurd s
-record_same t v now QuickUnlink place found answer s = absurd s
-record_same t v now Settle place found answer s = absurd s
+record_same t v now _ place found answer s = absurd s
 
 -- a store's line makes of every word the same
 writes_same : (seats s : ℕ) (v : View) (step : Step) (p : Plan) → IsStoring step → IsLine seats s v step p → (w u : ℕ) → p.write w ≡ p.write u
@@ -59,19 +40,7 @@ writes_same seats s v (FillLo k) p st (fill_lo f lo own aimed cursor) w u = refl
 writes_same seats s v (FillHi k m) p st (fill_hi f lo hi mode own low less most aimed cursor) w u = refl
 writes_same seats s v Aim p st (aim f lo hi x own low high at) w u = refl
 writes_same seats s v (ClearHome k) p st (clear_home n rest own even ready) w u = refl
-writes_same seats s v Enter p st line w u = absurd st
-writes_same seats s v Leave p st line w u = absurd st
-writes_same seats s v (ReadEpoch j) p st line w u = absurd st
-writes_same seats s v (ReadHome n) p st line w u = absurd st
-writes_same seats s v Walk p st line w u = absurd st
-writes_same seats s v ReadLo p st line w u = absurd st
-writes_same seats s v ReadHi p st line w u = absurd st
-writes_same seats s v Link p st line w u = absurd st
-writes_same seats s v Unlink p st line w u = absurd st
-writes_same seats s v Mark p st line w u = absurd st
-writes_same seats s v QuickLink p st line w u = absurd st
-writes_same seats s v QuickUnlink p st line w u = absurd st
-writes_same seats s v Settle p st line w u = absurd st
+writes_same seats s v _ p st line w u = absurd st
 
 -- an exchange leaves a word that isn't the one that it expects
 else_same : (old new w : ℕ) → (w ≡ old → ⊥) → (if w == old then new else w) ≡ w
@@ -92,8 +61,7 @@ module _ {P : Type 0} (rested : P → P) (p : SeatPart P) (step : Step) where
   answered Load found answer w f = ap (part_after rested p step) (sym f)
   answered Add found answer w f = ap (part_after rested p step) (sym f)
   answered (Exchange old new) found answer w f = ap (part_after rested p step) (sym f)
-  answered (Store value) found answer w f =
-      let e : core_after p step found ≡ core_after p step answer = w.1 found answer in
+  answered (Store value) found answer w f = let e : core_after p step found ≡ core_after p step answer = w.1 found answer in
       let t = ap (record_after p.trace p.core step (line_for p step).place found) e
       ∙ record_same p.trace p.core (core_after p step answer) step (line_for p step).place found answer w.2 in
       λ i. record { number = p.number; seats = p.seats; core = e i; pass = pass_kept rested (held_at p.core.own) (held_at (e i).own) p.pass; trace = t i }
@@ -125,31 +93,10 @@ module _ {P : Type 0} (rested : P → P) (p : SeatPart P) (step : Step) where
       by_act Add w f =
           let e : (0 + 1) % 2 ^ 64 ≡ (1 + 1) % 2 ^ 64 = sym (w 0 (omega arith) (not_mark step 0 st)) ∙ same 0 1 ∙ w 1 (omega arith) (not_mark step 1 st) in
           absurd (omega arith)
-      by_act (Exchange old new) w f =
-          let a = old + 1 in let b = old + 2 in
+      by_act (Exchange old new) w f = let a = old + 1 in let b = old + 2 in
           let one : (line_for p step).write a ≡ a = w a ∙ else_same old new a (λ h. omega arith) in
           let two : (line_for p step).write b ≡ b = w b ∙ else_same old new b (λ h. omega arith) in
           let e : old + 1 ≡ old + 2 = sym one ∙ same a b ∙ two in absurd (omega arith)
-
-  -- a step that is no exchange, and after which the seat holds what it held
-  quiet : (found : ℕ) (now : View) → core_after p step found ≡ now → held_at now.own ≡ held_at p.core.own
-      → ((v : View) → record_after p.trace p.core step (line_for p step).place found v ≡ record_after p.trace p.core step 0 0 v)
-      → part_after rested p step found ≡ quiet_after p step now
-  quiet found now is same trace =
-      let pass : pass_kept rested (held_at p.core.own) (held_at now.own) p.pass ≡ p.pass =
-      ap (λ (o : Option Held). pass_kept rested (held_at p.core.own) o p.pass) same
-      ∙ kept_again rested (held_at p.core.own) p.pass in
-      let rests : pass_kept rested (held_at p.core.own) (held_at (core_after p step found).own) p.pass ≡ p.pass =
-      ap (λ (c : View). pass_kept rested (held_at p.core.own) (held_at c.own) p.pass) is ∙ pass in
-      let steps : record_after p.trace p.core step (line_for p step).place found (core_after p step found) ≡ record_after p.trace
-      p.core step 0 0 now = trace (core_after p step found) ∙ ap (record_after p.trace p.core step 0 0) is in
-      λ i. record { number = p.number; seats = p.seats; core = is i; pass = rests i; trace = steps i }
-
--- what a linked node holds stays when its seat leaves its epoch
-held_left : (own : Own) → held_at (kept_own own) ≡ held_at own
-held_left Nothing = refl
-held_left (Filling node lo hi mode aimed) = refl
-held_left (Linked node range mode todo) = refl
 
 module _ (seats s : ℕ) (v : View) where
   -- when the steps of epochs and homes are enabled
@@ -162,27 +109,24 @@ or_last false b e = e
 
 -- what a cursor has looked at is in the record after a step, if it was before
 looked_kept : (t : Record) (before now : Option Cursor) (judging gained : Bool)
-    → ((c : Cursor) → before ≡ Some c → (l : Looked) × (t.looked ≡ Some l) × (l.nodes ≡ c.seen) × (c.cur ≡ 0 → l.ended ≡ true)
-    × (l.list ≡ t.list))
+    → ((c : Cursor) → before ≡ Some c → (l : Looked) × (t.looked ≡ Some l) × (l.nodes ≡ c.seen) × (c.cur ≡ 0 → l.ended ≡ true) × (l.list ≡ t.list))
     → (c : Cursor) → now ≡ Some c → (l : Looked) × (looked_with t before now judging gained ≡ Some l) × (l.nodes ≡ c.seen) × (c.cur ≡ 0 → l.ended ≡ true)
     × (l.list ≡ t.list)
 looked_kept t before None judging gained old c e = absurd (cc)
-looked_kept t None (Some d) judging gained old c e =
-    let same : d ≡ c = cc in (
-      record { nodes = d.seen; judged = 0; ended = d.cur == 0; held = gained; list = t.list; step = t.taken },
-      refl,
-      ap (λ (x : Cursor). x.seen) same,
-      (λ at. eq-eqb d.cur 0 (ap (λ (x : Cursor). x.cur) same ∙ at)),
-      refl,
-    )
-looked_kept t (Some b) (Some d) judging gained old c e =
-    let same : d ≡ c = cc in let l = old b refl in (
-      record l.0 { nodes = d.seen; judged = (if judging then l.0.judged + 1 else l.0.judged); ended = l.0.ended || d.cur == 0; held = l.0.held || gained },
-      ap (λ (o : Option Looked). looked_on o d judging gained) l.1,
-      ap (λ (x : Cursor). x.seen) same,
-      (λ at. or_last l.0.ended (d.cur == 0) (eq-eqb d.cur 0 (ap (λ (x : Cursor). x.cur) same ∙ at))),
-      l.4,
-    )
+looked_kept t None (Some d) judging gained old c e = let same : d ≡ c = cc in (
+  record { nodes = d.seen; judged = 0; ended = d.cur == 0; held = gained; list = t.list; step = t.taken },
+  refl,
+  ap (λ (x : Cursor). x.seen) same,
+  (λ at. eq-eqb d.cur 0 (ap (λ (x : Cursor). x.cur) same ∙ at)),
+  refl,
+)
+looked_kept t (Some b) (Some d) judging gained old c e = let same : d ≡ c = cc in let l = old b refl in (
+  record l.0 { nodes = d.seen; judged = (if judging then l.0.judged + 1 else l.0.judged); ended = l.0.ended || d.cur == 0; held = l.0.held || gained },
+  ap (λ (o : Option Looked). looked_on o d judging gained) l.1,
+  ap (λ (x : Cursor). x.seen) same,
+  (λ at. or_last l.0.ended (d.cur == 0) (eq-eqb d.cur 0 (ap (λ (x : Cursor). x.cur) same ∙ at))),
+  l.4,
+)
 
 module _ {P : Type 0} (p : SeatPart P) where
   -- what a hand may rely on after a step of the lock

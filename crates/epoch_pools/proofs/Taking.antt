@@ -1,8 +1,7 @@
 -- What the steps of take leave: the first ready node is the own node, a home word was read, or an epoch was. What is
 -- known of one node or of one seat stays known while others are looked at.
-use Rattle.std.proofs.Common.{◌≡◌, ◌≢◌, ◌⊎◌, ℕ, zero, suc, ◌+◌, ◌/◌, ◌%◌, ◌<◌, ◌≤◌, Bool, true, false, List, []}
-use Rattle.std.proofs.Common.{◌∷◌, ◌++◌, take, drop, length, cond, Some, None, inl, inr, ⊎_elim, refl, sym, ap, ◌∙◌}
-use Rattle.std.proofs.Common.{subst, arith, eqb-true, eq-eqb, ne_eqb, add-one}
+use Rattle.std.proofs.Common.{◌≡◌, ◌≢◌, ◌⊎◌, ℕ, zero, suc, ◌+◌, ◌/◌, ◌%◌, ◌<◌, ◌≤◌, Bool, true, false, List, [], ◌∷◌, ◌++◌, take, drop, length, cond, Some}
+use Rattle.std.proofs.Common.{None, inl, inr, ⊎_elim, refl, sym, ap, ◌∙◌, subst, arith, eqb-true, eq-eqb, ne_eqb, add-one}
 use Rattle.std.specs.Prelude.{Option, slice_get, slice_set, unwrap_or, is_some, ◌==◌, ◌&&◌, ◌||◌, not, if◌then◌else◌, find}
 use Rattle.std.specs.List.{list_all}
 use Rattle.std.proofs.lemmas.Bool.{cases_eq, eqb-false}
@@ -34,9 +33,8 @@ use Rattle.epoch_pools.specs.Running.{pass_kept, Enables, part_after, core_after
 use Rattle.epoch_pools.specs.declared.stuck.Stuck.{Stuck}
 use Rattle.epoch_pools.specs.declared.stuck.Stuck.TheVariants.{Inside, Away as IsAway}
 use Rattle.epoch_pools.specs.Pools.{IsWhole, IsPooled}
-use Rattle.epoch_pools.specs.Taking.{IsFree, IsPoolCall, IsLooking, IsReadAway, IsReadInside, IsHomeLook, IsHomeKnown}
-use Rattle.epoch_pools.specs.Taking.{IsSeatKnown, IsEpochLook, IsBarred, IsFirstInside, IsInside, IsHeldUp}
-use Rattle.epoch_pools.specs.Taking.{IsStuck, TakesFirst, TakesFilled}
+use Rattle.epoch_pools.specs.Taking.{IsFree, IsPoolCall, IsLooking, IsReadAway, IsReadInside, IsHomeLook, IsHomeKnown, IsSeatKnown, IsEpochLook, IsBarred}
+use Rattle.epoch_pools.specs.Taking.{IsFirstInside, IsInside, IsHeldUp, IsStuck, TakesFirst, TakesFilled}
 
 -- ---- the last entry with a key
 
@@ -64,54 +62,23 @@ none_looked t before now judging gained none same = ap (λ (o : Option Cursor). 
 pub pool_call : {P : Type 0} (rested : P → P) (p q : SeatPart P) (step : Step) (w : ℕ) (u : View) → q ≡ part_after rested p step w
     → p.core.own ≡ Nothing → q.core ≡ u
     → u.epoch ≡ p.core.epoch → u.cursor ≡ p.core.cursor → u.hand ≡ p.core.hand → asked_after p.trace p.core step ≡ p.trace.asked → IsPoolCall p q
-pool_call {P} rested p q step w u made own core epoch cursor hand asks = record {
-  number = ap (λ (x : SeatPart P). x.number) made;
-  seats = ap (λ (x : SeatPart P). x.seats) made;
-  pass = ap (λ (x : SeatPart P). x.pass) made ∙ pass_none rested p.core.own (held_at (core_after p step w).own) p.pass own;
-  client = ap (λ (x : SeatPart P). x.trace.client) made;
-  list = ap (λ (x : SeatPart P). x.trace.list) made;
-  asked = ap (λ (x : SeatPart P). x.trace.asked) made ∙ asks;
-  epoch = ap (λ (v : View). v.epoch) core ∙ epoch;
-  cursor = ap (λ (v : View). v.cursor) core ∙ cursor;
-  hand = ap (λ (v : View). v.hand) core ∙ hand;
-  looked = λ none. ap (λ (x : SeatPart P). x.trace.looked) made
-      ∙ none_looked p.trace p.core.cursor (core_after p step w).cursor (is_judging step) (gained_by p.core (core_after p step w))
-      none
-      (ap (λ (x : SeatPart P). x.core.cursor) (sym made) ∙ (ap (λ (v : View). v.cursor) core ∙ cursor));
-  taken = let t = ap (λ (x : SeatPart P). x.trace.taken) made in omega arith;
-}
+pool_call {P} rested p q step w u made own core epoch cursor hand asks = let now = ap (λ (x : SeatPart P). x.core) (sym made) ∙ core in
+    let pass = pass_none rested p.core.own (held_at (core_after p step w).own) p.pass own in let later : p.trace.taken ≤ p.trace.taken + 1 = omega arith in
+    let looked = λ (none : p.core.cursor ≡ None). none_looked p.trace p.core.cursor (core_after p step w).cursor (is_judging step)
+    (gained_by p.core (core_after p step w)) none (ap (λ (v : View). v.cursor) now ∙ cursor) in
+    let epochs = ap (λ (v : View). v.epoch) now ∙ epoch in let cursors = ap (λ (v : View). v.cursor) now ∙ cursor in
+    let hands = ap (λ (v : View). v.hand) now ∙ hand in subst (λ (x : SeatPart P). IsPoolCall p x) (sym made) assumption
 
 -- a call without a step is a pool call
 pub no_call : {P : Type 0} (p : SeatPart P) → IsPoolCall p p
-no_call p = record {
-  number = refl;
-  seats = refl;
-  pass = refl;
-  client = refl;
-  list = refl;
-  asked = refl;
-  epoch = refl;
-  cursor = refl;
-  hand = refl;
-  looked = λ none. refl;
-  taken = omega arith;
-}
+no_call p = let taken : p.trace.taken ≤ p.trace.taken = omega arith in assumption
 
 -- two pool calls, one after the other, are one
 pub both_calls : {P : Type 0} (p q r : SeatPart P) → IsPoolCall p q → IsPoolCall q r → IsPoolCall p r
-both_calls p q r a b = record {
-  number = b.number ∙ a.number;
-  seats = b.seats ∙ a.seats;
-  pass = b.pass ∙ a.pass;
-  client = b.client ∙ a.client;
-  list = b.list ∙ a.list;
-  asked = b.asked ∙ a.asked;
-  epoch = b.epoch ∙ a.epoch;
-  cursor = b.cursor ∙ a.cursor;
-  hand = b.hand ∙ a.hand;
-  looked = λ none. b.looked (a.cursor ∙ none) ∙ a.looked none;
-  taken = let x = a.taken in let y = b.taken in omega arith;
-}
+both_calls p q r a b = let taken : p.trace.taken ≤ r.trace.taken = (let x = a.taken in let y = b.taken in omega arith) in
+    let looked = λ (none : p.core.cursor ≡ None). b.looked (a.cursor ∙ none) ∙ a.looked none in
+    let epoch = b.epoch ∙ a.epoch in let cursor = b.cursor ∙ a.cursor in let hand = b.hand ∙ a.hand in let pass = b.pass ∙ a.pass in
+    assumption (b.number ∙ a.number, b.seats ∙ a.seats, b.client ∙ a.client, b.list ∙ a.list, b.asked ∙ a.asked)
 
 -- a call without a step is a look
 pub no_look : {P : Type 0} (p : SeatPart P) → IsLooking p p
@@ -120,16 +87,6 @@ no_look p = record { call = no_call p; own = refl }
 -- two looks, one after the other, are one
 pub both_looks : {P : Type 0} (p q r : SeatPart P) → IsLooking p q → IsLooking q r → IsLooking p r
 both_looks p q r a b = record { call = both_calls p q r a.call b.call; own = b.own ∙ a.own }
-
--- a hand that was free is free after looks
-pub free_on : {P : Type 0} (p q : SeatPart P) → IsFree p.core → IsLooking p q → IsFree q.core
-free_on p q f l = record { outside = ap (λ n. n % 2) l.call.epoch ∙ f.outside; own = l.own ∙ f.own }
-
--- ---- the first ready node
-
-some_first : (l : List ℕ) → l ≢ [] → (n : ℕ) → slice_get l 0 ≡ Some n → (rest : List ℕ) × (l ≡ n ∷ rest)
-some_first [] d n e = absurd (d refl)
-some_first (x ∷ xs) d n e = let same : x ≡ n = cc in (xs, ap (λ y. y ∷ xs) same)
 
 -- ---- a look at a home word
 
@@ -161,9 +118,7 @@ module _ {P : Type 0} (rested : P → P) (p q : SeatPart P) (n w : ℕ) (free : 
 
   -- the used nodes without those that are ready now
   left_out : (x : ℕ) → times x (without (p.core.homes ++ n ∷ []) p.core.used) ≤ times x p.core.used
-  left_out x =
-      ⊎_elim
-      (λ (z : times x (p.core.homes ++ n ∷ []) ≡ 0). let a = without_none x (p.core.homes ++ n ∷ []) p.core.used z in omega arith)
+  left_out x = ⊎_elim (λ (z : times x (p.core.homes ++ n ∷ []) ≡ 0). let a = without_none x (p.core.homes ++ n ∷ []) p.core.used z in omega arith)
       (λ (d : times x (p.core.homes ++ n ∷ []) ≢ 0). let a = without_some x (p.core.homes ++ n ∷ []) p.core.used (omega arith) in omega arith)
       (cases_eq (times x (p.core.homes ++ n ∷ [])) 0)
 
@@ -191,34 +146,24 @@ module _ {P : Type 0} (rested : P → P) (p q : SeatPart P) (n w : ℕ) (free : 
         used = λ x. let u = ap (λ (v : View). times x v.used) e in omega arith;
         homes = λ x h u. let k = ap (λ (v : View). times x v.homes) e in omega arith;
         away = λ x d. ap (λ (l : List Away). find (λ a. a.node == x) l) e' ∙ find_skip (λ (a : Away). a.node) entry p.trace.away x (λ s. d (sym s));
-        this = λ u. inr (record {
-          entry = entry;
-          last = ap (λ (l : List Away). find (λ a. a.node == n) l) e' ∙ find_here (λ (a : Away). a.node) entry p.trace.away;
-          listed = refl;
-          from = omega arith;
-          before = let t = later in omega arith;
-        });
+        this = λ u. let last = ap (λ (l : List Away). find (λ a. a.node == n) l) e' ∙ find_here (λ (a : Away). a.node) entry p.trace.away in
+            let from : p.trace.taken ≤ p.trace.taken = omega arith in let before : p.trace.taken < q.trace.taken = (let t = later in omega arith) in
+            inr (record { entry = entry; last = last; listed = refl; from = from; before = before });
       }
 
 -- what is known of the nodes that were looked at stays known, and this node is known
 pub home_known : {P : Type 0} (p q r : SeatPart P) (n x : ℕ) → q.trace.list ≡ p.trace.list → p.trace.taken ≤ q.trace.taken
     → q.trace.taken ≤ r.trace.taken → IsHomeLook q r n → (x ≢ n → IsHomeKnown p q x) → IsHomeKnown p r x
-home_known p q r n x same from on look known used =
-    ⊎_elim
-    (λ (e : x ≡ n).
-    subst (λ y. (1 ≤ times y r.core.homes) ⊎ IsReadAway p.trace.list p.trace.taken r.trace.taken r.trace.away y) (sym e)
-    (⊎_elim
+home_known p q r n x same from on look known used = ⊎_elim
+    (λ (e : x ≡ n). subst (λ y. (1 ≤ times y r.core.homes) ⊎ IsReadAway p.trace.list p.trace.taken r.trace.taken r.trace.away y) (sym e) (⊎_elim
     (λ (h : 1 ≤ times n r.core.homes). inl h)
     (λ (a : IsReadAway q.trace.list q.trace.taken r.trace.taken r.trace.away n). inr
     (record { entry = a.entry; last = a.last; listed = a.listed ∙ same; from = let f = a.from in omega arith; before = a.before }))
     (look.this (subst (λ y. 1 ≤ times y r.core.used) e used))))
-    (λ (d : x ≢ n).
-    ⊎_elim
-    (λ (h : 1 ≤ times x q.core.homes). inl (look.homes x h used))
+    (λ (d : x ≢ n). ⊎_elim (λ (h : 1 ≤ times x q.core.homes). inl (look.homes x h used))
     (λ (a : IsReadAway p.trace.list p.trace.taken q.trace.taken q.trace.away x). inr
     (record { entry = a.entry; last = look.away x d ∙ a.last; listed = a.listed; from = a.from; before = let b = a.before in omega arith }))
-    (known d (let u = look.used x in omega arith)))
-    (cases_eq x n)
+    (known d (let u = look.used x in omega arith))) (cases_eq x n)
 
 -- ---- a look at an epoch
 
@@ -240,20 +185,8 @@ set_here l j a d less = unwrap_or-slice_get (slice_set l j a) j d ∙ get_or-set
 
 -- what noting the epoch of seat j leaves of the view
 record IsLooked (v : View) (j w : ℕ) (u : View) : Type 0 where
-  -- the epoch stays
-  pub epoch : u.epoch ≡ v.epoch
-  -- the own node stays
-  pub own : u.own ≡ v.own
-  -- the cursor stays
-  pub cursor : u.cursor ≡ v.cursor
-  -- the node in the hand stays
-  pub hand : u.hand ≡ v.hand
-  -- the ready nodes stay
-  pub ready : u.ready ≡ v.ready
-  -- the used nodes stay
-  pub used : u.used ≡ v.used
-  -- the homes stay
-  pub homes : u.homes ≡ v.homes
+  -- all but the flags and the notes stays
+  pub rest : u ≡ record v { passed = u.passed; notes = u.notes }
   -- other seats are passed as before
   pub passed : (k : ℕ) → k ≢ j → is_passed u k ≡ is_passed v k
   -- the notes of other seats stay
@@ -263,42 +196,14 @@ record IsLooked (v : View) (j w : ℕ) (u : View) : Type 0 where
 
 module _ (v : View) (j w : ℕ) (flags : j < length v.passed) (noting : j < length v.notes) where
   passing : IsLooked v j w (passes v j)
-  passing = record {
-    epoch = refl;
-    own = refl;
-    cursor = refl;
-    hand = refl;
-    ready = refl;
-    used = refl;
-    homes = refl;
-    passed = λ k d. set_else v.passed j k true false d;
-    notes = λ k d. refl;
-    this = inl (set_here v.passed j true false flags);
-  }
+  passing = record { rest = refl; passed = λ k d. set_else v.passed j k true false d; notes = λ k d. refl; this = inl (set_here v.passed j true false flags) }
 
   staying : (is_passed v j ≡ true) ⊎ ((w % 2 ≡ 1) × (is_passed v j ≡ false) × (note_of v j ≡ Some w)) → IsLooked v j w v
-  staying this = record {
-    epoch = refl;
-    own = refl;
-    cursor = refl;
-    hand = refl;
-    ready = refl;
-    used = refl;
-    homes = refl;
-    passed = λ k d. refl;
-    notes = λ k d. refl;
-    this = this;
-  }
+  staying this = record { rest = refl; passed = λ k d. refl; notes = λ k d. refl; this = this }
 
   noting_it : w % 2 ≡ 1 → is_passed v j ≡ false → IsLooked v j w (noted v j w None)
   noting_it odd unpassed = record {
-    epoch = refl;
-    own = refl;
-    cursor = refl;
-    hand = refl;
-    ready = refl;
-    used = refl;
-    homes = refl;
+    rest = refl;
     passed = λ k d. refl;
     notes = λ k d. set_else v.notes j k (Some w) None d;
     this = inr (odd, unpassed, set_here v.notes j (Some w) None noting);
@@ -328,8 +233,7 @@ none_after [] b e = e
 none_after (x ∷ a) b e = absurd (cc)
 
 module _ {P : Type 0} (rested : P → P) (p q : SeatPart P) (j w : ℕ) (free : IsFree p.core) (may : Enables p (ReadEpoch j))
-    (made : q ≡ part_after rested p (ReadEpoch j) w)
-    (flags : j < length p.core.passed) (noting : j < length p.core.notes) where
+    (made : q ≡ part_after rested p (ReadEpoch j) w) (flags : j < length p.core.passed) (noting : j < length p.core.notes) where
   abbrev u : View
   u = looked_at p.core j w
 
@@ -353,15 +257,16 @@ module _ {P : Type 0} (rested : P → P) (p q : SeatPart P) (j w : ℕ) (free : 
   pub epoch_looking : IsLooking p q
   epoch_looking = split (are_others_passed p.number u.passed) epoch_core
     where
+      by : (x : View) → x ≡ record u { ready = x.ready; used = x.used; homes = x.homes } → q.core ≡ x → IsLooking p q
+      by x same e = let all = same ∙ ap (λ (v : View). record v { ready = x.ready; used = x.used; homes = x.homes }) l.rest in record {
+        call = pool_call rested p q (ReadEpoch j) w x made free.own e (ap (λ (v : View). v.epoch) all) (ap (λ (v : View). v.cursor) all)
+            (ap (λ (v : View). v.hand) all) refl;
+        own = ap (λ (v : View). v.own) (e ∙ all);
+      }
+
       split : (b : Bool) → q.core ≡ (if b then released u else u) → IsLooking p q
-      split true e = record {
-        call = pool_call rested p q (ReadEpoch j) w (released u) made free.own e l.epoch l.cursor l.hand refl;
-        own = ap (λ (v : View). v.own) e ∙ l.own;
-      }
-      split false e = record {
-        call = pool_call rested p q (ReadEpoch j) w u made free.own e l.epoch l.cursor l.hand refl;
-        own = ap (λ (v : View). v.own) e ∙ l.own;
-      }
+      split true e = by (released u) refl e
+      split false e = by u refl e
 
   noted_else : (k : ℕ) → k ≢ j → find (λ n. n.seat == k) q.trace.noted ≡ find (λ n. n.seat == k) p.trace.noted
   noted_else k d = split (w % 2 == 0 || is_passed q.core j) noted_now
@@ -372,37 +277,28 @@ module _ {P : Type 0} (rested : P → P) (p q : SeatPart P) (j w : ℕ) (free : 
       split false e = ap (λ (ns : List Noted). find (λ n. n.seat == k) ns) e ∙ find_skip (λ (n : Noted). n.seat) heard p.trace.noted k (λ s. d (sym s))
 
   seat_this : q.core ≡ u → IsSeatKnown p q j
-  seat_this e =
-      ⊎_elim
-      (λ (t : is_passed u j ≡ true). inl (ap (λ (v : View). is_passed v j) e ∙ t))
+  seat_this e = ⊎_elim (λ (t : is_passed u j ≡ true). inl (ap (λ (v : View). is_passed v j) e ∙ t))
       (λ (t : (w % 2 ≡ 1) × (is_passed u j ≡ false) × (note_of u j ≡ Some w)).
       let unpassed : is_passed q.core j ≡ false = ap (λ (v : View). is_passed v j) e ∙ t.1 in
       let odd : (w % 2 == 0) ≡ false = let o = t.0 in ne_eqb _ _ (λ z. omega arith) in
       let test : (w % 2 == 0 || is_passed q.core j) ≡ false = λ i. odd i || unpassed i in
       let is : q.trace.noted ≡ heard ∷ p.trace.noted = noted_now ∙ ap (λ (b : Bool). if b then p.trace.noted else heard ∷ p.trace.noted) test in
-      inr (record {
-        entry = heard;
-        last = ap (λ (ns : List Noted). find (λ n. n.seat == j) ns) is ∙ find_here (λ (n : Noted). n.seat) heard p.trace.noted;
-        listed = refl;
-        from = omega arith;
-        before = let n = epoch_later in omega arith;
-        odd = t.0;
-        only = ap (λ (v : View). note_of v j) e ∙ t.2;
-        inside = unpassed;
-      }))
-      l.this
+      let last = ap (λ (ns : List Noted). find (λ n. n.seat == j) ns) is ∙ find_here (λ (n : Noted). n.seat) heard p.trace.noted in
+      let from : p.trace.taken ≤ p.trace.taken = omega arith in let before : p.trace.taken < q.trace.taken = (let n = epoch_later in omega arith) in
+      let only = ap (λ (v : View). note_of v j) e ∙ t.2 in
+      inr (record { entry = heard; last = last; listed = refl; from = from; before = before; odd = t.0; only = only; inside = unpassed })) l.this
 
   -- after it the candidates are ready, or they wait on and it is known of that seat whether it is inside
   pub epoch_look : p.core.homes ≢ [] → IsEpochLook p q j
   epoch_look some = split (are_others_passed p.number u.passed) refl epoch_core
     where
       split : (b : Bool) → are_others_passed p.number u.passed ≡ b → q.core ≡ (if b then released u else u) → IsEpochLook p q j
-      split true all e = inl (λ none. some (sym l.homes ∙ none_after u.ready u.homes (sym (ap (λ (v : View). v.ready) e) ∙ none)))
+      split true all e = inl (λ none. some (sym (ap (λ (v : View). v.homes) l.rest) ∙ none_after u.ready u.homes (sym (ap (λ (v : View). v.ready) e) ∙ none)))
       split false all e = inr (record {
         waiting = record {
-          ready = ap (λ (v : View). v.ready) e ∙ l.ready;
-          used = ap (λ (v : View). v.used) e ∙ l.used;
-          homes = ap (λ (v : View). v.homes) e ∙ l.homes;
+          ready = ap (λ (v : View). v.ready) (e ∙ l.rest);
+          used = ap (λ (v : View). v.used) (e ∙ l.rest);
+          homes = ap (λ (v : View). v.homes) (e ∙ l.rest);
           barred = ap (λ (x : SeatPart P). are_others_passed x.number q.core.passed) made ∙ (ap (λ (v : View). are_others_passed p.number v.passed) e ∙ all);
         };
         passed = λ k d. ap (λ (v : View). is_passed v k) e ∙ l.passed k d;
@@ -414,30 +310,16 @@ module _ {P : Type 0} (rested : P → P) (p q : SeatPart P) (j w : ℕ) (free : 
 -- what this call knows of a seat is known since an earlier moment of it
 pub seat_known_since : {P : Type 0} (p q r : SeatPart P) (k : ℕ) → q.trace.list ≡ p.trace.list → p.trace.taken ≤ q.trace.taken → IsSeatKnown q r k
     → IsSeatKnown p r k
-seat_known_since p q r k same from known =
-    ⊎_elim
-    (λ (t : is_passed r.core k ≡ true). inl t)
-    (λ (a : IsReadInside q.trace.list q.trace.taken r.trace.taken r.trace.noted r.core k). inr
-    (record {
-      entry = a.entry;
-      last = a.last;
-      listed = a.listed ∙ same;
-      from = let f = a.from in omega arith;
-      before = a.before;
-      odd = a.odd;
-      only = a.only;
-      inside = a.inside;
-    }))
-    known
+seat_known_since p q r k same from known = ⊎_elim (λ (t : is_passed r.core k ≡ true). inl t)
+    (λ (a : IsReadInside q.trace.list q.trace.taken r.trace.taken r.trace.noted r.core k).
+    let from : p.trace.taken ≤ a.entry.step = (let f = a.from in omega arith) in let same_list = a.listed ∙ same in
+    inr (record { entry = a.entry; last = a.last; listed = same_list; from = from; before = a.before; odd = a.odd; only = a.only; inside = a.inside })) known
 
 -- a seat that is known and isn't passed has a note
 pub known_note : {P : Type 0} (p q : SeatPart P) (k : ℕ) → IsSeatKnown p q k → is_passed q.core k ≡ false
     → IsReadInside p.trace.list p.trace.taken q.trace.taken q.trace.noted q.core k
-known_note p q k known unpassed =
-    ⊎_elim
-    (λ (t : is_passed q.core k ≡ true). absurd (let e = sym unpassed ∙ t in cc))
-    (λ (a : IsReadInside p.trace.list p.trace.taken q.trace.taken q.trace.noted q.core k). a)
-    known
+known_note p q k known unpassed = ⊎_elim (λ (t : is_passed q.core k ≡ true). absurd (let e = sym unpassed ∙ t in cc))
+    (λ (a : IsReadInside p.trace.list p.trace.taken q.trace.taken q.trace.noted q.core k). a) known
 
 -- ---- where each other seat is passed all others are
 
@@ -450,8 +332,7 @@ others_set : (s : ℕ) (l : List Bool) → ((k : ℕ) → k < length l → k ≢
 others_set zero [] h = refl
 others_set (suc s) [] h = refl
 others_set zero (x ∷ l) h = all_set l (λ k less. h (suc k) (omega arith) (λ z. omega arith))
-others_set (suc s) (x ∷ l) h =
-    let t = both _ _ (others_set s l (λ k less d. h (suc k) (omega arith) (λ z. d (omega arith)))) in
+others_set (suc s) (x ∷ l) h = let t = both _ _ (others_set s l (λ k less d. h (suc k) (omega arith) (λ z. d (omega arith)))) in
     together _ _ (together x _ (h 0 (omega arith) (λ z. omega arith)) t.0) t.1
 
 -- where each other seat is passed, the flags of all others are set
@@ -477,19 +358,11 @@ some_home (x ∷ xs) d = (x, let one : ◌≡◌ {A = ℕ} (if x == x then 1 els
 pub held_up_by : {P : Type 0} (p q r : SeatPart P) (seat epoch : ℕ)
     → q.trace.list ≡ p.trace.list → p.trace.taken ≤ q.trace.taken → IsBarred q r → q.core.homes ≢ []
     → IsViewSized r.seats r.number r.core → IsFirstInside r.core r.seats r.number seat epoch → IsHeldUp p r seat epoch
-held_up_by p q r seat epoch same from barred some sized first =
-    let h = some_home r.core.homes (λ none. some (sym barred.waiting.homes ∙ none)) in
+held_up_by p q r seat epoch same from barred some sized first = let h = some_home r.core.homes (λ none. some (sym barred.waiting.homes ∙ none)) in
     let read = known_note p r seat (seat_known_since p q r seat same from (barred.known seat first.there first.other)) first.inside in
-    record {
-      node = h.0;
-      home = h.1;
-      used = let u = sized.nodes.homes_used h.0 in let o = h.1 in omega arith;
-      there = first.there;
-      other = first.other;
-      read = read;
-      epoch_is = let only = sym read.only ∙ first.note in cc;
-      lowest = first.lowest;
-    }
+    let used : 1 ≤ times h.0 r.core.used = (let u = sized.nodes.homes_used h.0 in let o = h.1 in omega arith) in
+    let epoch_is : read.entry.epoch ≡ epoch = (let only = sym read.only ∙ first.note in cc) in
+    record { node = h.0; home = h.1; used = used; there = first.there; other = first.other; read = read; epoch_is = epoch_is; lowest = first.lowest }
 
 -- the seat that the hand finds in its own view is a cause why the call gives no node
 pub stuck_on : {P : Type 0} (p q r : SeatPart P) (s : Stuck) → q.trace.list ≡ p.trace.list → p.trace.taken ≤ q.trace.taken → IsBarred q r → q.core.homes ≢ []
@@ -502,16 +375,9 @@ pub takes_filled : {P : Type 0} (p q r : SeatPart P) (n : ℕ) → IsLooking p q
     → IsWhole p.number p.core → IsWhole q.number q.core → TakesFirst q r n → TakesFilled p r n
 takes_filled {P} p q r n look empty own was is first = record {
   empty = empty;
-  nodes = λ x.
-      let none = ap (times x) empty in
-      let before = was x in
-      let after = is x in
-      let own_p = ap (own_times x) own in
-      let own_q = ap (own_times x) (look.own ∙ own) in
-      let ready = ap (times x) first.ready in
-      let left = ap (λ (v : View). times x v.ready) first.core in
-      let used = ap (λ (v : View). times x v.used) first.core in
+  nodes = λ x. let none = ap (times x) empty in let before = was x in let after = is x in let own_p = ap (own_times x) own in
+      let own_q = ap (own_times x) (look.own ∙ own) in let ready = ap (times x) first.ready in
+      let left = ap (λ (v : View). times x v.ready) first.core in let used = ap (λ (v : View). times x v.used) first.core in
       let seat : ◌≡◌ {A = ℕ} (if x / 16 == q.number then 1 else 0) (if x / 16 == p.number then 1 else 0) =
-      ap (λ (m : ℕ). if x / 16 == m then 1 else 0) look.call.number in
-      omega arith;
+      ap (λ (m : ℕ). if x / 16 == m then 1 else 0) look.call.number in omega arith;
 }

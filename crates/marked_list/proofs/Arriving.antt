@@ -19,7 +19,7 @@ use Rattle.lock_core.specs.Sizes.{IsViewSound}
 use Rattle.epoch_pools.specs.declared.views.SeatPart.{SeatPart}
 use Rattle.epoch_pools.specs.Hands.{IsHandView}
 use Rattle.marked_list.specs.declared.answers.Walked.TheVariants.{Place}
-use Rattle.marked_list.specs.Order.{HasEnds, HasToValidate, OwnMayWalk, IsAhead, IsInside}
+use Rattle.marked_list.specs.Order.{HasEnds, OwnMayWalk, IsAhead, IsInside, StandsAt}
 use Rattle.marked_list.specs.Causes.{nodes_in, IsBoundedWalk}
 use Rattle.marked_list.specs.Answers.{Arrives}
 use Rattle.marked_list.specs.Walking.{seen_of, has_arrived, arrival_at, GoesOn, CursorCame, IsNotSpent, HasRoom, Outcome}
@@ -57,8 +57,7 @@ none_of (Some a) e = absurd (cc)
 
 -- a cursor that isn't before a node, of a seat that holds nothing, has come to its end at the end of the list alone
 at_zero : (own : Own) (c : Cursor) → c.lo ≡ None → held_at own ≡ None → has_arrived own c ≡ true → c.cur ≡ 0
-at_zero own c lo free e =
-    eqb-true _ _ (or_true (c.cur == 0)
+at_zero own c lo free e = eqb-true _ _ (or_true (c.cur == 0)
     (ap (λ (l : Option ℕ). c.cur == 0 || is_some l) (sym lo) ∙ (ap (λ (h : Option Held). is_some h || (c.cur == 0 || is_some c.lo)) (sym free) ∙ e)))
 
 not_there : (own : Own) (c : Cursor) → has_arrived own c ≡ false → (held_at own ≡ None) × (c.cur ≢ 0)
@@ -145,33 +144,20 @@ came_outcome {P} first p q came go inside view seats room =
     within e = by_held (held_at q.core.own) refl
       where
         by_held : (h : Option Held) → held_at q.core.own ≡ h → IsNotSpent q
-        by_held None f = inl
-            (let z = at_zero q.core.own came.cursor came.lo f e in let s = nodes_seen q view came.cursor came.is in
+        by_held None f = inl (let z = at_zero q.core.own came.cursor came.lo f e in let s = nodes_seen q view came.cursor came.is in
             let m = came.seen ∙ no_more (seen_of p.core.cursor) came.cursor.cur z in let r = room.seen in omega arith)
         by_held (Some h) f = inr ((λ z. let c : ◌≡◌ {A = Option Held} (Some h) None = sym f ∙ z in cc), bounded)
 
     goes : has_arrived q.core.own came.cursor ≡ false → GoesOn p.core q.core
-    goes e =
-        let t = not_there q.core.own came.cursor e in
-        let far = t.1 in
-        let even = came.even in
+    goes e = let t = not_there q.core.own came.cursor e in let far = t.1 in let even = came.even in
         let half : came.cursor.cur / 2 ≢ 0 = λ z. far (omega arith) in
         let stays = own_stays p.core.own came.cursor.cur go came.even t.1 (ap held_at (sym came.own) ∙ t.0) in
         let own : q.core.own ≡ p.core.own = came.own ∙ stays.0 in
-        record {
-          stands =
-              record {
-                inside = inside;
-                own = subst OwnMayWalk (sym own) go;
-                cursor = came.cursor;
-                is = came.is;
-                node = came.cursor.cur / 2 - 1;
-                at = names came.cursor.cur came.even half;
-                ahead = subst (λ (o : Own). IsAhead o (came.cursor.cur / 2 - 1)) (sym own) stays.1;
-              };
-          own = own;
-          seen = ap seen_of came.is ∙ (came.seen ∙ one_more (seen_of p.core.cursor) came.cursor.cur room_left half);
-        }
+        let may : OwnMayWalk q.core.own = subst OwnMayWalk (sym own) go in
+        let ahead = subst (λ (o : Own). IsAhead o (came.cursor.cur / 2 - 1)) (sym own) stays.1 in
+        let at = names came.cursor.cur came.even half in let node = came.cursor.cur / 2 - 1 in let stands : StandsAt q.core =
+        record { inside = inside; own = may; cursor = came.cursor; is = came.is; node = node; at = at; ahead = ahead } in
+        assumption (stands, ap seen_of came.is ∙ (came.seen ∙ one_more (seen_of p.core.cursor) came.cursor.cur room_left half))
 
     by_arrival : (b : Bool) → has_arrived q.core.own came.cursor ≡ b → Outcome first p.core q (if b then Some Place else None)
     by_arrival true e = (arrives_came q.seats q.number p.core.own q.core came.cursor go came.is came.own came.even came.lo e view.sound, within e)

@@ -1,5 +1,5 @@
 -- How a walk begins: the cursor is made, and a head with the low bit is settled.
-use Rattle.std.proofs.Common.{◌≡◌, ◌≢◌, ℕ, ◌+◌, ◌-◌, ◌*◌, ◌/◌, ◌%◌, ◌^◌, ◌≤◌, true, false, Bool, refl, sym, ap, ◌∙◌, subst, arith, eq-eqb, ne_eqb}
+use Rattle.std.proofs.Common.{◌≡◌, ◌≢◌, ℕ, ◌+◌, ◌-◌, ◌*◌, ◌/◌, ◌%◌, ◌^◌, ◌≤◌, ◌<◌, true, false, Bool, refl, sym, ap, ◌∙◌, subst, arith, eq-eqb, ne_eqb}
 use Rattle.std.specs.Prelude.{Option, Some, None, is_some, min, ◌==◌, if◌then◌else◌}
 use Rattle.lock_core.specs.declared.views.View.{View}
 use Rattle.lock_core.specs.declared.views.Cursor.{Cursor}
@@ -18,9 +18,8 @@ use Rattle.epoch_pools.specs.Record.{looked_with, is_judging, gained_by}
 use Rattle.epoch_pools.specs.Running.{Enables, part_after, Told}
 use Rattle.epoch_pools.specs.Hands.{IsHandView}
 use Rattle.marked_list.specs.declared.answers.Lost.{Lost}
-use Rattle.marked_list.specs.declared.answers.Walked.TheVariants.{Lost as Gone}
 use Rattle.marked_list.specs.Order.{OwnMayWalk, IsInside}
-use Rattle.marked_list.specs.Leaves.{IsSamePools}
+use Rattle.marked_list.specs.Leaves.{IsSamePools, IsNewWalk}
 use Rattle.marked_list.specs.Walking.{seen_of, arrival_at, HasRoom, MayBeginWalk, IsAtOddHead, IsCursorMade, IsSettled, IsFailed, Outcome}
 use Rattle.marked_list.specs.Causes.{judged_in}
 use Rattle.marked_list.proofs.Lines.{enables, line_is, Made, made_by, same_walk, same_judged, on_made}
@@ -62,8 +61,7 @@ module _ {P : Type 0} (p : SeatPart P) (may : MayBeginWalk p.core) where
         by_own : (own : Own) → OwnMayWalk own → p.core.own ≡ own → listed_of own ≡ None
         by_own Nothing g e = refl
         by_own (Filling node lo hi mode aimed) g e = refl
-        by_own (Linked node range mode Forward) g e =
-            let head = sound.at_head first_cursor (ap (λ (v : View). v.cursor) core) odd in
+        by_own (Linked node range mode Forward) g e = let head = sound.at_head first_cursor (ap (λ (v : View). v.cursor) core) odd in
             absurd (let h : ◌≡◌ {A = Option ℕ} (Some node) None = sym (ap start_of e) ∙ head.0 in cc)
         by_own (Linked node range mode FromHead) g e =
             absurd (found_even p w (record { node = node; range = range; mode = mode; todo = FromHead }) (told.moment (λ x. x))
@@ -72,35 +70,16 @@ module _ {P : Type 0} (p : SeatPart P) (may : MayBeginWalk p.core) where
 
     -- the step leaves the cursor at the word that it found, in a walk that this call began
     pub cursor_made : IsCursorMade p q w
-    cursor_made = record {
-      later = on_made rested p q Walk out_plan w m refl (may_walk_free p.core.own may.own) (ap (λ (v : View). v.epoch) view_is)
-          (subst (IsSamePools p.core) (sym view_is) (record {
-            ready = refl;
-            used = refl;
-            homes = refl;
-            notes = refl;
-            passed = refl;
-          })) (ap (λ (v : View). v.hand) view_is ∙ may.inside.hand);
-      cursor = ap (λ (v : View). v.cursor) core;
-      own = ap (λ (v : View). v.own) core;
-      walk = (
-        _,
-        m.looked ∙ (ap (λ (b : Option Cursor). looked_with p.trace b (out_plan.view w).cursor (is_judging Walk) (gained_by p.core (out_plan.view w))) may.cursor
-            ∙ ap (λ (b : Option Cursor). looked_with p.trace None b (is_judging Walk) (gained_by p.core (out_plan.view w)))
-            (ap (λ (v : View). v.cursor) view_is)),
-        omega arith,
-        (let t = m.taken in omega arith),
-        sym m.list,
-      );
-      judged = ap judged_in
-          (m.looked ∙ (ap (λ (b : Option Cursor). looked_with p.trace b (out_plan.view w).cursor (is_judging Walk)
-          (gained_by p.core (out_plan.view w))) may.cursor
-          ∙ ap (λ (b : Option Cursor). looked_with p.trace None b (is_judging Walk) (gained_by p.core (out_plan.view w)))
-          (ap (λ (v : View). v.cursor) view_is)));
-      unlinked = unlinked;
-      seats = let c = seat_count p Walk w (told.moment (λ x. x)) in let a = c.0 in let b = c.1 in let s = m.seats in (omega arith, omega arith);
-      taken = m.taken;
-    }
+    cursor_made = let pools : IsSamePools p.core (came_to p.core (start_of p.core.own) w 0) = assumption in
+        let later = on_made m refl (may_walk_free p.core.own may.own) (ap (λ (v : View). v.epoch) view_is)
+        (subst (IsSamePools p.core) (sym view_is) pools) (ap (λ (v : View). v.hand) view_is ∙ may.inside.hand) in
+        let gained = gained_by p.core (out_plan.view w) in
+        let looked = m.looked ∙ (ap (λ (b : Option Cursor). looked_with p.trace b (out_plan.view w).cursor (is_judging Walk) gained) may.cursor
+        ∙ ap (λ (b : Option Cursor). looked_with p.trace None b (is_judging Walk) gained) (ap (λ (v : View). v.cursor) view_is)) in
+        let walk : IsNewWalk p.trace.taken q = (_, looked, omega arith, (let t = m.taken in omega arith), sym m.list) in
+        let seats : (0 < q.seats) × (q.seats ≤ 16) = (let c = seat_count p Walk w (told.moment (λ x. x)) in
+        let a = c.0 in let b = c.1 in let s = m.seats in (omega arith, omega arith)) in
+        let cursor = ap (λ (v : View). v.cursor) core in let own = ap (λ (v : View). v.own) core in assumption (unlinked, ap judged_in looked, m)
 
 -- what a seat without a linked node has stays, whatever the cursor comes to
 own_at_any : (own : Own) (w : ℕ) → listed_of own ≡ None → own_at own w ≡ own
@@ -132,30 +111,20 @@ module _ {P : Type 0} (p : SeatPart P) (head : IsAtOddHead p.core) where
     settled_by b = if b then settled p.core head.cursor else dropped p.core
 
     settle_won : w ≡ head.cursor.cur → IsSettled p q
-    settle_won e =
-        let view : settle_plan.view w ≡ settled p.core head.cursor = ap settled_by (eq-eqb _ _ e) in
+    settle_won e = let view : settle_plan.view w ≡ settled p.core head.cursor = ap settled_by (eq-eqb _ _ e) in
         let core : q.core ≡ settled p.core head.cursor = m'.core ∙ view in
-        record {
-          later = on_made rested p q Settle settle_plan w m' refl (free_unlinked p.core.own head.unlinked) (ap (λ (v : View). v.epoch) view)
-              (subst (IsSamePools p.core) (sym view) (record {
-                ready = refl;
-                used = refl;
-                homes = refl;
-                notes = refl;
-                passed = refl;
-              })) (ap (λ (v : View). v.hand) view ∙ head.inside.hand);
-          cursor = λ c is. let same : head.cursor ≡ c = let h = sym head.is ∙ is in cc in
-              ap (λ (v : View). v.cursor) core ∙ ap (λ (x : Cursor). Some (record x { cur = x.cur - 1 })) same;
-          own = ap (λ (v : View). v.own) core;
-          walk = same_walk rested p q Settle settle_plan w m' (ap is_some head.is);
-          judged = same_judged rested p q Settle settle_plan w m' refl (ap is_some head.is);
-          taken = m'.taken;
-        }
+        let pools : IsSamePools p.core (settled p.core head.cursor) = assumption in
+        let later = on_made m' refl (free_unlinked p.core.own head.unlinked) (ap (λ (v : View). v.epoch) view)
+        (subst (IsSamePools p.core) (sym view) pools) (ap (λ (v : View). v.hand) view ∙ head.inside.hand) in
+        let cursor : (c : Cursor) → p.core.cursor ≡ Some c → q.core.cursor ≡ Some (record c { cur = c.cur - 1 }) = λ c is.
+        let same : head.cursor ≡ c = let h = sym head.is ∙ is in cc in
+        ap (λ (v : View). v.cursor) core ∙ ap (λ (x : Cursor). Some (record x { cur = x.cur - 1 })) same in
+        let walk = same_walk m' (ap is_some head.is) in
+        let judged = same_judged m' refl (ap is_some head.is) in assumption (m', ap (λ (v : View). v.own) core)
 
     settle_fails : w ≢ head.cursor.cur → IsHandView p → HasRoom p → (l : Lost)
         → l.place ≡ cell_place p.seats (cell_of head.cursor.prev) → l.expected ≡ head.cursor.cur → l.found ≡ w → IsFailed p q l
-    settle_fails d view room l placed wanted had =
-        failed rested p q Settle settle_plan w m' head.cursor head.is tt refl refl (ap settled_by (ne_eqb _ _ d)) (ne_eqb _ _ d)
+    settle_fails d view room l placed wanted had = failed m' head.is tt refl refl (ap settled_by (ne_eqb _ _ d)) (ne_eqb _ _ d)
         (free_unlinked p.core.own head.unlinked) head.inside.hand view room l
         (placed ∙ ap (λ (o : Option ℕ). cell_place p.seats (cell_of o)) head.prev) wanted had
 
@@ -171,13 +140,15 @@ module _ {P : Type 0} (p : SeatPart P) (head : IsAtOddHead p.core) where
       -- where it was another, that is the walk's answer
       pub settle_lost : w ≢ d.cur → IsHandView p → HasRoom p → (s : ℕ) → s ≡ q.seats → (l : Lost)
           → l.place ≡ cell_place s (cell_of d.prev) → l.expected ≡ d.cur → l.found ≡ w → IsFailed p q l
-      settle_lost far view room s seats l placed wanted had =
-          let many : s ≡ p.seats = seats ∙ m'.seats in
+      settle_lost far view room s seats l placed wanted had = let many : s ≡ p.seats = seats ∙ m'.seats in
           settle_fails (λ e. far (e ∙ ap (λ (x : Cursor). x.cur) (sym same))) view room l
           (placed ∙ (λ i. cell_place (many i) (cell_of (same i).prev))) (wanted ∙ ap (λ (x : Cursor). x.cur) same) had
 
 -- the first node: at once, or once the head is settled
 module _ {P : Type 0} (p q : SeatPart P) (w : ℕ) (may : MayBeginWalk p.core) (out : IsCursorMade p q w) where
+  abbrev begun_cursor : Cursor
+  begun_cursor = record { prev = start_of p.core.own; cur = w; next = None; lo = None; seen = seen_after 0 w }
+
   room_out : HasRoom p
   room_out = record { seats = let s = out.seats.1 in let e = out.later.seats in omega arith; seen = let z = ap seen_of may.cursor in omega arith }
 
@@ -197,28 +168,15 @@ module _ {P : Type 0} (p q : SeatPart P) (w : ℕ) (may : MayBeginWalk p.core) (
 
   -- where its word has no low bit, the walk goes on there, or has come to its end
   pub made_even : w % 2 ≡ 0 → IsHandView q → Outcome p.trace.taken p.core q (arrival_at q.core.own q.core.cursor)
-  made_even even view = came_outcome p.trace.taken p q
-      (record {
-        cursor = _;
-        is = out.cursor;
-        even = even;
-        next = refl;
-        lo = refl;
-        seen = ap (λ a. seen_after a w) (sym (ap seen_of may.cursor));
-        own = out.own;
-      })
+  made_even even view = let seen = ap (λ (a : ℕ). seen_after a w) (sym (ap seen_of may.cursor)) in came_outcome p.trace.taken p q
+      (record { cursor = begun_cursor; is = out.cursor; even = even; next = refl; lo = refl; seen = seen; own = out.own })
       may.own inside_out view out.later.seats room_out
 
   -- where it has, the cursor is at the head, and no node of this seat is linked
   pub made_odd : w % 2 ≡ 1 → IsAtOddHead q.core
-  made_odd odd = record {
-    inside = inside_out;
-    cursor = _;
-    is = out.cursor;
-    prev = by_own p.core.own (out.unlinked odd);
-    odd = odd;
-    unlinked = ap listed_of (out.own ∙ own_at_any p.core.own w (out.unlinked odd)) ∙ out.unlinked odd;
-  }
+  made_odd odd = let prev = by_own p.core.own (out.unlinked odd) in
+      let unlinked = ap listed_of (out.own ∙ own_at_any p.core.own w (out.unlinked odd)) ∙ out.unlinked odd in
+      record { inside = inside_out; cursor = begun_cursor; is = out.cursor; prev = prev; odd = odd; unlinked = unlinked }
     where
       by_own : (own : Own) → listed_of own ≡ None → start_of own ≡ None
       by_own Nothing e = refl
@@ -231,16 +189,10 @@ module _ {P : Type 0} (p q : SeatPart P) (w : ℕ) (may : MayBeginWalk p.core) (
 
     -- once the head is settled, the walk goes on at its node, or has come to its end
     pub settled_outcome : IsSettled q r → IsHandView r → Outcome p.trace.taken p.core r (arrival_at r.core.own r.core.cursor)
-    settled_outcome s view = came_outcome p.trace.taken p r
-        (record {
-          cursor = _;
-          is = s.cursor _ out.cursor;
-          even = omega arith;
-          next = refl;
-          lo = refl;
-          seen = let h : w / 2 ≡ (w - 1) / 2 = omega arith in
-              ap (λ n. if n == 0 then 0 else min (0 + 1) (2 ^ 32 - 1)) h
-              ∙ ap (λ a. seen_after a (w - 1)) (sym (ap seen_of may.cursor));
-          own = s.own ∙ (own_out ∙ sym (own_at_any p.core.own (w - 1) (out.unlinked odd)));
-        })
-        may.own (record { odd = ap (λ n. n % 2) s.later.epoch ∙ inside_out.odd; hand = s.later.hand }) view (s.later.seats ∙ out.later.seats) room_out
+    settled_outcome s view = let c : Cursor = record begun_cursor { cur = w - 1 } in let even : (w - 1) % 2 ≡ 0 = omega arith in
+        let half : w / 2 ≡ (w - 1) / 2 = omega arith in let is = s.cursor begun_cursor out.cursor in
+        let seen = ap (λ (n : ℕ). if n == 0 then 0 else min (0 + 1) (2 ^ 32 - 1)) half ∙ ap (λ (a : ℕ). seen_after a (w - 1)) (sym (ap seen_of may.cursor)) in
+        let own = s.own ∙ (own_out ∙ sym (own_at_any p.core.own (w - 1) (out.unlinked odd))) in
+        let odd = ap (λ (n : ℕ). n % 2) s.later.epoch ∙ inside_out.odd in
+        came_outcome p.trace.taken p r (record { cursor = c; is = is; even = even; next = refl; lo = refl; seen = seen; own = own })
+        may.own (assumption s) view (s.later.seats ∙ out.later.seats) room_out

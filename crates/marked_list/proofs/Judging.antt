@@ -16,7 +16,7 @@ use Rattle.lock_core.specs.declared.compare.Verdict.TheVariants.{Past, Stop, Con
 use Rattle.lock_core.specs.declared.steps.Step.TheVariants.{Walk, ReadLo, ReadHi}
 use Rattle.lock_core.specs.Words.{plain_node_of, cell_place, lo_place, hi_place, hi_word, mode_of}
 use Rattle.lock_core.specs.Nodes.{Listed, listed}
-use Rattle.lock_core.specs.Views.{walk_cell, own_at, walked, lo_read, hi_read, hi_judged, own_stopped, seen_after, todo_of}
+use Rattle.lock_core.specs.Views.{walk_cell, walked, lo_read, hi_read, hi_judged, own_stopped, seen_after, todo_of}
 use Rattle.lock_core.specs.Compare.{verdict_of, is_reader}
 use Rattle.lock_core.specs.StepTable.{Plan, IsLine, loads, walk, read_lo, read_hi}
 use Rattle.lock_core.specs.Machine.{held_at}
@@ -69,36 +69,21 @@ module _ {P : Type 0} (p : SeatPart P) (st : StandsAt p.core) where
 
     -- after it the cursor knows that word
     pub next_known : KnowsNext q.core w
-    next_known = subst (λ (v : View). KnowsNext v w) (sym core_next)
-        (record {
-          stands = record {
-            inside = record { odd = st.inside.odd; hand = st.inside.hand };
-            own = st.own;
-            cursor = next_cursor;
-            is = refl;
-            node = st.node;
-            at = st.at;
-            ahead = st.ahead;
-          };
-          next = refl;
-        })
+    next_known = let stands : StandsAt (record p.core { cursor = Some next_cursor }) =
+        record { inside = assumption; own = st.own; cursor = next_cursor; is = refl; node = st.node; at = st.at; ahead = st.ahead } in
+        subst (λ (v : View). KnowsNext v w) (sym core_next) (record { stands = stands; next = refl })
 
     -- the load leaves the cursor at its node, and all else as it was
     pub next_loaded : IsLoad p q
-    next_loaded = record {
-      later = on_load;
-      own = ap (λ (v : View). v.own) core_next;
-      seen = ap (λ (v : View). seen_of v.cursor) core_next ∙ sym (ap seen_of st.is);
-      walk = same_walk rested p q Walk walk_plan w m (ap is_some st.is);
-      judged = same_judged rested p q Walk walk_plan w m refl (ap is_some st.is);
-      taken = m.taken;
-    }
+    next_loaded = let walk = same_walk m (ap is_some st.is) in let judged = same_judged m refl (ap is_some st.is) in
+        let seen = ap (λ (v : View). seen_of v.cursor) core_next ∙ sym (ap seen_of st.is) in
+        assumption (on_load, m, ap (λ (v : View). v.own) core_next)
       where
         plan_is : walked p.core p.core.cursor w ≡ record p.core { cursor = Some next_cursor }
         plan_is = ap (λ (o : Option Cursor). walked p.core o w) st.is
 
         on_load : IsLaterInWalk p q
-        on_load = on_made rested p q Walk walk_plan w m refl (may_walk_free p.core.own st.own) (ap (λ (v : View). v.epoch) plan_is)
+        on_load = on_made m refl (may_walk_free p.core.own st.own) (ap (λ (v : View). v.epoch) plan_is)
             (subst (IsSamePools p.core) (sym plan_is) (same_pools p.core (Some next_cursor))) (ap (λ (v : View). v.hand) plan_is ∙ st.inside.hand)
 
     -- the record takes the load as the one at which the cursor's node was found
@@ -107,12 +92,10 @@ module _ {P : Type 0} (p : SeatPart P) (st : StandsAt p.core) where
 
     -- where the word that was loaded has no mark, the node is another seat's, or the own linked one
     pub next_others : (seats : ℕ) → Told seats p Walk w → w % 2 ≡ 0 → IsAtOthers q
-    next_others seats told even c y is node =
-        let same : next_cursor ≡ c = let e = sym (ap (λ (v : View). v.cursor) core_next) ∙ is in cc in
+    next_others seats told even c y is node = let same : next_cursor ≡ c = let e = sym (ap (λ (v : View). v.cursor) core_next) ∙ is in cc in
         let y_is : st.node ≡ y = let e = sym st.at ∙ (ap (λ (x : Cursor). plain_node_of x.cur) same ∙ node) in cc in
         let o = found_other p w st.cursor st.node (told.moment (λ x. x)) (ap (λ (x : Plan). x.place) (line_is p Walk walk_plan walk_line)) st.is st.at even in
-        subst (IsOthers q.number q.core.own) y_is
-        (subst (λ (own : Own). IsOthers q.number own st.node) (sym (ap (λ (v : View). v.own) core_next))
+        subst (IsOthers q.number q.core.own) y_is (subst (λ (own : Own). IsOthers q.number own st.node) (sym (ap (λ (v : View). v.own) core_next))
         (subst (λ a. IsOthers a p.core.own st.node) (sym m.number) o))
 
 -- the lower end
@@ -139,35 +122,16 @@ module _ {P : Type 0} (p : SeatPart P) (n : ℕ) (k : KnowsNext p.core n) (even 
 
     -- after it the cursor knows that end
     pub lo_known : KnowsLo q.core n w
-    lo_known = subst (λ (v : View). KnowsLo v n w) (sym core_lo)
-        (record {
-          knows =
-              record {
-                stands = record {
-                  inside = record { odd = k.stands.inside.odd; hand = k.stands.inside.hand };
-                  own = k.stands.own;
-                  cursor = lo_cursor;
-                  is = refl;
-                  node = k.stands.node;
-                  at = k.stands.at;
-                  ahead = k.stands.ahead;
-                };
-                next = k.next;
-              };
-          lo = refl;
-        })
+    lo_known = let s = k.stands in let stands : StandsAt (record p.core { cursor = Some lo_cursor }) =
+        record { inside = assumption; own = s.own; cursor = lo_cursor; is = refl; node = s.node; at = s.at; ahead = s.ahead } in
+        subst (λ (v : View). KnowsLo v n w) (sym core_lo) (record { knows = record { stands = stands; next = k.next }; lo = refl })
 
     -- the load leaves the cursor at its node, and all else as it was
     pub lo_loaded : IsLoad p q
-    lo_loaded = record {
-      later = on_made rested p q ReadLo lo_plan w lo_made refl (may_walk_free p.core.own k.stands.own) refl
-          (same_pools p.core (Some lo_cursor)) k.stands.inside.hand;
-      own = ap (λ (v : View). v.own) core_lo;
-      seen = ap (λ (v : View). seen_of v.cursor) core_lo ∙ sym (ap seen_of k.stands.is);
-      walk = same_walk rested p q ReadLo lo_plan w lo_made (ap is_some k.stands.is);
-      judged = same_judged rested p q ReadLo lo_plan w lo_made refl (ap is_some k.stands.is);
-      taken = lo_made.taken;
-    }
+    lo_loaded = let later = on_made lo_made refl (may_walk_free p.core.own k.stands.own) refl (same_pools p.core (Some lo_cursor)) k.stands.inside.hand in
+        let walk = same_walk lo_made (ap is_some k.stands.is) in let judged = same_judged lo_made refl (ap is_some k.stands.is) in
+        let seen = ap (λ (v : View). seen_of v.cursor) core_lo ∙ sym (ap seen_of k.stands.is) in
+        assumption (lo_made, ap (λ (v : View). v.own) core_lo)
 
     -- the step at which the cursor's node was found stays
     pub lo_walked : q.trace.walked ≡ p.trace.walked
@@ -175,8 +139,7 @@ module _ {P : Type 0} (p : SeatPart P) (n : ℕ) (k : KnowsNext p.core n) (even 
 
     -- and that the node is another seat's, or the own linked one
     pub lo_others : IsAtOthers p → IsAtOthers q
-    lo_others others c y is node =
-        let same : lo_cursor ≡ c = let e = sym (ap (λ (v : View). v.cursor) core_lo) ∙ is in cc in
+    lo_others others c y is node = let same : lo_cursor ≡ c = let e = sym (ap (λ (v : View). v.cursor) core_lo) ∙ is in cc in
         let o = others k.stands.cursor y k.stands.is (ap (λ (x : Cursor). plain_node_of x.cur) same ∙ node) in
         subst (λ (own : Own). IsOthers q.number own y) (sym (ap (λ (v : View). v.own) core_lo)) (subst (λ a. IsOthers a p.core.own y) (sym lo_made.number) o)
 
@@ -198,8 +161,7 @@ done_never Writer e = absurd (cc)
 
 asked_conflict : (own : Own) (lo w : ℕ) → OwnMayWalk own → verdict_of own lo w ≡ Conflict → (a : Held) × (asked_of own ≡ Some a) × Conflicts a (node_held lo w)
 asked_conflict Nothing lo w g e = absurd (cc)
-asked_conflict (Filling node low high mode aimed) lo w g e =
-    let l : low ≡ Some g.lo = let i = g.is in let k = g.low in cc in
+asked_conflict (Filling node low high mode aimed) lo w g e = let l : low ≡ Some g.lo = let i = g.is in let k = g.low in cc in
     let h : high ≡ Some g.hi = let i = g.is in let k = g.high in cc in
     let v : verdict_of (Filling node low high mode aimed) lo w ≡ verdict_of (Filling node (Some g.lo) (Some g.hi) mode aimed) lo
     w = λ i. verdict_of (Filling node (l i) (h i) mode aimed) lo w in
@@ -268,18 +230,15 @@ lo_arrives own c lo low = ap (λ (l : Option ℕ). is_some (held_at own) || (c.c
 -- a judgement leaves epoch, pools and hand
 judged_epoch : (v : View) (c : Cursor) (y n : ℕ) (d : Verdict) → (hi_judged v c y n d).epoch ≡ v.epoch
 judged_epoch v c y n Past = refl
-judged_epoch v c y n Stop = refl
-judged_epoch v c y n Conflict = refl
+judged_epoch v c y n _ = refl
 
 judged_hand : (v : View) (c : Cursor) (y n : ℕ) (d : Verdict) → (hi_judged v c y n d).hand ≡ v.hand
 judged_hand v c y n Past = refl
-judged_hand v c y n Stop = refl
-judged_hand v c y n Conflict = refl
+judged_hand v c y n _ = refl
 
 judged_pools : (v : View) (c : Cursor) (y n : ℕ) (d : Verdict) → IsSamePools v (hi_judged v c y n d)
 judged_pools v c y n Past = record { ready = refl; used = refl; homes = refl; notes = refl; passed = refl }
-judged_pools v c y n Stop = record { ready = refl; used = refl; homes = refl; notes = refl; passed = refl }
-judged_pools v c y n Conflict = record { ready = refl; used = refl; homes = refl; notes = refl; passed = refl }
+judged_pools v c y n _ = record { ready = refl; used = refl; homes = refl; notes = refl; passed = refl }
 
 -- a cursor that knows its node's next word is at a node
 pub names_node : (seats i : ℕ) (v : View) → IsViewSound seats i v → seats ≤ 16 → (c : Cursor) → v.cursor ≡ Some c
@@ -314,16 +273,38 @@ module _ {P : Type 0} (p : SeatPart P) (n lo : ℕ) (k : KnowsLo p.core n lo) (e
 
     -- the judgement leaves what a call that walks leaves
     pub judged_on : IsLaterInWalk p q
-    judged_on = on_made rested p q ReadHi hi_plan w hi_made refl (may_walk_free p.core.own st.own) (judged_epoch p.core st.cursor st.node n verdict)
+    judged_on = on_made hi_made refl (may_walk_free p.core.own st.own) (judged_epoch p.core st.cursor st.node n verdict)
         (judged_pools p.core st.cursor st.node n verdict) (judged_hand p.core st.cursor st.node n verdict ∙ st.inside.hand)
 
     -- it is a step of the same walk
     pub judged_walk : IsSameWalk p q
-    judged_walk = same_walk rested p q ReadHi hi_plan w hi_made (ap is_some st.is)
+    judged_walk = same_walk hi_made (ap is_some st.is)
 
     -- it is one step
     pub judged_taken : q.trace.taken ≡ p.trace.taken + 1
     judged_taken = hi_made.taken
+
+    -- past its node the cursor came to the next word
+    past_came : q.core ≡ hi_judged p.core st.cursor st.node n Past → CursorCame p.core q.core
+    past_came core = let c : Cursor = record { prev = Some st.node; cur = n; next = None; lo = None; seen = seen_after st.cursor.seen n } in
+        let is = ap (λ (v : View). v.cursor) core in let own = ap (λ (v : View). v.own) core in
+        let seen = ap (λ (a : ℕ). seen_after a n) (sym (ap seen_of st.is)) in
+        record { cursor = c; is = is; even = even; next = refl; lo = refl; seen = seen; own = own }
+
+    past_inside : q.core ≡ hi_judged p.core st.cursor st.node n Past → IsInside q.core
+    past_inside core = record { odd = ap (λ (v : View). v.epoch % 2) core ∙ st.inside.odd; hand = judged_on.hand }
+
+    -- the node that was judged is in the record, with its owner, its range and its mode
+    abbrev met_with : ℕ → Met
+    met_with low = record {
+      owner = (st.cursor.cur / 2 - 1) / 16;
+      held = record { range = record { lo = low; hi = w / 2 }; mode = mode_of w };
+      list = p.trace.list;
+      step = p.trace.walked;
+    }
+
+    met_now : q.trace.met ≡ Some (met_with lo)
+    met_now = hi_made.met ∙ (ap (λ (o : Option Cursor). met_at p.trace o w) st.is ∙ ap (λ (l : Option ℕ). Some (met_with (unwrap_or l 0))) k.lo)
 
     module _ (seats : ℕ) (told : Told seats p ReadHi w) where
       hi_at : (line_for p ReadHi).place ≡ hi_place p.seats st.node
@@ -334,97 +315,56 @@ module _ {P : Type 0} (p : SeatPart P) (n lo : ℕ) (k : KnowsLo p.core n lo) (e
       judged_range = found_range p w st.cursor st.node lo (told.moment (λ x. x)) hi_at st.is st.at k.lo
 
       module _ (view : IsHandView q) (room : HasRoom p) (others : IsAtOthers p) (walked : p.trace.walked < p.trace.taken) where
+        abbrev Judged : Option Cursor → Type 0
+        Judged x = Outcome p.trace.walked p.core q (judgement_at q.core.own x lo w)
+
         core_by : (d : Verdict) → verdict ≡ d → q.core ≡ hi_judged p.core st.cursor st.node n d
         core_by d e = hi_made.core ∙ ap (hi_judged p.core st.cursor st.node n) e
 
         few : (c : Cursor) → q.core.cursor ≡ Some c → c.seen ≡ st.cursor.seen → IsNotSpent q
         few c is seen = inl (let a = nodes_seen q view c is in let b = room.seen in let e = ap seen_of st.is in let s = hi_made.seats in omega arith)
 
-        past : verdict ≡ Past → Outcome p.trace.walked p.core q (judgement_at q.core.own q.core.cursor lo w)
-        past e =
-            let core = core_by Past e in
-            let came : CursorCame p.core q.core = record {
-              cursor = record { prev = Some st.node; cur = n; next = None; lo = None; seen = seen_after st.cursor.seen n };
-              is = ap (λ (v : View). v.cursor) core;
-              even = even;
-              next = refl;
-              lo = refl;
-              seen = ap (λ a. seen_after a n) (sym (ap seen_of st.is));
-              own = ap (λ (v : View). v.own) core;
-            } in
-            let inside : IsInside q.core = record { odd = ap (λ (v : View). v.epoch % 2) core ∙ st.inside.odd; hand = judged_on.hand } in
+        past : verdict ≡ Past → Judged q.core.cursor
+        unfolding past_came
+        past e = let core = core_by Past e in let came = past_came core in let inside = past_inside core in
             let o = came_outcome p.trace.walked p q came st.own inside view hi_made.seats room in
-            subst (λ (x : Option Cursor). Outcome p.trace.walked p.core q (judgement_at q.core.own x lo w)) (sym came.is)
-            (subst (λ (x : Option Cursor). Outcome p.trace.walked p.core q (arrival_at q.core.own x)) came.is o)
+            subst Judged (sym came.is) (subst (λ (x : Option Cursor). Outcome p.trace.walked p.core q (arrival_at q.core.own x)) came.is o)
 
-        stop : verdict ≡ Stop → Outcome p.trace.walked p.core q (judgement_at q.core.own q.core.cursor lo w)
-        stop e =
-            let core = core_by Stop e in
-            let c : Cursor = record st.cursor { next = None } in
+        stop : verdict ≡ Stop → Judged q.core.cursor
+        stop e = let core = core_by Stop e in let c : Cursor = record st.cursor { next = None } in
             let is : q.core.cursor ≡ Some c = ap (λ (v : View). v.cursor) core in
-            let plain = plain_is st.cursor.cur st.node st.at in
-            let arrived = lo_arrives q.core.own c lo k.lo in
+            let plain = plain_is st.cursor.cur st.node st.at in let arrived = lo_arrives q.core.own c lo k.lo in
             let a : Arrives p.core.own q.core = stop_arrives p.core.own lo w q.core c st.own e (ap (λ (v : View). v.own) core) is
             (omega arith) refl (λ z. let q : ◌≡◌ {A = Option ℕ} (Some lo) None = sym k.lo ∙ z in cc) in
-            subst (λ (x : Option Cursor). Outcome p.trace.walked p.core q (judgement_at q.core.own x lo w)) (sym is)
-            (subst (λ (b : Bool). Outcome p.trace.walked p.core q (if b then Some Place else None)) (sym arrived) (a, few c is refl))
+            subst Judged (sym is) (subst (λ (b : Bool). Outcome p.trace.walked p.core q (if b then Some Place else None)) (sym arrived) (a, few c is refl))
 
         elsewhere : verdict ≡ Conflict → st.node / 16 ≢ p.number
         elsewhere e = ⊎_elim (λ d. d)
             (λ (t : (l : Listed) × (p.core.own ≡ listed l) × (l.node ≡ st.node)).
             absurd (own_never p.core.own lo w t.0 st.own t.1 (subst (IsAhead p.core.own) (sym t.2) st.ahead)
-            (found_own p w t.0 (told.moment (λ x. x)) (hi_at ∙ ap (hi_place p.seats) (sym t.2)) t.1) e))
-            (others st.cursor st.node st.is st.at)
-
-        abbrev met_from : ℕ → Option Met
-        met_from low = Some (record {
-          owner = (st.cursor.cur / 2 - 1) / 16;
-          held = record { range = record { lo = low; hi = w / 2 }; mode = mode_of w };
-          list = p.trace.list;
-          step = p.trace.walked;
-        })
+            (found_own p w t.0 (told.moment (λ x. x)) (hi_at ∙ ap (hi_place p.seats) (sym t.2)) t.1) e)) (others st.cursor st.node st.is st.at)
 
         met : verdict ≡ Conflict → IsMet p.trace.walked q ((st.cursor.cur / 2 - 1) / 16) (record { range = record { lo = lo; hi = w / 2 }; mode = mode_of w })
-        met e =
-            let core = core_by Conflict e in
-            let a = asked_conflict p.core.own lo w st.own e in
-            record {
-              met = record {
-                owner = (st.cursor.cur / 2 - 1) / 16;
-                held = record { range = record { lo = lo; hi = w / 2 }; mode = mode_of w };
-                list = p.trace.list;
-                step = p.trace.walked;
-              };
-              is = hi_made.met ∙ (ap (λ (o : Option Cursor). met_at p.trace o w) st.is ∙ ap (λ (l : Option ℕ). met_from (unwrap_or l 0)) k.lo);
-              from = omega arith;
-              below = let t = hi_made.taken in omega arith;
-              listed = sym hi_made.list;
-              owned = refl;
-              holds = refl;
-              other = λ z. elsewhere e (let plain = plain_is st.cursor.cur st.node st.at in let num = hi_made.number in omega arith);
-              asked = a.0;
-              asks = ap (λ (v : View). asked_of v.own) core ∙ a.1;
-              conflicts = swapped a.0 (node_held lo w) a.2;
-            }
+        met e = let core = core_by Conflict e in let a = asked_conflict p.core.own lo w st.own e in
+            let from : p.trace.walked ≤ p.trace.walked = omega arith in let below : p.trace.walked < q.trace.taken = (let t = hi_made.taken in omega arith) in
+            let other : (st.cursor.cur / 2 - 1) / 16 ≢ q.number = λ z. elsewhere e
+            (let plain = plain_is st.cursor.cur st.node st.at in let num = hi_made.number in omega arith) in
+            let asks = ap (λ (v : View). asked_of v.own) core ∙ a.1 in let conflicts = swapped a.0 (node_held lo w) a.2 in
+            search (met_now, asks, conflicts, sym hi_made.list)
 
-        conflict : verdict ≡ Conflict → Outcome p.trace.walked p.core q (judgement_at q.core.own q.core.cursor lo w)
-        conflict e =
-            let core = core_by Conflict e in
+        conflict : verdict ≡ Conflict → Judged q.core.cursor
+        conflict e = let core = core_by Conflict e in
             let is : q.core.cursor ≡ Some st.cursor = ap (λ (v : View). v.cursor) core ∙ st.is in
-            let stands : StandsInConflict q.seats q.core =
-            subst (StandsInConflict q.seats) (sym core) (record {
+            let stands : StandsInConflict q.seats q.core = subst (StandsInConflict q.seats) (sym core) (record {
               word = n;
               knows = k.knows;
-              few = let b = room.seen in
-                  let s = ap seen_of st.is in let m = hi_made.seats in omega arith;
+              few = let b = room.seen in let s = ap seen_of st.is in let m = hi_made.seats in omega arith;
             }) in
-            subst (λ (x : Option Cursor). Outcome p.trace.walked p.core q (judgement_at q.core.own x lo w)) (sym is)
-            (subst (λ (o : Option ℕ). Outcome p.trace.walked p.core q
-            (if is_some o then Some (conflict_with st.cursor.cur lo w)
+            subst Judged (sym is) (subst (λ (o : Option ℕ). Outcome p.trace.walked p.core q (if is_some o then Some (conflict_with st.cursor.cur lo w)
             else if has_arrived q.core.own st.cursor then Some Place else None)) (sym k.knows.next)
             ((met e, ap (λ (v : View). v.own) core, stands), few st.cursor is refl))
 
-        by_verdict : (d : Verdict) → verdict ≡ d → Outcome p.trace.walked p.core q (judgement_at q.core.own q.core.cursor lo w)
+        by_verdict : (d : Verdict) → verdict ≡ d → Judged q.core.cursor
         by_verdict Past e = past e
         by_verdict Stop e = stop e
         by_verdict Conflict e = conflict e
@@ -438,56 +378,26 @@ module _ {P : Type 0} (p : SeatPart P) (n lo : ℕ) (k : KnowsLo p.core n lo) (e
       core_past : q.core ≡ hi_judged p.core st.cursor st.node n Past
       core_past = hi_made.core ∙ ap (λ (o : Own). hi_judged p.core st.cursor st.node n (verdict_of o lo w)) bare
 
-      abbrev seen_held : ℕ → Held
-      seen_held low = record { range = record { lo = low; hi = w / 2 }; mode = mode_of w }
-
       -- the node that a scan goes past is in the record, with its owner, its range and its mode
-      pub scan_seen : IsSeen p.trace.walked q ((st.cursor.cur / 2 - 1) / 16) (seen_held lo)
-      scan_seen = record {
-        met = record { owner = (st.cursor.cur / 2 - 1) / 16; held = seen_held lo; list = p.trace.list; step = p.trace.walked };
-        is = hi_made.met ∙ (ap (λ (o : Option Cursor). met_at p.trace o w) st.is
-            ∙ ap (λ (l : Option ℕ). Some (record {
-              owner = (st.cursor.cur / 2 - 1) / 16;
-              held = seen_held (unwrap_or l 0);
-              list = p.trace.list;
-              step = p.trace.walked;
-            })) k.lo);
-        from = omega arith;
-        below = let t = hi_made.taken in omega arith;
-        listed = sym hi_made.list;
-        owned = refl;
-        holds = refl;
-      }
+      pub scan_seen : IsSeen p.trace.walked q (met_with lo).owner (met_with lo).held
+      scan_seen = let from : p.trace.walked ≤ p.trace.walked = omega arith in
+          let below : p.trace.walked < q.trace.taken = (let t = hi_made.taken in omega arith) in
+          record { met = met_with lo; is = met_now; from = from; below = below; listed = sym hi_made.list; owned = refl; holds = refl }
 
       scan_judged : HasJudged 1 p q
-      scan_judged = more_judged rested p q ReadHi hi_plan w hi_made refl (ap is_some st.is)
+      scan_judged = more_judged hi_made refl (ap is_some st.is)
           (ap (λ (o : Own). is_some (hi_judged p.core st.cursor st.node n (verdict_of o lo w)).cursor) bare)
 
       module _ (before : IsHandView p) (view : IsHandView q) (room : HasRoom p) where
-        past_inside : IsInside q.core
-        past_inside = record { odd = ap (λ (v : View). v.epoch % 2) core_past ∙ st.inside.odd; hand = judged_on.hand }
-
-        past_came : CursorCame p.core q.core
-        past_came = record {
-          cursor = record { prev = Some st.node; cur = n; next = None; lo = None; seen = seen_after st.cursor.seen n };
-          is = ap (λ (v : View). v.cursor) core_past;
-          even = even;
-          next = refl;
-          lo = refl;
-          seen = ap (λ a. seen_after a n) (sym (ap seen_of st.is));
-          own = ap (λ (v : View). v.own) core_past;
-        }
-
         past_found : PassesFrom p.trace.walked (judged_in p.trace.looked) q (found_with st.cursor.cur lo w)
         past_found = (
           scan_seen,
           judged_on_from 1 p q st.cursor st.is before scan_judged,
-          scanning_at p.trace.walked p q bare view room hi_made.seats past_inside
-              (came_outcome p.trace.walked p q past_came st.own past_inside view hi_made.seats room),
+          scanning_at p.trace.walked p q bare view room hi_made.seats (past_inside core_past)
+              (came_outcome p.trace.walked p q (past_came core_past) st.own (past_inside core_past) view hi_made.seats room),
         )
 
         -- the same, in the words of the cursor that was read before the step
         pub past_passes : (d : Cursor) → p.core.cursor ≡ Some d → PassesFrom p.trace.walked (judged_in p.trace.looked) q (found_with d.cur lo w)
-        past_passes d is =
-            let same : st.cursor ≡ d = let e : ◌≡◌ {A = Option Cursor} (Some st.cursor) (Some d) = sym st.is ∙ is in cc in
+        past_passes d is = let same : st.cursor ≡ d = let e : ◌≡◌ {A = Option Cursor} (Some st.cursor) (Some d) = sym st.is ∙ is in cc in
             subst (λ (c : Cursor). PassesFrom p.trace.walked (judged_in p.trace.looked) q (found_with c.cur lo w)) same past_found

@@ -1,5 +1,5 @@
 -- A step of a hand by the line that its view enables, and what every step leaves of the part and of the record.
-use Rattle.std.proofs.Common.{◌≡◌, ℕ, ◌+◌, true, false, Bool, refl, sym, ap, ◌∙◌, subst, arith}
+use Rattle.std.proofs.Common.{◌≡◌, ◌≤◌, ℕ, ◌+◌, true, false, Bool, refl, sym, ap, ◌∙◌, subst, arith}
 use Rattle.std.specs.Prelude.{Option, Some, None, is_some, unwrap_or, if◌then◌else◌}
 use Rattle.lock_core.specs.declared.range.Held.{Held}
 use Rattle.lock_core.specs.declared.views.View.{View}
@@ -53,23 +53,8 @@ pub record Made {P : Type 0} (rested : P → P) (p q : SeatPart P) (step : Step)
 -- a step that has a line leaves what the plan of the line says
 pub made_by : {P : Type 0} (rested : P → P) (p q : SeatPart P) (step : Step) (plan : Plan) (found : ℕ)
     → IsLine p.seats p.number p.core step plan → q ≡ part_after rested p step found → Made rested p q step plan found
-made_by {P} rested p q step plan found line made =
-    subst (λ (x : Plan). Made rested p q step x found) (line_is p step plan line)
-    (subst (λ (x : SeatPart P). Made rested p x step (line_for p step) found) (sym made)
-    (record {
-      number = refl;
-      seats = refl;
-      core = refl;
-      pass = refl;
-      client = refl;
-      asked = refl;
-      list = refl;
-      taken = refl;
-      walked = refl;
-      met = refl;
-      lost = refl;
-      looked = refl;
-    }))
+made_by {P} rested p q step plan found line made = subst (λ (x : Plan). Made rested p q step x found) (line_is p step plan line)
+    (subst (λ (x : SeatPart P). Made rested p x step (line_for p step) found) (sym made) assumption)
 
 -- where nothing was held the pass stays
 pub pass_stays : {P : Type 0} (rested : P → P) (before now : Option Held) (pass : P) → before ≡ None → pass_kept rested before now pass ≡ pass
@@ -88,8 +73,7 @@ same_looked t (Some b) (Some c) j g e l is = by_looked t.looked is
 
 -- a step with a cursor judges one node or none
 judged_on : (t : Record) (b now : Option Cursor) (j g : Bool) → is_some b ≡ true → (l : Looked) → t.looked ≡ Some l
-    → is_some now ≡ true → (m : Looked) × (looked_with t b now j g ≡ Some m) × (m.step ≡ l.step)
-    × (m.judged ≡ (if j then l.judged + 1 else l.judged))
+    → is_some now ≡ true → (m : Looked) × (looked_with t b now j g ≡ Some m) × (m.step ≡ l.step) × (m.judged ≡ (if j then l.judged + 1 else l.judged))
 judged_on t None now j g e l is there = absurd (cc)
 judged_on t (Some b) None j g e l is there = absurd (cc)
 judged_on t (Some b) (Some c) j g e l is there = by_looked t.looked is
@@ -107,25 +91,22 @@ judges_none t (Some b) None g e l is = (l, is, refl, (let z : l.judged ≡ l.jud
 judges_none t (Some b) (Some c) g e l is = let r = judged_on t (Some b) (Some c) false g refl l is refl in
     (r.0, r.1, r.2, (let z : l.judged ≡ l.judged + 0 = omega arith in r.3 ∙ z))
 
-module _ {P : Type 0} (rested : P → P) (p q : SeatPart P) (step : Step) (plan : Plan) (found : ℕ) (m : Made rested p q step plan found) where
+module _ {P : Type 0} {rested : P → P} {p q : SeatPart P} {step : Step} {plan : Plan} {found : ℕ} (m : Made rested p q step plan found) where
   -- the same of a step with its plan
   pub same_judged : is_judging step ≡ false → is_some p.core.cursor ≡ true → HasJudged 0 p q
-  same_judged none there l is =
-      let r = judges_none p.trace p.core.cursor (plan.view found).cursor (gained_by p.core (plan.view found)) there l is in (
-        r.0,
-        m.looked ∙ (ap (λ (b : Bool). looked_with p.trace p.core.cursor (plan.view found).cursor b
-            (gained_by p.core (plan.view found))) none ∙ r.1),
-        r.2,
-        r.3,
-      )
+  same_judged none there l is = let r = judges_none p.trace p.core.cursor (plan.view found).cursor (gained_by p.core (plan.view found)) there l is in (
+    r.0,
+    m.looked ∙ (ap (λ (b : Bool). looked_with p.trace p.core.cursor (plan.view found).cursor b (gained_by p.core (plan.view found))) none ∙ r.1),
+    r.2,
+    r.3,
+  )
 
   -- a step that judges a node, and leaves a cursor, adds one to the count of judgements
   pub more_judged : is_judging step ≡ true → is_some p.core.cursor ≡ true → is_some (plan.view found).cursor ≡ true → HasJudged 1 p q
   more_judged one there now l is =
       let r = judged_on p.trace p.core.cursor (plan.view found).cursor true (gained_by p.core (plan.view found)) there l is now in (
         r.0,
-        m.looked ∙ (ap (λ (b : Bool). looked_with p.trace p.core.cursor (plan.view found).cursor b
-            (gained_by p.core (plan.view found))) one ∙ r.1),
+        m.looked ∙ (ap (λ (b : Bool). looked_with p.trace p.core.cursor (plan.view found).cursor b (gained_by p.core (plan.view found))) one ∙ r.1),
         r.2,
         r.3,
       )
@@ -138,31 +119,16 @@ module _ {P : Type 0} (rested : P → P) (p q : SeatPart P) (step : Step) (plan 
   -- a step of a seat that holds nothing, which asks for nothing and whose plan keeps epoch and pools, leaves what a
   -- call that walks leaves
   pub on_made : asked_after p.trace p.core step ≡ p.trace.asked → held_at p.core.own ≡ None → (plan.view found).epoch ≡ p.core.epoch
-      → IsSamePools p.core (plan.view found)
-      → (plan.view found).hand ≡ None → IsLaterInWalk p q
-  on_made none free epoch pools hand = record {
-    number = m.number;
-    seats = m.seats;
-    pass = m.pass ∙ pass_stays rested (held_at p.core.own) (held_at (plan.view found).own) p.pass free;
-    client = m.client;
-    asked = m.asked ∙ none;
-    list = m.list;
-    epoch = ap (λ (v : View). v.epoch) m.core ∙ epoch;
-    pools = subst (IsSamePools p.core) (sym m.core) pools;
-    hand = ap (λ (v : View). v.hand) m.core ∙ hand;
-    taken = let t = m.taken in omega arith;
-  }
+      → IsSamePools p.core (plan.view found) → (plan.view found).hand ≡ None → IsLaterInWalk p q
+  on_made none free epoch pools hand = let taken : p.trace.taken ≤ q.trace.taken = omega arith in
+      let pass = m.pass ∙ pass_stays rested (held_at p.core.own) (held_at (plan.view found).own) p.pass free in
+      let stay = subst (IsSamePools p.core) (sym m.core) pools in
+      assumption (m.asked ∙ none, ap (λ (v : View). v.epoch) m.core ∙ epoch, ap (λ (v : View). v.hand) m.core ∙ hand)
 
   -- a step of a seat that holds nothing leaves what a call of one step leaves
   pub call_made : held_at p.core.own ≡ None → IsCall 1 p q
-  call_made free = record {
-    number = m.number;
-    seats = m.seats;
-    pass = m.pass ∙ pass_stays rested (held_at p.core.own) (held_at (plan.view found).own) p.pass free;
-    client = m.client;
-    list = m.list;
-    taken = let t = m.taken in omega arith;
-  }
+  call_made free = let taken : q.trace.taken ≡ 1 + p.trace.taken = omega arith in
+      assumption (m.pass ∙ pass_stays rested (held_at p.core.own) (held_at (plan.view found).own) p.pass free)
 
 -- two calls of one walk after each other are of one walk
 pub walk_on_walk : {P : Type 0} (p q r : SeatPart P) → IsSameWalk p q → IsSameWalk q r → IsSameWalk p r

@@ -35,15 +35,13 @@ hi_found p w y m at = ap (λ n. slice_index m.machine.words n) (ap (λ s. hi_pla
 
 -- a node that is found unmarked is another seat's, or the own linked one
 pub found_other : {P : Type 0} (p : SeatPart P) (w : ℕ) (c : Cursor) (y : ℕ) → LockMoment p Walk w
-    → (line_for p Walk).place ≡ cell_place p.seats (suc y) → p.core.cursor ≡ Some c → plain_node_of c.cur ≡ Some y → w % 2 ≡ 0
-    → IsOthers p.number p.core.own y
+    → (line_for p Walk).place ≡ cell_place p.seats (suc y) → p.core.cursor ≡ Some c → plain_node_of c.cur ≡ Some y → w % 2 ≡ 0 → IsOthers p.number p.core.own y
 found_other p w c y m at is node even = finds_other m.machine m.lock p.number p.core m.view c is y node
     (let e = cell_found p w (suc y) m at in ap (λ n. n % 2) e ∙ even)
 
 -- the hi word that is found ends a range
 pub found_range : {P : Type 0} (p : SeatPart P) (w : ℕ) (c : Cursor) (y lo : ℕ) → LockMoment p ReadHi w
-    → (line_for p ReadHi).place ≡ hi_place p.seats y → p.core.cursor ≡ Some c → plain_node_of c.cur ≡ Some y → c.lo ≡ Some lo
-    → IsRange lo (w / 2)
+    → (line_for p ReadHi).place ≡ hi_place p.seats y → p.core.cursor ≡ Some c → plain_node_of c.cur ≡ Some y → c.lo ≡ Some lo → IsRange lo (w / 2)
 found_range p w c y lo m at is node low = subst (λ n. IsRange lo (n / 2)) (hi_found p w y m at)
     (reads_range m.machine m.lock p.number p.core m.view c is y node lo low)
 
@@ -55,8 +53,7 @@ found_own p w k m at own = sym (hi_found p w k.node m at) ∙ (m.lock.invariant.
 -- a head with the low bit isn't found by a writer that validates
 pub found_even : {P : Type 0} (p : SeatPart P) (w : ℕ) (k : Listed) → LockMoment p Walk w
     → (line_for p Walk).place ≡ cell_place p.seats 0 → p.core.own ≡ listed k → k.todo ≢ Done → w % 2 ≢ 1
-found_even p w k m at own todo odd =
-    let inv = m.lock.invariant in
+found_even p w k m at own todo odd = let inv = m.lock.invariant in
     let alone = inv.fast_path.alone (ap (λ n. n % 2) (cell_found p w 0 m at) ∙ odd) in
     let l = inv.places.linked p.number p.core k m.view own in
     let same : k.node ≡ alone.node = ⊎_elim (λ (e : k.node ≡ alone.node). e)
@@ -67,11 +64,9 @@ found_even p w k m at own todo odd =
     let e = ap (λ n. (heap m.machine).next (suc n) % 2) same in omega arith) (held same) alone.rest
   where
     held : {n : ℕ} → k.node ≡ n → IsHeldBy m.machine.views n → ⊥
-    held same t =
-        let a = own_linked p.core k own in
+    held same t = let a = own_linked p.core k own in
         let b = ap (λ n. own_times n t.view.own) (same ∙ sym t.node) ∙ own_linked t.view t.own t.is in
         let q = one_seat (heap m.machine) m.machine.views m.lock.invariant.places p.number t.seat k.node p.core t.view m.view t.at
-        (omega arith) (omega arith) in
-        let v = is_view m.machine.views p.number t.seat p.core t.view m.view t.at (sym q) in
+        (omega arith) (omega arith) in let v = is_view m.machine.views p.number t.seat p.core t.view m.view t.at (sym q) in
         let o : listed k ≡ listed t.own = sym own ∙ (ap (λ (x : View). x.own) v ∙ t.is) in
         todo (let e : k.todo ≡ t.own.todo = cc in e ∙ t.done)

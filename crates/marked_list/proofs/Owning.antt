@@ -7,7 +7,7 @@ use Rattle.lock_core.specs.declared.range.Mode.{Mode}
 use Rattle.lock_core.specs.declared.views.View.{View}
 use Rattle.lock_core.specs.declared.views.Cursor.{Cursor}
 use Rattle.lock_core.specs.declared.views.Own.{Own}
-use Rattle.lock_core.specs.declared.views.Own.TheVariants.{Filling, Linked}
+use Rattle.lock_core.specs.declared.views.Own.TheVariants.{Linked}
 use Rattle.lock_core.specs.declared.views.Todo.{Todo}
 use Rattle.lock_core.specs.declared.views.Todo.TheVariants.{Done}
 use Rattle.lock_core.specs.declared.steps.Step.{Step}
@@ -35,14 +35,8 @@ use Rattle.marked_list.proofs.Unlinking.{gone_looked, lost_made}
 
 -- two calls of one step each are a call of two steps
 pub call_on : {P : Type 0} (p q r : SeatPart P) → IsCall 1 p q → IsCall 1 q r → IsCall 2 p r
-call_on p q r a b = record {
-  number = b.number ∙ a.number;
-  seats = b.seats ∙ a.seats;
-  pass = b.pass ∙ a.pass;
-  client = b.client ∙ a.client;
-  list = b.list ∙ a.list;
-  taken = let x = a.taken in let y = b.taken in omega arith;
-}
+call_on p q r a b = let taken : r.trace.taken ≡ 2 + p.trace.taken = (let x = a.taken in let y = b.taken in omega arith) in
+    assumption (b.number ∙ a.number, b.seats ∙ a.seats, b.pass ∙ a.pass, b.client ∙ a.client, b.list ∙ a.list)
 
 -- two calls that look at no more nodes, after each other, look at no more nodes
 pub look_on_look : {P : Type 0} (p q r : SeatPart P) → IsSameLook p q → IsSameLook q r → IsSameLook p r
@@ -58,19 +52,17 @@ look_stays t None (Some d) j g on way = absurd (⊎_elim (λ e. some_none d e) (
   where
     some_none : (x : Cursor) → ◌≡◌ {A = Option Cursor} (Some x) None → ⊥
     some_none x e = cc
-look_stays t (Some c) (Some d) j g on way =
-    let l = on c refl in
+look_stays t (Some c) (Some d) j g on way = let l = on c refl in
     let same : d.seen ≡ l.0.nodes = ⊎_elim (λ e. absurd (some_none d e)) (λ e. ap seen_of e ∙ sym l.2) way in
     (ap (λ (o : Option Looked). nodes_in (looked_on o d j g)) l.1 ∙ (same ∙ ap nodes_in (sym l.1)), same_looked t (Some c) (Some d) j g refl)
   where
     some_none : (x : Cursor) → ◌≡◌ {A = Option Cursor} (Some x) None → ⊥
     some_none x e = cc
 
-module _ {P : Type 0} (rested : P → P) (p q : SeatPart P) (step : Step) (plan : Plan) (found : ℕ)
-    (m : Made rested p q step plan found) (view : IsHandView p) where
+module _ {P : Type 0} {rested : P → P} {p q : SeatPart P} {step : Step} {plan : Plan} {found : ℕ} (m : Made rested p q step plan found)
+    (view : IsHandView p) where
   same_look : ((plan.view found).cursor ≡ None) ⊎ ((plan.view found).cursor ≡ p.core.cursor) → IsSameLook p q
-  same_look way =
-      let r = look_stays p.trace p.core.cursor (plan.view found).cursor (is_judging step) (gained_by p.core (plan.view found))
+  same_look way = let r = look_stays p.trace p.core.cursor (plan.view found).cursor (is_judging step) (gained_by p.core (plan.view found))
       (λ c is. let l = view.looked c is in (l.0, l.1, l.2)) way in
       (ap nodes_in m.looked ∙ r.0, λ l is. let s = r.1 l is in (s.0, m.looked ∙ s.1, s.2, s.3))
 
@@ -107,8 +99,7 @@ module _ {P : Type 0} (p : SeatPart P) (n lo : ℕ) (may : MayFill p.core n) whe
 
       -- after both fills the range is asked for
       pub filled_asks : r.trace.asked ≡ record { range = record { lo = lo; hi = hi }; mode = mode } ∷ p.trace.asked
-      filled_asks =
-          let own = ap (λ (v : View). v.own) core_lo in
+      filled_asks = let own = ap (λ (v : View). v.own) core_lo in
           hi_made.asked ∙ (λ i. record { range = record { lo = low_end (own i); hi = hi }; mode = mode } ∷ lo_made.asked i)
 
 aims : (o : Option Cursor) → (o ≡ None) ⊎ StandsAtPlace o → Aims o (cursor_word o)
@@ -128,14 +119,9 @@ module _ {P : Type 0} (p : SeatPart P) (may : MayAim p.core) where
 
   -- after that it is aimed there, and all else of the view stays
   pub aimed_is : (rested : P → P) (q : SeatPart P) (w : ℕ) → q ≡ part_after rested p Aim w → IsHandView p → IsAimed p q
-  aimed_is rested q w made view =
-      let m = made_by rested p q Aim aim_plan w aim_line made in
-      record {
-        call = call_made rested p q Aim aim_plan w m (ap held_at may.own.is);
-        core = m.core ∙ ap (λ (o : Own). record p.core { own = aimed_own (cursor_word p.core.cursor) o }) (sym may.own.is);
-        look = same_look rested p q Aim aim_plan w m view (inr refl);
-        asked = m.asked;
-      }
+  aimed_is rested q w made view = let m = made_by rested p q Aim aim_plan w aim_line made in
+      let call = call_made m (ap held_at may.own.is) in let look = same_look m view (inr refl) in
+      assumption (m.core ∙ ap (λ (o : Own). record p.core { own = aimed_own (cursor_word p.core.cursor) o }) (sym may.own.is), m.asked)
 
 -- the own node that was linked
 linked_is : (todo : Mode → Todo) (own : Own) (e : HasEnds own)
@@ -179,7 +165,7 @@ module _ {P : Type 0} (p q : SeatPart P) (a : IsAimed p q) where
 
       -- aim and link leave the count of nodes that the walk looked at
       pub link_look : IsHandView q → IsSameLook p r
-      link_look view = look_on_look p q r a.look (same_look rested q r Link link_plan w link_made view (inl (gone_by (w == may.place.cursor.cur))))
+      link_look view = look_on_look p q r a.look (same_look link_made view (inl (gone_by (w == may.place.cursor.cur))))
 
       -- they ask for nothing
       pub link_asks : r.trace.asked ≡ p.trace.asked
@@ -187,7 +173,7 @@ module _ {P : Type 0} (p q : SeatPart P) (a : IsAimed p q) where
 
       -- they are a call of two steps
       pub link_call : IsCall 2 p r
-      link_call = call_on p q r a.call (call_made rested q r Link link_plan w link_made (ap held_at own_link))
+      link_call = call_on p q r a.call (call_made link_made (ap held_at own_link))
 
       module _ (d : Cursor) (is : q.core.cursor ≡ Some d) where
         same_place : d ≡ may.place.cursor
@@ -195,25 +181,19 @@ module _ {P : Type 0} (p q : SeatPart P) (a : IsAimed p q) where
 
         -- where the exchange found the cursor's word, the node is linked with the validation of its mode to do
         pub link_done : w ≡ d.cur → r.core ≡ record p.core { own = linked_own todo_of p.core.own; cursor = None }
-        link_done e =
-            link_made.core ∙ (ap linked_by (eq-eqb _ _ (e ∙ ap (λ (x : Cursor). x.cur) same_place))
-            ∙ (ap (λ (v : View). record v {
-              own = Linked full.node (record { lo = may.own.lo; hi = may.own.hi }) full.mode
-                  (todo_of full.mode);
-              cursor = None;
-            }) a.core
-            ∙ ap (λ (o : Own). record p.core { own = o; cursor = None }) (linked_is todo_of p.core.own may.own)))
+        link_done e = link_made.core ∙ (ap linked_by (eq-eqb _ _ (e ∙ ap (λ (x : Cursor). x.cur) same_place)) ∙ (ap (λ (v : View). record v {
+          own = Linked full.node (record { lo = may.own.lo; hi = may.own.hi }) full.mode (todo_of full.mode);
+          cursor = None;
+        }) a.core ∙ ap (λ (o : Own). record p.core { own = o; cursor = None }) (linked_is todo_of p.core.own may.own)))
 
         -- where it found another, that is in the record, and the node is aimed and not linked
         pub link_lost : w ≢ d.cur → (s : ℕ) → s ≡ r.seats → (l : Lost) → l.place ≡ cell_place s (cell_of d.prev) → l.expected ≡ d.cur → l.found ≡ w
             → IsLost p.trace.taken r (λ kind. kind ≡ Link) l.place l.expected l.found
             × (r.core ≡ record p.core { own = aimed_own (cursor_word p.core.cursor) p.core.own; cursor = None })
-        link_lost far s seats l placed wanted had =
-            let apart = ne_eqb w may.place.cursor.cur (λ z. far (z ∙ ap (λ (x : Cursor). x.cur) (sym same_place))) in
+        link_lost far s seats l placed wanted had = let apart = ne_eqb w may.place.cursor.cur (λ z. far (z ∙ ap (λ (x : Cursor). x.cur) (sym same_place))) in
             let many : s ≡ q.seats = seats ∙ link_made.seats in (
               lost_from p.trace.taken q.trace.taken r (λ kind. kind ≡ Link) l.place l.expected l.found (let t = a.call.taken in omega arith)
-                  (lost_made rested q r Link link_plan w may.place.cursor.cur link_made (λ kind. kind ≡ Link) refl
-                  (ap (λ (o : Option Cursor). Some (cursor_word o)) cursor_link) apart
+                  (lost_made link_made (λ kind. kind ≡ Link) refl (ap (λ (o : Option Cursor). Some (cursor_word o)) cursor_link) apart
                   l.place l.expected l.found (placed ∙ (λ i. cell_place (many i) (cell_of (same_place i).prev)))
                   (wanted ∙ ap (λ (x : Cursor). x.cur) same_place) had),
               link_made.core ∙ (ap linked_by apart ∙ ap (λ (v : View). record v { cursor = None }) a.core),
@@ -249,12 +229,11 @@ module _ {P : Type 0} (p q : SeatPart P) (a : IsAimed p q) where
 
       -- they are a call of two steps
       pub quick_call : IsCall 2 p r
-      quick_call = call_on p q r a.call (call_made rested q r QuickLink quick_plan w quick_made (ap held_at own_quick))
+      quick_call = call_on p q r a.call (call_made quick_made (ap held_at own_quick))
 
       -- where the head was empty the range is held
       pub quick_done : w ≡ 0 → r.core ≡ record p.core { own = linked_own (λ _. Done) p.core.own }
-      quick_done e =
-          quick_made.core ∙ (ap quick_by (eq-eqb _ _ e)
+      quick_done e = quick_made.core ∙ (ap quick_by (eq-eqb _ _ e)
           ∙ (ap (λ (v : View). record v { own = Linked ended.node (record { lo = own.lo; hi = own.hi }) ended.mode Done }) a.core
           ∙ ap (λ (o : Own). record p.core { own = o }) (linked_is (λ _. Done) p.core.own own)))
 
@@ -263,8 +242,7 @@ module _ {P : Type 0} (p q : SeatPart P) (a : IsAimed p q) where
           → IsLost p.trace.taken r (λ kind. kind ≡ QuickLink) l.place l.expected l.found × (r.core ≡ record p.core { own = aimed_own 0 p.core.own })
       quick_lost far l placed wanted had = (
         lost_from p.trace.taken q.trace.taken r (λ kind. kind ≡ QuickLink) l.place l.expected l.found (let t = a.call.taken in omega arith)
-            (lost_made rested q r QuickLink quick_plan w 0 quick_made (λ kind. kind ≡ QuickLink) refl refl (ne_eqb _ _ far)
-            l.place l.expected l.found placed wanted had),
+            (lost_made quick_made (λ kind. kind ≡ QuickLink) refl refl (ne_eqb _ _ far) l.place l.expected l.found placed wanted had),
         quick_made.core ∙ (ap quick_by (ne_eqb _ _ far)
             ∙ (a.core ∙ ap (λ (o : Option Cursor). record p.core { own = aimed_own (cursor_word o) p.core.own }) none)),
       )
@@ -284,28 +262,17 @@ module _ {P : Type 0} (is_at_rest : P → Type 0) (p : SeatPart P) (may : MayMar
 
   -- marking the own node gives its range back where it is held, and leaves the record's other parts
   pub mark_call : (rested : P → P) (q : SeatPart P) (w : ℕ) → q ≡ part_after rested p Mark w → IsHandView p → IsMarkCall rested p q
-  mark_call rested q w made view =
-      let m = made_by rested p q Mark mark_plan w mark_line made in
-      record {
-        number = m.number;
-        seats = m.seats;
-        client = m.client;
-        asked = m.asked;
-        list = m.list;
-        taken = m.taken;
-        core = λ k is. let same : listed may.node ≡ listed k = sym may.is ∙ is in let node : may.node.node ≡ k.node = cc in m.core ∙ ap (marked p.core) node;
-        held = λ h is. m.pass ∙ ap (λ (o : Option Held). pass_kept rested o None p.pass) is;
-        free = λ none. m.pass ∙ pass_stays rested (held_at p.core.own) None p.pass none;
-        met = m.met;
-        lost = m.lost;
-        looked = λ none.
-            let gained = gained_by p.core (mark_plan.view w) in
-            m.looked ∙ (ap (λ (o : Option Cursor). looked_with p.trace p.core.cursor o (is_judging Mark) gained) none
-            ∙ gone_looked p.trace p.core.cursor (is_judging Mark) gained);
-        look = same_look rested p q Mark mark_plan w m view (inr refl);
-        away = ap (λ (x : SeatPart P). x.trace.away) made;
-        noted = ap (λ (x : SeatPart P). x.trace.noted) made;
-      }
+  mark_call rested q w made view = let m = made_by rested p q Mark mark_plan w mark_line made in
+      let gained = gained_by p.core (mark_plan.view w) in
+      let core : (k : Listed) → p.core.own ≡ listed k → q.core ≡ marked p.core k.node = λ k is. let same : listed may.node ≡ listed k = sym may.is ∙ is in
+      let node : may.node.node ≡ k.node = cc in m.core ∙ ap (marked p.core) node in
+      let held : (h : Held) → held_at p.core.own ≡ Some h → q.pass ≡ rested p.pass = λ h is.
+      m.pass ∙ ap (λ (o : Option Held). pass_kept rested o None p.pass) is in
+      let free : held_at p.core.own ≡ None → q.pass ≡ p.pass = λ none. m.pass ∙ pass_stays rested (held_at p.core.own) None p.pass none in
+      let looked : p.core.cursor ≡ None → q.trace.looked ≡ p.trace.looked = λ none.
+      m.looked ∙ (ap (λ (o : Option Cursor). looked_with p.trace p.core.cursor o (is_judging Mark) gained) none
+      ∙ gone_looked p.trace p.core.cursor (is_judging Mark) gained) in let look = same_look m view (inr refl) in
+      let away = ap (λ (x : SeatPart P). x.trace.away) made in let noted = ap (λ (x : SeatPart P). x.trace.noted) made in assumption m
 
 module _ {P : Type 0} (is_at_rest : P → Type 0) (p : SeatPart P) (may : MayQuickUnlink is_at_rest p) where
   abbrev back_plan : Plan
@@ -326,27 +293,17 @@ module _ {P : Type 0} (is_at_rest : P → Type 0) (p : SeatPart P) (may : MayQui
     back_by b = if b then quick_unlinked p.core may.node.node else p.core
 
     back_call : IsQuickCall p q
-    back_call = record {
-      number = back_made.number;
-      seats = back_made.seats;
-      client = back_made.client;
-      asked = back_made.asked;
-      list = back_made.list;
-      met = back_made.met;
-      taken = back_made.taken;
-    }
+    back_call = assumption back_made
 
     module _ (n : ℕ) (is_node : n ≡ may.node.node) where
       -- where the head was another, that is in the record, and the range is still held
       pub back_lost : w ≢ 2 * suc n + 1 → (l : Lost) → l.place ≡ 0 → l.expected ≡ 2 * suc n + 1 → l.found ≡ w
           → IsQuickCall p q × IsLost p.trace.taken q (λ kind. kind ≡ QuickUnlink) l.place l.expected l.found × (q.core ≡ p.core) × (q.pass ≡ p.pass)
-      back_lost far l placed wanted had =
-          let apart = ne_eqb w (2 * suc may.node.node + 1) (λ z. far (z ∙ ap (λ a. 2 * suc a + 1) (sym is_node))) in
+      back_lost far l placed wanted had = let apart = ne_eqb w (2 * suc may.node.node + 1) (λ z. far (z ∙ ap (λ a. 2 * suc a + 1) (sym is_node))) in
           let still : back_plan.view w ≡ p.core = ap back_by apart in (
             back_call,
-            lost_made rested p q QuickUnlink back_plan w (2 * suc may.node.node + 1) back_made (λ kind. kind ≡ QuickUnlink) refl
-                (ap (λ (o : Own). Some (own_word (listed_of o))) may.is) apart
-                l.place l.expected l.found placed (wanted ∙ ap (λ a. 2 * suc a + 1) is_node) had,
+            lost_made back_made (λ kind. kind ≡ QuickUnlink) refl
+                (ap (λ (o : Own). Some (own_word (listed_of o))) may.is) apart l.place l.expected l.found placed (wanted ∙ ap (λ a. 2 * suc a + 1) is_node) had,
             back_made.core ∙ still,
             back_made.pass ∙ (ap (λ (v : View). pass_kept rested (held_at p.core.own) (held_at v.own) p.pass) still
                 ∙ kept_same rested (held_at p.core.own) p.pass),

@@ -1,30 +1,24 @@
 -- A scan: where it stands after a node that it went past, after an unlinking and after its first step, and what its
 -- answers say of the whole call.
-use Rattle.std.proofs.Common.{◌≡◌, ◌≢◌, ℕ, ◌+◌, ◌*◌, ◌<◌, ◌≤◌, Bool, true, false, inl, inr, ⊎_elim, refl, sym, ap, ◌∙◌, subst, arith}
+use Rattle.std.proofs.Common.{◌≡◌, ◌≢◌, ℕ, ◌+◌, ◌*◌, ◌≤◌, Bool, true, false, inl, inr, ⊎_elim, sym, ap, ◌∙◌, subst, arith}
 use Rattle.std.specs.Prelude.{length, Option, Some, None, if◌then◌else◌}
-use Rattle.lock_core.specs.declared.range.Held.{Held}
-use Rattle.lock_core.specs.declared.views.View.{View}
 use Rattle.lock_core.specs.declared.views.Cursor.{Cursor}
 use Rattle.lock_core.specs.declared.views.Own.{Own}
 use Rattle.lock_core.specs.declared.views.Own.TheVariants.{Nothing}
 use Rattle.lock_core.specs.Machine.{held_at}
-use Rattle.lock_core.proofs.SizedSteps.{plain_is}
 use Rattle.epoch_pools.specs.declared.record.Looked.{Looked}
 use Rattle.epoch_pools.specs.declared.views.SeatPart.{SeatPart}
 use Rattle.epoch_pools.specs.Hands.{IsHandView}
 use Rattle.marked_list.specs.declared.answers.Passed.{Passed}
-use Rattle.marked_list.specs.declared.answers.Passed.TheVariants.{Found, End, Lost as Gone, Long as TooLong}
 use Rattle.marked_list.specs.declared.answers.Walked.{Walked}
 use Rattle.marked_list.specs.declared.answers.Walked.TheVariants.{Place, Conflict, Lost, Long}
-use Rattle.marked_list.specs.Order.{OwnMayWalk, IsInside, StandsAt}
-use Rattle.marked_list.specs.Leaves.{HasJudged, IsSameWalk, IsNewWalk}
-use Rattle.marked_list.specs.Causes.{asked_of, nodes_in, judged_in, IsWalkLoss, IsBoundedWalk}
+use Rattle.marked_list.specs.Order.{IsInside}
+use Rattle.marked_list.specs.Leaves.{HasJudged, IsSameWalk}
+use Rattle.marked_list.specs.Causes.{nodes_in, judged_in, IsBoundedWalk}
 use Rattle.marked_list.specs.Answers.{Arrives, IsAtEnd}
-use Rattle.marked_list.specs.Walking.{seen_of, has_arrived, arrival_at, GoesOn, HasRoom, IsNotSpent, IsLoad, MayBeginWalk, Outcome}
-use Rattle.marked_list.specs.Scanning.{IsScanAtNode, IsScanAtEnd, IsScanning, IsResting, IsScanWalk}
-use Rattle.marked_list.specs.Scanning.{passed_from, passed_by, passed_at, PassesFrom, Passes, Sees}
+use Rattle.marked_list.specs.Walking.{seen_of, has_arrived, arrival_at, GoesOn, HasRoom, Outcome}
+use Rattle.marked_list.specs.Scanning.{IsScanAtNode, IsScanAtEnd, IsScanning, IsResting, IsScanWalk, passed_by, passed_at, PassesFrom, Passes}
 use Rattle.marked_list.proofs.Arriving.{nodes_seen}
-use Rattle.marked_list.proofs.Following.{lost_from}
 
 -- a hand's view has one note for each seat
 pub notes_are : {P : Type 0} (q : SeatPart P) → IsHandView q → length q.core.notes ≡ q.seats
@@ -33,8 +27,7 @@ notes_are q view = view.sound.sized.notes
 -- the count of judgements, where there is a cursor
 pub judged_on_from : {P : Type 0} (count : ℕ) (p q : SeatPart P) (c : Cursor) → p.core.cursor ≡ Some c → IsHandView p
     → HasJudged count p q → judged_in q.trace.looked ≡ judged_in p.trace.looked + count
-judged_on_from count p q c is view j =
-    let l = view.looked c is in let m = j l.0 l.1 in
+judged_on_from count p q c is view j = let l = view.looked c is in let m = j l.0 l.1 in
     ap judged_in m.1 ∙ (m.3 ∙ ap (λ (o : Option Looked). judged_in o + count) (sym l.1))
 
 module _ {P : Type 0} (first : ℕ) (p q : SeatPart P) (bare : p.core.own ≡ Nothing) (view : IsHandView q) (room : HasRoom p) (seats : q.seats ≡ p.seats) where
@@ -44,8 +37,7 @@ module _ {P : Type 0} (first : ℕ) (p q : SeatPart P) (bare : p.core.own ≡ No
 
   -- or has come to the end
   pub at_last : Outcome first p.core q (Some Place) → IsInside q.core → IsScanAtEnd q.core
-  at_last x inside =
-      let a : Arrives Nothing q.core = subst (λ (o : Own). Arrives o q.core) bare x.0 in
+  at_last x inside = let a : Arrives Nothing q.core = subst (λ (o : Own). Arrives o q.core) bare x.0 in
       record {
         inside = inside;
         end = a.1;
@@ -72,9 +64,6 @@ module _ {P : Type 0} (first : ℕ) (p q : SeatPart P) (bare : p.core.own ≡ No
       by_cursor None y = record { own = y.own ∙ bare; at = inl (at_node y) }
       by_cursor (Some c) y = by_bool (has_arrived q.core.own c) y
 
-  short : IsNotSpent q → q.core.own ≡ Nothing → nodes_in q.trace.looked ≤ 16 * q.seats
-  short w own = ⊎_elim (λ le. le) (λ (h : (held_at q.core.own ≢ None) × IsBoundedWalk q). absurd (h.0 (ap held_at own))) w
-
   -- nor has it one after any other answer
   pub own_out : (a : Walked) → Outcome first p.core q (Some a) → q.core.own ≡ Nothing
   own_out Place x = own_at_last x
@@ -82,15 +71,8 @@ module _ {P : Type 0} (first : ℕ) (p q : SeatPart P) (bare : p.core.own ≡ No
   own_out (Lost l) x = x.0.1 ∙ bare
   own_out (Long visits) x = x.0.1 ∙ bare
 
-end_is : (v : View) (c : Cursor) → v.cursor ≡ Some c → IsAtEnd v.cursor → c.cur ≡ 0
-end_is v c is e = let same : c ≡ e.0 = let f : ◌≡◌ {A = Option Cursor} (Some c) (Some e.0) = sym is ∙ e.1 in cc in ap (λ (x : Cursor). x.cur) same ∙ e.2
-
 -- the cursor of a scan that rests
 module _ {P : Type 0} (p : SeatPart P) (view : IsHandView p) (rests : IsResting p.core) (c : Cursor) (is : p.core.cursor ≡ Some c) where
-  scanning : IsScanning p.core
-  scanning = ⊎_elim (λ (n : p.core.cursor ≡ None). absurd (let e : ◌≡◌ {A = Option Cursor} (Some c) None = sym is ∙ n in cc))
-      (λ (s : IsScanning p.core). s) rests
-
   passed_is : judged_in p.trace.looked ≡ passed_by p
   passed_is = ap (λ (o : Option Cursor). passed_at o p.trace.looked) (sym is)
 

@@ -1,11 +1,11 @@
 -- A sweep: the walk is one without an own node, between the two steps of the epoch.
-use Rattle.std.proofs.Common.{◌≡◌, ◌↔◌, ℕ, ◌+◌, ◌*◌, ◌%◌, ◌≤◌, sym, ap, ◌∙◌, subst, arith}
+use Rattle.std.proofs.Common.{◌≡◌, ◌↔◌, ◌+◌, ◌*◌, ◌≤◌, ◌<◌, sym, ap, ◌∙◌, subst, arith}
 use Rattle.std.specs.Prelude.{Option, Some, None}
 use Rattle.lock_core.specs.declared.range.Held.{Held}
 use Rattle.lock_core.specs.declared.views.Own.{Own}
 use Rattle.lock_core.specs.declared.views.Own.TheVariants.{Nothing}
 use Rattle.lock_core.specs.declared.steps.Step.TheVariants.{Enter, Leave}
-use Rattle.lock_core.specs.Views.{next_epoch, entered, left, kept_own, ready_left}
+use Rattle.lock_core.specs.Views.{entered, left, kept_own, ready_left}
 use Rattle.lock_core.specs.Machine.{held_at}
 use Rattle.epoch_pools.specs.declared.views.SeatPart.{SeatPart}
 use Rattle.epoch_pools.specs.Record.{is_judging, gained_by}
@@ -86,39 +86,13 @@ module _ {P : Type 0} (p e : SeatPart P) (may : MaySweep p.core) (entering : e �
         by_answer Place x = let l = view.looked x.1.0 x.1.1 in (l.0, looked_out ∙ l.1, l.3 x.1.2)
         by_answer (Conflict owner range mode) x = let asks = x.0.asks in let own = ap asked_of own_out in
             absurd (let n : ◌≡◌ {A = Option Held} None (Some x.0.asked) = sym own ∙ asks in cc)
-        by_answer (Lost l) x = record {
-          lost = x.0.lost;
-          is = ap (λ (z : SeatPart P). z.trace.lost) leaving ∙ x.0.is;
-          kind = x.0.kind;
-          from = let f = x.0.from in let i = taken_in in omega arith;
-          below = let b = x.0.below in let o = taken_out in omega arith;
-          listed = x.0.listed ∙ sym list_out;
-          placed = x.0.placed;
-          wanted = x.0.wanted;
-          had = x.0.had;
-          differ = x.0.differ;
-        }
+        by_answer (Lost l) x = let m = x.0 in let from : p.trace.taken ≤ m.lost.step = (let f = m.from in let i = taken_in in omega arith) in
+            let below : m.lost.step < r.trace.taken = (let b = m.below in let o = taken_out in omega arith) in
+            let is = ap (λ (z : SeatPart P). z.trace.lost) leaving ∙ m.is in let list = m.listed ∙ sym list_out in search (is, list, m)
         by_answer (Long visits) x = (x.0 ∙ ap (λ n. 16 * n + 1) (sym seats_out), spent_out x.2)
 
     -- the sweep leaves the hand outside, with the pools that it had
     pub swept_is : IsOutside r.core → IsSwept p r
-    swept_is outside = record {
-      number = ap (λ (x : SeatPart P). x.number) leaving ∙ (on.number ∙ ap (λ (x : SeatPart P). x.number) entering);
-      seats = seats_out ∙ (on.seats ∙ ap (λ (x : SeatPart P). x.seats) entering);
-      pass = ap (λ (x : SeatPart P). x.pass) leaving ∙ (on.pass ∙ ap (λ (x : SeatPart P). x.pass) entering);
-      client = ap (λ (x : SeatPart P). x.trace.client) leaving ∙ (on.client ∙ ap (λ (x : SeatPart P). x.trace.client) entering);
-      asked = ap (λ (x : SeatPart P). x.trace.asked) leaving ∙ (on.asked ∙ ap (λ (x : SeatPart P). x.trace.asked) entering);
-      list = list_out ∙ (on.list ∙ ap (λ (x : SeatPart P). x.trace.list) entering);
-      pools = record {
-        ready = ap (λ (x : SeatPart P). x.core.ready) leaving
-            ∙ (ap (λ (o : Own). ready_left o q.core.ready) own_out
-            ∙ (on.pools.ready ∙ ap (λ (x : SeatPart P). x.core.ready) entering));
-        used = ap (λ (x : SeatPart P). x.core.used) leaving ∙ (on.pools.used ∙ ap (λ (x : SeatPart P). x.core.used) entering);
-        homes = ap (λ (x : SeatPart P). x.core.homes) leaving ∙ (on.pools.homes ∙ ap (λ (x : SeatPart P). x.core.homes) entering);
-        notes = ap (λ (x : SeatPart P). x.core.notes) leaving ∙ (on.pools.notes ∙ ap (λ (x : SeatPart P). x.core.notes) entering);
-        passed = ap (λ (x : SeatPart P). x.core.passed) leaving ∙ (on.pools.passed ∙ ap (λ (x : SeatPart P). x.core.passed) entering);
-      };
-      outside = outside;
-      own = ap (λ (x : SeatPart P). x.core.own) leaving ∙ ap kept_own own_out;
-      cursor = ap (λ (x : SeatPart P). x.core.cursor) leaving;
-    }
+    swept_is outside = let walk : IsLaterInWalk (quiet_after p Enter (entered p.core)) q = subst (λ (x : SeatPart P). IsLaterInWalk x q) entering on in
+        subst (λ (x : SeatPart P). IsOutside x.core → IsSwept p x) (sym leaving)
+        (λ out. assumption (walk, ap (λ (o : Own). ready_left o q.core.ready) own_out ∙ walk.pools.ready, ap kept_own own_out)) outside

@@ -5,8 +5,7 @@ use Rattle.epoch_pools.proofs.closing.join_all.Goals as goal
 
 -- the first hand is one seat, and the others are left
 pub all-init : goal.all-init
-all-init g c =
-    let first = c.requires.tables 0 c.remove.result (at_index _ 0 _ c.requires.some c.remove.ensures.value) in
+all-init g c = let first = c.requires.tables 0 c.remove.result (at_index _ 0 _ c.requires.some c.remove.ensures.value) in
     let t = next_joined c.args.shared.now.table_id [] c.token-2.inside.seat.me.0.parts c.token-2.inside.seat.me.0.parts c.args.hands.items []
     c.args.hands.items _
     c.remove.result c.token-2.inside.lists c.token-2.inside.list _ (none_shown c.args.shared.now.table_id) refl c.requires.some c.remove.ensures.value
@@ -21,9 +20,7 @@ all-init g c =
 
 -- a seat of the same table may be joined
 pub join_seat-requires : goal.join_seat-requires
-join_seat-requires g c =
-    let i = c.all.invariant in
-    let more : 0 < length c.all.hands.items = search rules in
+join_seat-requires g c = let i = c.all.invariant in let more : 0 < length c.all.hands.items = search rules in
     let here = i.rest 0 c.remove-in-all.result (at_index _ 0 _ more c.remove-in-all.ensures.value) in (
       i.table,
       ap (λ s. s.table) c.token-in-all-2.view_is ∙ (ap (λ k. k.table) c.token-in-all.view_is ∙ here),
@@ -34,16 +31,13 @@ join_seat-requires g c =
 
 -- with one hand more the seat has what belongs to all so far
 pub all-preserved : goal.all-preserved
-all-preserved g c =
-    let i = c.all.invariant in
-    let more : 0 < length c.all.hands.items = search rules in
+all-preserved g c = let i = c.all.invariant in let more : 0 < length c.all.hands.items = search rules in
     let here = i.rest 0 c.remove-in-all.result (at_index _ 0 _ more c.remove-in-all.ensures.value) in
     let t = next_joined c.args.shared.now.table_id c.all.all.me.0.parts _ c.token-in-all-2.inside.seat.me.0.parts c.args.hands.items i.parts.0
     c.all.hands.items _
     c.remove-in-all.result c.token-in-all-2.inside.lists c.token-in-all-2.inside.list _ i.parts.1 i.parts.2 more c.remove-in-all.ensures.value
     c.remove-in-all.ensures.items (ap (λ m. m.0.parts) c.join_seat.ensures.2) c.token-in-all-2.invariant.1 c.token-in-all-2.invariant.2.full
-    c.token-in-all-2.invariant.2.within
-    (hand_again c.args.shared.now.table_id c.token-in-all.inside.token c.remove-in-all.result _ c.token-in-all.view_is here
+    c.token-in-all-2.invariant.2.within (hand_again c.args.shared.now.table_id c.token-in-all.inside.token c.remove-in-all.result _ c.token-in-all.view_is here
     (sym (ap (λ s. s.part) c.token-in-all-2.view_is))) in
     record {
       table = c.join_seat.ensures.0 ∙ i.table;
@@ -54,7 +48,5 @@ all-preserved g c =
 
 -- when no hand is left the seat has what belongs to all
 pub returns-clause-parts : goal.returns-clause-parts
-returns-clause-parts g c =
-    let i = c.all.invariant in
-    let none : length c.all.hands.items ≡ 0 = search rules in
+returns-clause-parts g c = let i = c.all.invariant in let none : length c.all.hands.items ≡ 0 = search rules in
     all_shown c.args.shared.now.table_id c.all.all.me.0.parts i.parts.0 c.all.hands.items c.args.hands.items i.parts.1 i.parts.2 none

@@ -12,7 +12,7 @@ use Rattle.epoch_pools.specs.declared.views.SeatPart.{SeatPart}
 use Rattle.epoch_pools.specs.Hands.{IsHandView, AreOthers, views_in, part_in, fresh, shown_of, new_hand}
 use Rattle.epoch_pools.specs.Beside.{shown}
 use Rattle.list_cuts.specs.Cut.{list_count}
-use Rattle.epoch_pools.proofs.Opening.{opens, next_seat, wait_on, lock_there, view_first, views_on, made_first, made_on, first_core, first_seat}
+use Rattle.epoch_pools.proofs.Opening.{opens, next_seat, wait_on, lock_there, made_first, made_on, first_core, first_seat}
 use Rattle.epoch_pools.proofs.Opening.{first_hand, first_others_are, first_waiting, more_made, new_table, words_long}
 use Rattle.epoch_pools.proofs.Boxes.{view_first_of, view_removed}
 use Rattle.epoch_pools.proofs.list.open_cut.Goals as goal
@@ -40,8 +40,7 @@ all-init g c = record {
 
 -- as many views are left as seats
 pub remove-view-requires : goal.remove-view-requires
-remove-view-requires g c =
-    let more : 0 < length c.all.opened.items = search rules in
+remove-view-requires g c = let more : 0 < length c.all.opened.items = search rules in
     let as_many = length-map c.all.views.items (λ (b : Box View). b.value) in
     let long : vec_len c.all.views ≡ length (views_in c.all.views.items) = (let o = c.all.views.ok.0 in omega arith) in
     more_made (start_view c.args.seats) c.args.seats c.all.number (length c.all.opened.items) (vec_len c.all.views) (views_in c.all.views.items) more
@@ -49,11 +48,9 @@ remove-view-requires g c =
 
 -- the token that is made has the part of its number
 pub invariant_of-push_reserved : goal.invariant_of-push_reserved
-invariant_of-push_reserved g c =
-    let more : 0 < length c.all.opened.items = search rules in
+invariant_of-push_reserved g c = let more : 0 < length c.all.opened.items = search rules in
     let t = next_seat g.G.Guard.first _ c.lists-lists.result c.args.seats c.args.client.now c.all.number c.all.opened.items c.remove-seat.result
-    c.all.invariant.rest more c.remove-seat.ensures.value in
-    let parts = ap (λ m. m.0.parts) t.1 in
+    c.all.invariant.rest more c.remove-seat.ensures.value in let parts = ap (λ m. m.0.parts) t.1 in
     let own = ap (part_in (g.G.Guard.first [] 0)) parts in
     let less : c.all.number < c.args.seats = let s = c.all.invariant.sum in omega arith in (
       ap (λ m. m.1) t.1,
@@ -65,15 +62,14 @@ invariant_of-push_reserved g c =
 
 -- the hand that is made has the first views of its number, and may rely on them
 pub invariant_of-push_reserved-in-all : goal.invariant_of-push_reserved-in-all
-invariant_of-push_reserved-in-all g c =
-    let more : 0 < length c.all.opened.items = search rules in
+invariant_of-push_reserved-in-all g c = let more : 0 < length c.all.opened.items = search rules in
     let t = next_seat g.G.Guard.first _ c.lists-lists.result c.args.seats c.args.client.now c.all.number c.all.opened.items c.remove-seat.result
     c.all.invariant.rest more c.remove-seat.ensures.value in
     let own = ap (λ m. shown_of (g.G.Guard.first [] 0) c.lists-lists.result 0 m.0.parts) t.1 in
     let less : c.all.number < c.args.seats = let s = c.all.invariant.sum in omega arith in
     let some_list = c.lists-lists.ensures.some in
     let is : c.remove-view.result.value ≡ start_view c.args.seats c.all.number =
-    view_first c.args.seats c.all.number c.remove-view.result.value less
+    made_first (start_view c.args.seats) c.args.seats c.all.number c.remove-view.result.value less
     (view_first_of c.all.views.items c.remove-view.result c.remove-view.ensures.value
     ∙ ap (λ l. get_or l 0 c.remove-view.result.value) c.all.invariant.views) in
     let others : c.remove-others.result ≡ replicate (c.lists-lists.result - 1) (start_view c.args.seats c.all.number) =
@@ -88,9 +84,7 @@ invariant_of-push_reserved-in-all g c =
 
 -- with one hand more the hands so far are new ones
 pub all-preserved : goal.all-preserved
-all-preserved g c =
-    let i = c.all.invariant in
-    let more : 0 < length c.all.opened.items = search rules in
+all-preserved g c = let i = c.all.invariant in let more : 0 < length c.all.opened.items = search rules in
     let t = next_seat g.G.Guard.first _ c.lists-lists.result c.args.seats c.args.client.now c.all.number c.all.opened.items c.remove-seat.result i.rest
     more c.remove-seat.ensures.value in
     let own = ap (λ m. shown_of (g.G.Guard.first [] 0) c.lists-lists.result 0 m.0.parts) t.1
@@ -100,7 +94,7 @@ all-preserved g c =
       room = search rules;
       count = search rules;
       sum = let left = length-remove c.all.opened.items 0 more in let e = ap length c.remove-seat.ensures.items in let s = i.sum in omega arith;
-      views = views_on c.args.seats c.all.number _ c.remove-view.result.value less
+      views = made_on (start_view c.args.seats) c.args.seats c.all.number _ less
           (view_removed c.all.views.items _ c.remove-view.ensures.items ∙ ap (λ l. remove l 0) i.views);
       behind = made_on (λ n. replicate (c.lists-lists.result - 1) (start_view c.args.seats n)) c.args.seats c.all.number _ less
           (c.remove-others.ensures.items ∙ ap (λ l. remove l 0) i.behind);
@@ -118,8 +112,7 @@ invariant_of-list g c = new_table c.args.cut c.lists-lists.result c.args.seats (
       omega (arith, c.regions.ensures.some, c.regions.ensures.count),
       omega (arith, c.regions.ensures.few, c.regions.ensures.count),
       omega (arith, c.bits.ensures.few, c.bits.ensures.bits),
-    )
-    c.lists-lists.ensures.lists c.requires.seats c.requires.clients c.in_ok-table.ensures.key.2 c.in_ok-table.ensures.key.0
+    ) c.lists-lists.ensures.lists c.requires.seats c.requires.clients c.in_ok-table.ensures.key.2 c.in_ok-table.ensures.key.0
     c.in_ok-table.ensures.key.1 (search rules) c.in_ok-table.ensures.counts.1 c.in_ok-table.ensures.counts.2 (search rules)
     c.list_words-client_start.ensures.words c.list_words-client_start.ensures.few
 

@@ -8,14 +8,12 @@ use Rattle.epoch_pools.proofs.passing.count_narrow.Goals as goal
 
 -- it is the look of the range that the hand's list holds
 pub look_at-found-requires-clause-may : goal.look_at-found-requires-clause-may
-look_at-found-requires-clause-may g c =
-    narrow false (subst (λ (h : HandState _). MayCount c.args.list.now.cut h.part) (sym c.hand.view_is) c.requires.may) refl
+look_at-found-requires-clause-may g c = narrow false (subst (λ (h : HandState _). MayCount c.args.list.now.cut h.part) (sym c.hand.view_is) c.requires.may) refl
     (λ t. absurd (let x : ◌≡◌ {A = Bool} false true = t in cc))
 
 -- there are several lists
 pub look_at-found-requires-clause-there : goal.look_at-found-requires-clause-there
-look_at-found-requires-clause-there g c =
-    let may = subst (λ (h : HandState _). MayCount c.args.list.now.cut h.part) (sym c.hand.view_is) c.requires.may in
+look_at-found-requires-clause-there g c = let may = subst (λ (h : HandState _). MayCount c.args.list.now.cut h.part) (sym c.hand.view_is) c.requires.may in
     let several = may.several in omega arith
 
 -- its standing is that of the look
@@ -26,5 +24,4 @@ returns-clause-part g c =
 
 -- it is a hand still
 pub invariant_of-hand : goal.invariant_of-hand
-invariant_of-hand g c = look_hand c.hand.inside.token.part c.look_at-found.new.token.part _ c.hand.inside.view.value c.hand.inside.others
-    c.look_at-found.ensures.part c.hand.invariant
+invariant_of-hand g c = look_hand _ c.look_at-found.ensures.part c.hand.invariant

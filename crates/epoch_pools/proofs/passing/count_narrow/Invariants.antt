@@ -9,6 +9,5 @@ ghosts-look_at g a = record {
   standing = Narrow a.token.now.part.pass.list;
   too = false;
   lists = a.token.now.part.pass.lists;
-  list =
-      a.token.now.part.pass.list;
+  list = a.token.now.part.pass.list;
 }

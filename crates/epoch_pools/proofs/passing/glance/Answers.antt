@@ -16,16 +16,13 @@ look_at-requires-clause-there g c = some_lists c.hand.inside.token.part c.hand.i
 
 -- its standing stays
 pub returns-clause-part : goal.returns-clause-part
-returns-clause-part g c =
-    subst (λ (h : HandState _). c.look_at.new.token.part ≡ after_look h.part h.part.pass.standing) c.hand.view_is
+returns-clause-part g c = subst (λ (h : HandState _). c.look_at.new.token.part ≡ after_look h.part h.part.pass.standing) c.hand.view_is
     (c.look_at.ensures.part ∙ glance_part (c.look_at.result == 0) c.hand.inside.token.part)
 
 -- the table has as many lists as its cut
 pub returns-clause-lists : goal.returns-clause-lists
-returns-clause-lists g c =
-    subst (λ (h : HandState _). h.part.pass.lists ≡ list_count c.args.list.now.cut) c.hand.view_is c.look_at.ensures.lists
+returns-clause-lists g c = subst (λ (h : HandState _). h.part.pass.lists ≡ list_count c.args.list.now.cut) c.hand.view_is c.look_at.ensures.lists
 
 -- it is a hand still
 pub invariant_of-hand : goal.invariant_of-hand
-invariant_of-hand g c = look_hand c.hand.inside.token.part c.look_at.new.token.part _ c.hand.inside.view.value c.hand.inside.others
-    c.look_at.ensures.part c.hand.invariant
+invariant_of-hand g c = look_hand _ c.look_at.ensures.part c.hand.invariant

@@ -19,11 +19,8 @@ look_at-requires-clause-there g c =
 
 -- its standing is that of the look
 pub returns-clause-part : goal.returns-clause-part
-returns-clause-part g c =
-    subst (λ (h : HandState _). c.look_at.new.token.part ≡ after_look h.part (Wide c.args.up))
-    c.hand.view_is c.look_at.ensures.part
+returns-clause-part g c = subst (λ (h : HandState _). c.look_at.new.token.part ≡ after_look h.part (Wide c.args.up)) c.hand.view_is c.look_at.ensures.part
 
 -- it is a hand still
 pub invariant_of-hand : goal.invariant_of-hand
-invariant_of-hand g c = look_hand c.hand.inside.token.part c.look_at.new.token.part _ c.hand.inside.view.value c.hand.inside.others
-    c.look_at.ensures.part c.hand.invariant
+invariant_of-hand g c = look_hand _ c.look_at.ensures.part c.hand.invariant

@@ -26,5 +26,4 @@ returns-clause-part g c =
 
 -- it is a hand still
 pub invariant_of-hand : goal.invariant_of-hand
-invariant_of-hand g c = look_hand c.hand.inside.token.part c.look_at-found.new.token.part _ c.hand.inside.view.value c.hand.inside.others
-    c.look_at-found.ensures.part c.hand.invariant
+invariant_of-hand g c = look_hand _ c.look_at-found.ensures.part c.hand.invariant

@@ -20,20 +20,17 @@ judgement-requires-clause-range g c = let k = c.requires.knows in
 -- what a call that walks leaves
 pub returns-clause-later : goal.returns-clause-later
 returns-clause-later g c = let k = c.requires.knows in
-    judged_on c.args.hand.now.part k.0 c.args.lo k.1 k.2 (given_back g.G.Guard.rested) c.step-word.new.hand.part c.step-word.result
-    c.step-word.ensures.made
+    judged_on c.args.hand.now.part k.0 c.args.lo k.1 k.2 (given_back g.G.Guard.rested) c.step-word.new.hand.part c.step-word.result c.step-word.ensures.made
 
 -- it is the same walk
 pub returns-clause-walk : goal.returns-clause-walk
 returns-clause-walk g c = let k = c.requires.knows in
-    judged_walk c.args.hand.now.part k.0 c.args.lo k.1 k.2 (given_back g.G.Guard.rested) c.step-word.new.hand.part c.step-word.result
-    c.step-word.ensures.made
+    judged_walk c.args.hand.now.part k.0 c.args.lo k.1 k.2 (given_back g.G.Guard.rested) c.step-word.new.hand.part c.step-word.result c.step-word.ensures.made
 
 -- in one step
 pub returns-clause-taken : goal.returns-clause-taken
 returns-clause-taken g c = let k = c.requires.knows in
-    judged_taken c.args.hand.now.part k.0 c.args.lo k.1 k.2 (given_back g.G.Guard.rested) c.step-word.new.hand.part c.step-word.result
-    c.step-word.ensures.made
+    judged_taken c.args.hand.now.part k.0 c.args.lo k.1 k.2 (given_back g.G.Guard.rested) c.step-word.new.hand.part c.step-word.result c.step-word.ensures.made
 
 -- a cursor that stays at its node names one
 pub judgement-requires-clause-node : goal.judgement-requires-clause-node
@@ -41,8 +38,7 @@ judgement-requires-clause-node g c = names_node c.args.hand.now.part.seats c.arg
 
 -- what the judgement tells is what the look came to
 pub returns-clause-outcome : goal.returns-clause-outcome
-returns-clause-outcome g c =
-    let k = c.requires.knows in let p = c.args.hand.now.part in let q = c.step-word.new.hand.part in let w = c.step-word.result in
+returns-clause-outcome g c = let k = c.requires.knows in let p = c.args.hand.now.part in let q = c.step-word.new.hand.part in let w = c.step-word.result in
     subst (λ (o : Option Walked). Outcome p.trace.walked p.core q o)
     (sym (c.judgement.ensures ∙ ap (λ (v : View). judgement_at v.own v.cursor c.args.lo w) c.view.ensures.view))
     (judged_outcome p k.0 c.args.lo k.1 k.2 (given_back g.G.Guard.rested) q w c.step-word.ensures.made _ c.step-word.ensures.told

@@ -19,8 +19,7 @@ returns-clause-load g c = let k = c.requires.knows in
 -- the node is still another seat's, or the own linked one
 pub returns-clause-other : goal.returns-clause-other
 returns-clause-other g c = let k = c.requires.knows in
-    lo_others c.args.hand.now.part k.0 k.1 k.2 (given_back g.G.Guard.rested) c.step.new.hand.part c.step.result c.step.ensures.made
-    c.requires.other
+    lo_others c.args.hand.now.part k.0 k.1 k.2 (given_back g.G.Guard.rested) c.step.new.hand.part c.step.result c.step.ensures.made c.requires.other
 
 -- the step that found the node stays
 pub returns-clause-walked : goal.returns-clause-walked

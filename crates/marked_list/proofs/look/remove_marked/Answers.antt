@@ -23,8 +23,7 @@ returns-in-Ok-clause-judged g c = home_judged c.args.hand.now.part c.unlink.new.
 
 -- behind the node the walk goes on, or has come to its end
 pub returns-in-Ok-clause-outcome : goal.returns-in-Ok-clause-outcome
-returns-in-Ok-clause-outcome g c =
-    let p = c.args.hand.now.part in
+returns-in-Ok-clause-outcome g c = let p = c.args.hand.now.part in
     subst (λ (o : Option Walked). Outcome p.trace.taken p.core c.give_home.new.hand.part o)
     (sym (c.arrival.ensures ∙ ap (λ (v : View). arrival_at v.own v.cursor) c.view.ensures.view))
     (home_outcome p c.unlink.new.hand.part c.give_home.new.hand.part c.in-Ok.node c.in-Ok.ensures.unlinked

@@ -11,8 +11,7 @@ step-found-requires-clause-enabled g c = let k = c.requires.knows in may_unlink 
 
 -- without a node in the hand the exchange was lost
 pub returns-in_default-hand-clause-lost : goal.returns-in_default-hand-clause-lost
-returns-in_default-hand-clause-lost g c =
-    let k = c.requires.knows in let p = c.args.hand.now.part in let q = c.step-found.new.hand.part in
+returns-in_default-hand-clause-lost g c = let k = c.requires.knows in let p = c.args.hand.now.part in let q = c.step-found.new.hand.part in
     let none : q.core.hand ≡ None = search rules in
     unlink_lost p k.0 k.1 k.2
     (given_back g.G.Guard.rested) q c.step-found.result c.step-found.ensures.made none c.view.ensures.sound c.requires.room c.in-Some.cursor

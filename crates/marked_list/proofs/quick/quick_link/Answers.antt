@@ -45,8 +45,7 @@ returns-then-found-ne0-clause-call g c = quick_call c.args.hand.now.part c.aim.n
 
 -- the head was another, so the node is only aimed
 pub returns-then-found-ne0-clause-answer : goal.returns-then-found-ne0-clause-answer
-returns-then-found-ne0-clause-answer g c =
-    let l : Lost = record { place = 0; expected = 0; found = c.step-found.result } in
+returns-then-found-ne0-clause-answer g c = let l : Lost = record { place = 0; expected = 0; found = c.step-found.result } in
     let t = quick_lost c.args.hand.now.part c.aim.new.hand.part c.aim.ensures.aimed c.requires.order.own
     (c.view.ensures.sound.sound.outside c.requires.order.even) c.requires.order.even (given_back g.G.Guard.rested)
     c.step-found.new.hand.part c.step-found.result c.step-found.ensures.made c.if-found-ne0.true l refl refl refl in

@@ -16,13 +16,11 @@ found-requires-clause-range g c = let k = c.requires.knows in
 -- it is the same walk
 pub returns-clause-walk : goal.returns-clause-walk
 returns-clause-walk g c = let k = c.requires.knows in
-    judged_walk c.args.hand.now.part k.0 c.args.lo k.1 k.2 (given_back g.G.Guard.rested) c.step-word.new.hand.part c.step-word.result
-    c.step-word.ensures.made
+    judged_walk c.args.hand.now.part k.0 c.args.lo k.1 k.2 (given_back g.G.Guard.rested) c.step-word.new.hand.part c.step-word.result c.step-word.ensures.made
 
 -- the scan went past the node that its cursor was at
 pub returns-clause-answer : goal.returns-clause-answer
-returns-clause-answer g c =
-    let k = c.requires.knows in let p = c.args.hand.now.part in let q = c.step-word.new.hand.part in
+returns-clause-answer g c = let k = c.requires.knows in let p = c.args.hand.now.part in let q = c.step-word.new.hand.part in
     subst (λ (a : Passed). PassesFrom p.trace.walked (judged_in p.trace.looked) q a) (sym c.found.ensures)
     (past_passes p k.0 c.args.lo k.1 k.2 (given_back g.G.Guard.rested) q c.step-word.result c.step-word.ensures.made c.requires.own
     c.requires.walked c.view.ensures.sound c.view-2.ensures.sound c.requires.room

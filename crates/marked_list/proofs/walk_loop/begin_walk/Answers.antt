@@ -9,8 +9,7 @@ use Rattle.marked_list.proofs.walk_loop.begin_walk.Goals as goal
 -- a cursor that found the low bit is at the head
 pub settle-requires-clause-head : goal.settle-requires-clause-head
 settle-requires-clause-head g c = let far = c.if-word-eq0.false in
-    made_odd c.args.hand.now.part c.make_cursor-word.new.hand.part c.make_cursor-word.result c.requires.begins
-    c.make_cursor-word.ensures.made (omega arith)
+    made_odd c.args.hand.now.part c.make_cursor-word.new.hand.part c.make_cursor-word.result c.requires.begins c.make_cursor-word.ensures.made (omega arith)
 
 -- a cursor that was just made may look at a node
 pub settle-requires-clause-room : goal.settle-requires-clause-room
@@ -19,8 +18,7 @@ settle-requires-clause-room g c = made_room c.args.hand.now.part c.make_cursor-w
 
 -- the cursor is at the first node, or the walk has come to its end
 pub returns-then-word-eq0-clause-outcome : goal.returns-then-word-eq0-clause-outcome
-returns-then-word-eq0-clause-outcome g c =
-    let p = c.args.hand.now.part in let q = c.make_cursor-word.new.hand.part in
+returns-then-word-eq0-clause-outcome g c = let p = c.args.hand.now.part in let q = c.make_cursor-word.new.hand.part in
     subst (λ (o : Option Walked). Outcome p.trace.taken p.core q o) (sym (c.arrival.ensures ∙ ap (λ (v : View). arrival_at v.own v.cursor) c.view.ensures.view))
     (made_even p q c.make_cursor-word.result c.requires.begins c.make_cursor-word.ensures.made c.if-word-eq0.true c.view.ensures.sound)
 

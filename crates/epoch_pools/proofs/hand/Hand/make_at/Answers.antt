@@ -44,8 +44,7 @@ returns-clause-made g c =
 
 -- what the step says beside, of what it returned
 pub returns-clause-told : goal.returns-clause-told
-returns-clause-told g c =
-    let q = c.self.inside.token.part in let step = c.args.step in let m = c.perform-found.ensures.made in
+returns-clause-told g c = let q = c.self.inside.token.part in let step = c.args.step in let m = c.perform-found.ensures.made in
     let many = ap (λ h. h.part.seats) c.self.view_is ∙ sym c.seats-seats.ensures.seats in
     let number = ap (λ h. h.part.number) c.self.view_is ∙ sym c.number-number.ensures.number in
     let w = subst (λ (h : HandState _). Writes step (line_for h.part step) c.args.op.act) (sym c.self.view_is) c.requires.op.1 in
@@ -55,8 +54,7 @@ returns-clause-told g c =
 
 -- a store returns 0
 pub returns-clause-store : goal.returns-clause-store
-returns-clause-store g c = λ st.
-    let q = c.self.inside.token.part in let step = c.args.step in let m = c.perform-found.ensures.made in
+returns-clause-store g c = λ st. let q = c.self.inside.token.part in let step = c.args.step in let m = c.perform-found.ensures.made in
     let many = ap (λ h. h.part.seats) c.self.view_is ∙ sym c.seats-seats.ensures.seats in
     let number = ap (λ h. h.part.number) c.self.view_is ∙ sym c.number-number.ensures.number in
     let w = subst (λ (h : HandState _). Writes step (line_for h.part step) c.args.op.act) (sym c.self.view_is) c.requires.op.1 in

@@ -4,19 +4,13 @@ use Rattle.epoch_pools.proofs.hand.Hand.refill.Goals as goal
 
 -- a hand with a node that waits isn't alone
 pub look_epochs-requires-clause-many : goal.look_epochs-requires-clause-many
-look_epochs-requires-clause-many g c =
-    let q = c.look_homes.new.self.part in
-    let homes : q.core.homes ≢ [] = search rules in
-    let number = c.look_homes.ensures.on.call.number in
-    let seats = c.look_homes.ensures.on.call.seats in
-    let there : q.number < q.seats = omega arith in
-    not_alone q.seats q.number q.core c.has_homes.ensures.sound.pooled homes there
+look_epochs-requires-clause-many g c = let q = c.look_homes.new.self.part in let homes : q.core.homes ≢ [] = search rules in
+    let number = c.look_homes.ensures.on.call.number in let seats = c.look_homes.ensures.on.call.seats in
+    let there : q.number < q.seats = omega arith in not_alone q.seats q.number q.core c.has_homes.ensures.sound.pooled homes there
 
 -- no node is ready, and the first seat inside is the cause
 pub returns-clause-filled : goal.returns-clause-filled
-returns-clause-filled g c =
-    let q = c.look_homes.new.self.part in
-    let r = c.look_epochs.new.self.part in
+returns-clause-filled g c = let q = c.look_homes.new.self.part in let r = c.look_epochs.new.self.part in
     let empty : r.core.ready ≡ [] = search rules in
     let homes : q.core.homes ≢ [] = search rules in (
       empty,

@@ -12,8 +12,7 @@ returns-then-list-token-clause-part g c =
     let own : c.args.list ≡ c.self.inside.token.part.pass.list = c.if-list-token.true ∙ ap (λ (h : HandState _). h.part.pass.list) c.token.view_is in
     let same : c.self.inside.token.part.trace.list ≡ c.self.inside.token.part.pass.list =
     sym (ap (λ (h : HandState _). h.part.trace.list) c.token.view_is) ∙ ap (λ (h : HandState _). h.part.pass.list) c.token.view_is in
-    sym (turned_same c.self.inside.token.part c.args.list c.self.inside.view.value c.self.inside.others c.self.invariant.0 c.self.invariant.1
-    c.self.invariant.2 same own)
+    sym (turned_same c.args.list c.self.invariant.0 c.self.invariant.1 c.self.invariant.2 same own)
     ∙ ap (λ (h : HandState _). turned h.part c.args.list) c.self.view_is
 
 -- it shows each list as before
@@ -30,13 +29,12 @@ invariant_of-self g c = c.self.invariant
 
 -- after the two exchanges its view is that of the list after, and the others are those that the token shows
 pub invariant_of-self-2 : goal.invariant_of-self-2
-invariant_of-self-2 g c =
-    let p = c.self.inside.token.part in
+invariant_of-self-2 g c = let p = c.self.inside.token.part in
     let own : c.token.inside.list ≡ p.pass.list = ap (λ (h : HandState _). h.part.pass.list) c.token.view_is in
     let differ : c.args.list ≢ p.pass.list = λ e. c.if-list-token.false (e ∙ sym own) in
     let less : c.args.list < p.pass.lists = subst (λ (h : HandState _). c.args.list < h.part.pass.lists) (sym c.self.view_is) c.requires.there in
     let rest : IsResting p.core = subst (λ (h : HandState _). IsResting h.part.core) (sym c.self.view_is) c.requires.resting in
-    let t = turned_hand p c.args.list c.self.inside.view.value c.self.inside.others c.self.invariant.0 c.self.invariant.1 c.self.invariant.2 differ less rest in
+    let t = turned_hand c.args.list c.self.invariant.0 c.self.invariant.1 c.self.invariant.2 differ less rest in
     let one = c.exchange.ensures.view ∙ ap (λ n. view_of n c.self.inside.others c.self.inside.view.value) own in
     let kept = c.exchange.ensures.kept ∙ ap (λ n. views_of n c.self.inside.others c.self.inside.view.value) own in
     let two = c.exchange-2.ensures.view ∙ (λ k. view_of c.args.list (kept k) (one k)) in
@@ -50,18 +48,14 @@ invariant_of-self-2 g c =
 
 -- each list is shown as before
 pub returns-clause-stays : goal.returns-clause-stays
-returns-clause-stays g c = λ j.
-    ap (λ (x : SeatPart _). shown_core x j) c.turn.ensures.part
-    ∙ (turned_shows c.self.inside.token.part c.args.list c.self.inside.view.value c.self.inside.others c.self.invariant.0 c.self.invariant.1
-    c.self.invariant.2 j
-    ∙ ap (λ (h : HandState _). shown_core h.part j) c.self.view_is)
+returns-clause-stays g c = λ j. ap (λ (x : SeatPart _). shown_core x j) c.turn.ensures.part
+    ∙ (turned_shows c.args.list c.self.invariant.0 c.self.invariant.1 c.self.invariant.2 j ∙ ap (λ (h : HandState _). shown_core h.part j) c.self.view_is)
 
 -- the hand rests in the list to which it is turned
 pub returns-clause-rests : goal.returns-clause-rests
-returns-clause-rests g c =
-    let p = c.self.inside.token.part in
+returns-clause-rests g c = let p = c.self.inside.token.part in
     let own : c.token.inside.list ≡ p.pass.list = ap (λ (h : HandState _). h.part.pass.list) c.token.view_is in
     let differ : c.args.list ≢ p.pass.list = λ e. c.if-list-token.false (e ∙ sym own) in
     let less : c.args.list < p.pass.lists = subst (λ (h : HandState _). c.args.list < h.part.pass.lists) (sym c.self.view_is) c.requires.there in
     subst (λ (x : SeatPart _). IsResting x.core) (sym c.turn.ensures.part)
-    (turned_rests p c.args.list c.self.inside.view.value c.self.inside.others c.self.invariant.0 c.self.invariant.1 c.self.invariant.2 differ less)
+    (turned_rests c.args.list c.self.invariant.0 c.self.invariant.1 c.self.invariant.2 differ less)

@@ -5,8 +5,7 @@ use Rattle.epoch_pools.proofs.list.List.exchange_at.Goals as goal
 
 -- an exchange that is this step keeps the rule, and tells what it should
 pub compare_exchange-requires : goal.compare_exchange-requires
-compare_exchange-requires g c =
-    let shape = c.self.view_is in
+compare_exchange-requires g c = let shape = c.self.view_is in
     let same = ap (λ s. s.table) c.token.view_is ∙ (c.requires.table ∙ sym (ap (λ s. s.table) shape)) in
     let part = ap (λ s. s.part) c.token.view_is in (
       same,

@@ -4,8 +4,7 @@ use Rattle.epoch_pools.proofs.list.List.load_at.Goals as goal
 
 -- a load that is this step keeps the rule, and tells what it should
 pub load-requires : goal.load-requires
-load-requires g c =
-    let shape = c.self.view_is in
+load-requires g c = let shape = c.self.view_is in
     let same = ap (λ s. s.table) c.token.view_is ∙ (c.requires.table ∙ sym (ap (λ s. s.table) shape)) in
     let part = ap (λ s. s.part) c.token.view_is in (
       same,

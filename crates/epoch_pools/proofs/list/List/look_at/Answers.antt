@@ -9,17 +9,12 @@ use Rattle.epoch_pools.proofs.list.List.look_at.Goals as goal
 pub overflow_mul-head : goal.overflow_mul-head
 overflow_mul-head g c =
     let there : c.args.list < c.token.inside.lists = subst (λ (h : HandState _). c.args.list < h.part.pass.lists) (sym c.token.view_is) c.requires.there in
-    let most = c.token.invariant.2.most in
-    let few = c.token.invariant.2.few in
-    let words = c.lock_word_count.ensures in
-    let small = mul-le c.args.list c.lock_word_count.result 17 1041 (omega arith) (omega arith) in
-    omega arith
+    let most = c.token.invariant.2.most in let few = c.token.invariant.2.few in let words = c.lock_word_count.ensures in
+    let small = mul-le c.args.list c.lock_word_count.result 17 1041 (omega arith) (omega arith) in omega arith
 
 -- a look that the seat may make keeps the rule, and tells what it should
 pub load-requires : goal.load-requires
-load-requires g c =
-    let shape = c.self.view_is in
-    let part = ap (λ s. s.part) c.token.view_is in
+load-requires g c = let shape = c.self.view_is in let part = ap (λ s. s.part) c.token.view_is in
     let same = ap (λ s. s.table) c.token.view_is ∙ (c.requires.table ∙ sym (ap (λ s. s.table) shape)) in (
       same,
       head_there (g.G.Guard.first [] 0) c.token.inside.seat.me.0.parts _ _ c.token.inside.number c.token.inside.seats c.token.inside.lists
@@ -27,8 +22,7 @@ load-requires g c =
           (ap (λ n. c.args.list * n) c.lock_word_count.ensures),
       token_looks (g.G.Guard.first [] 0) c.args.self.now.cut _ _ g.G.Guard.holds g.G.Guard.rested g.G.Guard.gains
           (subst (λ (s : ListShape). 0 < s.cut.count) shape c.self.invariant.is_cut.0) _ g.D.Look.cut _ (c.self.invariant.same_cut ∙ ap (λ s. s.cut) shape)
-          c.requires.cut
-          (c.self.invariant.same_seats ∙ ap (λ s. s.seats) shape)
+          c.requires.cut (c.self.invariant.same_seats ∙ ap (λ s. s.seats) shape)
           c.token.inside.number c.token.inside.seats c.token.inside.lists c.token.inside.list c.token.inside.first _ g.D.Look.lists g.D.Look.list
           c.args.list g.D.Look.standing g.D.Look.too _ _ _ c.token.inside.seat.me c.args.token.now.part c.token.invariant.1 c.token.invariant.2 part
           c.requires.lists.0 c.requires.lists.1 c.requires.may (ap (λ n. c.args.list * n) c.lock_word_count.ensures),

@@ -6,6 +6,5 @@ use Rattle.epoch_pools.proofs.others.Others.exchange.Goals as goal
 
 -- the view that was handed in is in the place of that list
 pub returns-then-list-gt0-clause-kept : goal.returns-then-list-gt0-clause-kept
-returns-then-list-gt0-clause-kept c =
-    view_put c.self.inside.views.items c.args.list c.swap.new.x _ _ c.if-list-gt0.true c.self.view_is
+returns-then-list-gt0-clause-kept c = view_put c.self.inside.views.items c.args.list c.swap.new.x _ _ c.if-list-gt0.true c.self.view_is
     (ap (λ (b : Box View). b.value) c.swap.ensures.x_after)

@@ -4,5 +4,4 @@ use Rattle.epoch_pools.proofs.token.Token.at.Goals as goal
 
 -- what it shows is noted in its list
 pub returns-clause-noted : goal.returns-clause-noted
-returns-clause-noted g c =
-    sym (ap (λ (h : HandState _). h.part.trace.list) c.self.view_is) ∙ ap (λ (h : HandState _). h.part.pass.list) c.self.view_is
+returns-clause-noted g c = sym (ap (λ (h : HandState _). h.part.trace.list) c.self.view_is) ∙ ap (λ (h : HandState _). h.part.pass.list) c.self.view_is
