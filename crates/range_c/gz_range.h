@@ -234,7 +234,7 @@ gz_range_answer gz_range_try(gz_range *handle, uint64_t lo, uint64_t hi, bool wr
 
 /* Waits as gz_range_acquire does between two tries, for a program with a loop of its own: *turns turns of the
    processor's pause, but at least 1,024 and at most 8,192. *turns is 0 at first, and becomes twice what was waited, at
-   most 8,192. How long a turn takes depends on the processor; at 6 to 12 ns, as were seen, 8,192 take some 50 to 100
+   most 8,192. How long a turn takes depends on the processor; at 4 to 12 ns, as were seen, 8,192 take some 30 to 100
    microseconds. The call doesn't yield the processor.
    true if this wait was one of 8,192 turns: then let other threads run, by sched_yield or a sleep.
    Any thread. */
@@ -402,11 +402,12 @@ static inline bool gz_range_may_retry(gz_range_answer answer) {
    waits and tries again: 1,024 turns of gz_range_pause at first, then twice as many each time, up to 8,192; after each
    wait of 8,192 it lets other threads run. After AGAIN it tries again at once. So a range that is given back may be
    free for as long as a wait before a waiting thread takes it.
-   Nothing is claimed of when it returns, or of any order among those that wait. Measured in three rounds of 80 ms with
-   threads that take one range of 256 slots again and again, 60 in 100 as readers, on four processors
-   (bench/figures.d/peers_tables.md of the repository): four threads had 0.66 million turns a second and a longest wait
-   of 2.4 ms, over a table of regions 0.58 and 1.7 ms, under a pthread_mutex 0.44 and 2.8 ms; the longest wait of
-   sixteen threads was 12, 9.3 and 15 ms. Longer runs may have longer waits.
+   Nothing is claimed of when it returns, or of any order among those that wait. Measured for ten seconds with threads
+   that take one range of 256 slots again and again, 60 in 100 as readers, on four processors
+   (bench/figures.d/peers_tables.md of the repository): four threads had 0.90 million turns a second, a mean wait of 3.3
+   microseconds and a longest one of 4.4 ms; over a table of regions 0.80, 3.8 and 5.3; under a pthread_mutex 0.53, 4.8
+   and 5.4. Of sixteen threads the longest wait in three rounds of 80 ms was 12, 9.3 and 15 ms. Longer runs may have
+   longer waits.
    It uses its processor as long as it waits, and under SCHED_FIFO, where sched_yield gives nothing to threads of lower
    priority, it may try for ever. The example waiting.c has two ways to wait by sleeping: until a deadline, and until
    another thread gives a range back.

@@ -12,34 +12,31 @@ use Rattle.range_rw.specs.declared.refusals.NotHeld.{NotHeld}
 use Rattle.range_rw.specs.Contract.{IsLockCall, IsCause, IsLongRefusal, IsSpentIn}
 use Rattle.range_rw.specs.Several.{TakesAlone}
 use Rattle.range_c.specs.declared.answers.Answer.{Answer}
-use Rattle.range_c.specs.declared.answers.Answer.TheVariants.{Done, Refused, NotTried, BadRange, HasOne, HasNone}
-use Rattle.range_c.specs.declared.answers.Answer.TheVariants.{Closed, Open, Memory, Seats, Words, NoneLeft, NoWord}
-use Rattle.range_c.specs.declared.answers.Answer.TheVariants.{Other, BadCut}
+use Rattle.range_c.specs.declared.answers.Answer.TheVariants.{Done, Refused, NotTried, BadRange, HasOne}
 use Rattle.range_c.specs.Behind.{Behind, RecordingSeat, IsTrial, IsOneTry, IsGranted, IsRefused, AreRefused, IsTrialAnswer, IsTriedFor, IsTried, most_steps}
 use Rattle.range_c.specs.Behind.{mode_for, asked}
 
 -- what `range_rw` says of a try that was refused, put together
-pub refused_for : {T : Type 0} (r : Result T NotHeld) (seats : ℕ) (cut : Regions) (ask : Held) (entry after : RecordingSeat) → IsLockCall entry after
+pub refused_for : {T : Type 0} (r : Result T NotHeld) (seats : ℕ) (cut : Regions) (ask : Held) {entry after : RecordingSeat} → IsLockCall entry after
     → entry.held ≡ None → after.trace.taken ≤ entry.trace.taken + most_steps seats (list_count cut)
     → (TakesAlone cut ask.range → after.trace.taken ≤ entry.trace.taken + (64 + 386 * seats)) → OnErr r (after.held ≡ None)
-    → IfErr r (IsCause entry after ask)
-    → IfErr r (λ why. IsLongRefusal why ↔ IsSpentIn seats entry after) → IfErr r (IsRefused seats cut ask entry after)
-refused_for (Ok x) seats cut ask entry after call free bound alone none cause long = tt
-refused_for (Err why) seats cut ask entry after call free bound alone none cause long =
+    → IfErr r (IsCause entry after ask) → IfErr r (λ why. IsLongRefusal why ↔ IsSpentIn seats entry after) → IfErr r (IsRefused seats cut ask entry after)
+refused_for (Ok x) seats cut ask call free bound alone none cause long = tt
+refused_for (Err why) seats cut ask call free bound alone none cause long =
     record { one = record { call = call; free = free; bound = bound; alone = λ h. let b = alone h in omega arith }; free = none; cause = cause; long = long }
 
 -- and of one that holds what was asked for
-pub granted_for : {T : Type 0} (r : Result T NotHeld) (seats : ℕ) (cut : Regions) (ask : Held) (entry after : RecordingSeat) → IsLockCall entry after
+pub granted_for : {T : Type 0} (r : Result T NotHeld) (seats : ℕ) (cut : Regions) (ask : Held) {entry after : RecordingSeat} → IsLockCall entry after
     → entry.held ≡ None → after.trace.taken ≤ entry.trace.taken + most_steps seats (list_count cut)
     → (TakesAlone cut ask.range → after.trace.taken ≤ entry.trace.taken + (64 + 386 * seats)) → OnOk r (after.held ≡ Some ask)
     → IfOk r (λ _. IsGranted seats cut ask entry after)
-granted_for (Ok x) seats cut ask entry after call free bound alone held =
+granted_for (Ok x) seats cut ask call free bound alone held =
     record { one = record { call = call; free = free; bound = bound; alone = λ h. let b = alone h in omega arith }; held = held }
-granted_for (Err why) seats cut ask entry after call free bound alone held = tt
+granted_for (Err why) seats cut ask call free bound alone held = tt
 
 -- calls of the lock, one after another, are calls of the lock
-pub calls_after : (a b c : RecordingSeat) → IsLockCall a b → IsLockCall b c → IsLockCall a c
-calls_after a b c f g = record {
+pub calls_after : {a b c : RecordingSeat} → IsLockCall a b → IsLockCall b c → IsLockCall a c
+calls_after f g = record {
   table = g.table ∙ f.table;
   number = g.number ∙ f.number;
   pass = g.pass ∙ f.pass;
@@ -48,9 +45,9 @@ calls_after a b c f g = record {
 }
 
 -- tries after tries are tries
-pub trials_after : (a b c : Behind) → IsTrial a b → IsTrial b c → IsTrial a c
-trials_after a b c f g = record {
-  call = calls_after a.seat b.seat c.seat f.call g.call;
+pub trials_after : {a b c : Behind} → IsTrial a b → IsTrial b c → IsTrial a c
+trials_after f g = record {
+  call = calls_after f.call g.call;
   spare = g.spare ∙ f.spare;
   words = g.words ∙ f.words;
   seats = g.seats ∙ f.seats;
@@ -64,70 +61,42 @@ IsSoFar asked tries left before now answer = (made : ℕ) × (made + left ≡ tr
 -- tries after which nothing is held were all refused
 all_refused : (ask : Held) (made : ℕ) (before now : Behind) (answer : Answer) → now.seat.held ≡ None → IsTrialAnswer ask made before now answer
     → AreRefused before.seats before.cut ask made before.seat now.seat
-all_refused ask made before now Done free s =
-    let never : Some ask ≡ None = sym s.4.held ∙ free in absurd cc
+all_refused ask made before now Done free s = let never : Some ask ≡ None = sym s.4.held ∙ free in absurd cc
 all_refused ask made before now (Refused why) free s =
     subst (λ n. AreRefused before.seats before.cut ask n before.seat now.seat) (sym (add-one s.0) ∙ s.1) (s.2, why, s.3, s.4)
 all_refused ask made before now NotTried free s =
     subst (λ n. AreRefused before.seats before.cut ask n before.seat now.seat) (sym s.0) (ap (λ (b : Behind). b.seat) s.1)
-all_refused ask made before now BadRange free s = absurd s
-all_refused ask made before now HasOne free s = absurd s
-all_refused ask made before now HasNone free s = absurd s
-all_refused ask made before now Closed free s = absurd s
-all_refused ask made before now Open free s = absurd s
-all_refused ask made before now Memory free s = absurd s
-all_refused ask made before now Seats free s = absurd s
-all_refused ask made before now Words free s = absurd s
-all_refused ask made before now NoneLeft free s = absurd s
-all_refused ask made before now NoWord free s = absurd s
-all_refused ask made before now Other free s = absurd s
-all_refused ask made before now BadCut free s = absurd s
+all_refused ask made before now answer free s = absurd s
 
 -- tries give none of the answers that come before them
-pub tried : (lo hi : ℕ) (writer : Bool) (tries : ℕ) (answer : Answer) (before after : Behind)
-    → IsTriedFor lo hi writer tries answer before after → IsTried lo hi writer tries answer before after
-tried lo hi writer tries Done before after t = t
-tried lo hi writer tries (Refused why) before after t = t
-tried lo hi writer tries NotTried before after t = t
-tried lo hi writer tries BadRange before after t = absurd t.answered
-tried lo hi writer tries HasOne before after t = absurd t.answered
-tried lo hi writer tries HasNone before after t = t
-tried lo hi writer tries Closed before after t = t
-tried lo hi writer tries Open before after t = t
-tried lo hi writer tries Memory before after t = t
-tried lo hi writer tries Seats before after t = t
-tried lo hi writer tries Words before after t = t
-tried lo hi writer tries NoneLeft before after t = t
-tried lo hi writer tries NoWord before after t = t
-tried lo hi writer tries Other before after t = t
-tried lo hi writer tries BadCut before after t = t
+pub tried : {lo hi : ℕ} {writer : Bool} {tries : ℕ} (answer : Answer) {before after : Behind} → IsTriedFor lo hi writer tries answer before after
+    → IsTried lo hi writer tries answer before after
+tried BadRange t = absurd t.answered
+tried HasOne t = absurd t.answered
+tried answer t = t
 
 -- one more try was refused for that cause
-pub one_more : (ask : Held) (tries left next : ℕ) (before mid now : Behind) (answer : Answer) (why : NotHeld) → next + 1 ≡ left
+pub one_more : (ask : Held) (tries : ℕ) {left : ℕ} (next : ℕ) {before mid : Behind} (now : Behind) (answer : Answer) (why : NotHeld) → next + 1 ≡ left
     → IsTrial before mid → mid.seat.held ≡ None → IsSoFar ask tries left before mid answer → IsRefused mid.seats mid.cut ask mid.seat now.seat why
     → IsSoFar ask tries next before now (Refused why)
-one_more ask tries left next before mid now answer why e kept free far refused =
+one_more ask tries next {before} {mid} now answer why e kept free far refused =
     let now_made : far.0 + 1 + next ≡ tries = let f = far.1 in omega arith in
-    let one = subst (λ (k : Regions). IsRefused before.seats k ask mid.seat now.seat why) kept.cut
-    (subst (λ (n : ℕ). IsRefused n mid.cut ask mid.seat now.seat why) kept.seats refused) in
+    let one = subst (λ (z : ℕ × Regions). IsRefused z.0 z.1 ask mid.seat now.seat why) (λ i. (kept.seats i, kept.cut i)) refused in
     (far.0 + 1, now_made, (far.0, refl, mid.seat, all_refused ask far.0 before mid answer free far.2, one))
 
 -- one more try holds what was asked for
-pub at_last : (ask : Held) (tries left : ℕ) (before mid now : Behind) (answer : Answer) → 0 < left → IsTrial before mid
-    → mid.seat.held ≡ None → IsSoFar ask tries left before mid answer → IsGranted mid.seats mid.cut ask mid.seat now.seat
-    → IsTrialAnswer ask tries before now Done
-at_last ask tries left before mid now answer more kept free far granted =
+pub at_last : (ask : Held) (tries left : ℕ) {before mid : Behind} (now : Behind) (answer : Answer) → 0 < left → IsTrial before mid → mid.seat.held ≡ None
+    → IsSoFar ask tries left before mid answer → IsGranted mid.seats mid.cut ask mid.seat now.seat → IsTrialAnswer ask tries before now Done
+at_last ask tries left {before} {mid} now answer more kept free far granted =
     let below : far.0 < tries = let f = far.1 in omega arith in
-    let one = subst (λ (k : Regions). IsGranted before.seats k ask mid.seat now.seat) kept.cut
-    (subst (λ (n : ℕ). IsGranted n mid.cut ask mid.seat now.seat) kept.seats granted) in
+    let one = subst (λ (z : ℕ × Regions). IsGranted z.0 z.1 ask mid.seat now.seat) (λ i. (kept.seats i, kept.cut i)) granted in
     (far.0, below, mid.seat, all_refused ask far.0 before mid answer free far.2, one)
 
 -- none is left
 pub all_made : (ask : Held) (tries left : ℕ) (before now : Behind) (answer : Answer) → left ≤ 0 → IsSoFar ask tries left before now answer
     → IsTrialAnswer ask tries before now answer
 all_made ask tries left before now answer none far =
-    let all : far.0 ≡ tries = let f = far.1 in omega arith in
-    subst (λ n. IsTrialAnswer ask n before now answer) all far.2
+    let all : far.0 ≡ tries = let f = far.1 in omega arith in subst (λ n. IsTrialAnswer ask n before now answer) all far.2
 
 more_steps : (a b c n m : ℕ) → b ≤ a + n * m → c ≤ b + m → c ≤ a + suc n * m
 more_steps a b c n m first next = let e = suc-mul n m in omega arith
@@ -139,8 +108,7 @@ IsMostOf seats cut ask m = (entry after : RecordingSeat) → IsOneTry seats cut 
 -- tries that were refused made at most the steps of so many
 refused_steps : (seats : ℕ) (cut : Regions) (ask : Held) (m : ℕ) → IsMostOf seats cut ask m → (n : ℕ) (a b : RecordingSeat)
     → AreRefused seats cut ask n a b → b.trace.taken ≤ a.trace.taken + n * m
-refused_steps seats cut ask m most zero a b s =
-    let same = ap (λ (x : RecordingSeat). x.trace.taken) s in let z = zero-mul m in omega arith
+refused_steps seats cut ask m most zero a b s = let same = ap (λ (x : RecordingSeat). x.trace.taken) s in let z = zero-mul m in omega arith
 refused_steps seats cut ask m most (suc n) a b s = more_steps a.trace.taken s.0.trace.taken b.trace.taken n m
     (refused_steps seats cut ask m most n a s.0 s.2) (most s.0 b s.3.one)
 
@@ -148,49 +116,25 @@ last_steps : (seats : ℕ) (cut : Regions) (ask : Held) (m : ℕ) → IsMostOf s
     → AreRefused seats cut ask n a entry → IsOneTry seats cut ask.range entry b → b.trace.taken ≤ a.trace.taken + tries * m
 last_steps seats cut ask m most n tries a entry b below refused one =
     let all = more_steps a.trace.taken entry.trace.taken b.trace.taken n m (refused_steps seats cut ask m most n a entry refused) (most entry b one) in
-    let fewer : suc n ≤ tries = omega arith in
-    let times = mul-le-mul_right m fewer in
-    omega arith
+    let fewer : suc n ≤ tries = omega arith in let times = mul-le-mul_right m fewer in omega arith
 
 -- tries make at most the steps of as many as were asked for
 pub trial_steps : (ask : Held) (tries m : ℕ) (before after : Behind) (answer : Answer) → IsMostOf before.seats before.cut ask m
     → IsTrialAnswer ask tries before after answer → after.seat.trace.taken ≤ before.seat.trace.taken + tries * m
-trial_steps ask tries m before after Done most s =
-    last_steps before.seats before.cut ask m most s.0 tries before.seat s.2 after.seat s.1 s.3 s.4.one
+trial_steps ask tries m before after Done most s = last_steps before.seats before.cut ask m most s.0 tries before.seat s.2 after.seat s.1 s.3 s.4.one
 trial_steps ask tries m before after (Refused why) most s =
-    let below : s.0 < tries = let e = s.1 in omega arith in
-    last_steps before.seats before.cut ask m most s.0 tries before.seat s.2 after.seat below s.3 s.4.one
-trial_steps ask tries m before after NotTried most s =
-    let same = ap (λ (b : Behind). b.seat.trace.taken) s.1 in omega arith
-trial_steps ask tries m before after BadRange most s = absurd s
-trial_steps ask tries m before after HasOne most s = absurd s
-trial_steps ask tries m before after HasNone most s = absurd s
-trial_steps ask tries m before after Closed most s = absurd s
-trial_steps ask tries m before after Open most s = absurd s
-trial_steps ask tries m before after Memory most s = absurd s
-trial_steps ask tries m before after Seats most s = absurd s
-trial_steps ask tries m before after Words most s = absurd s
-trial_steps ask tries m before after NoneLeft most s = absurd s
-trial_steps ask tries m before after NoWord most s = absurd s
-trial_steps ask tries m before after Other most s = absurd s
-trial_steps ask tries m before after BadCut most s = absurd s
+    let below : s.0 < tries = let e = s.1 in omega arith in last_steps before.seats before.cut ask m most s.0 tries before.seat s.2 after.seat below s.3 s.4.one
+trial_steps ask tries m before after NotTried most s = let same = ap (λ (b : Behind). b.seat.trace.taken) s.1 in omega arith
+trial_steps ask tries m before after answer most s = absurd s
 
 -- the tries for a range with these ends, in the mode that the flag means, are those that the call asks for
-pub tried_for : (lo hi : ℕ) (range : Interval) (writer : Bool) (mode : Mode) (tries : ℕ) (answer : Answer) (before after : Behind)
-    → range.lo ≡ lo → range.hi ≡ hi → mode ≡ mode_for writer
-    → IsRange lo hi → before.seat.held ≡ None → IsTrial before after
-    → IsTrialAnswer (record { range = range; mode = mode }) tries before after answer
-    → IsTried lo hi writer tries answer before after
-tried_for lo hi range writer mode tries answer before after l h m is free kept a =
-    let one : IsTrialAnswer (record { range = range; mode = mode_for writer }) tries before after answer =
-    subst (λ (x : Mode). IsTrialAnswer (record { range = range; mode = x }) tries before after answer) m a in
-    let two : IsTrialAnswer (record { range = record { lo = lo; hi = range.hi }; mode = mode_for writer }) tries before after
-    answer = subst (λ (x : ℕ). IsTrialAnswer (record { range = record { lo = x; hi = range.hi }; mode = mode_for writer })
-    tries before after answer) l one in
+pub tried_for : {lo hi : ℕ} (range : Interval) (writer : Bool) {mode : Mode} (tries : ℕ) (answer : Answer) {before after : Behind} → range.lo ≡ lo
+    → range.hi ≡ hi → mode ≡ mode_for writer → IsRange lo hi → before.seat.held ≡ None → IsTrial before after
+    → IsTrialAnswer (record { range = range; mode = mode }) tries before after answer → IsTried lo hi writer tries answer before after
+tried_for {lo} {hi} range writer {mode} tries answer {before} {after} l h m is free kept a =
     let all : IsTrialAnswer (asked lo hi writer) tries before after answer =
-    subst (λ (x : ℕ). IsTrialAnswer (record { range = record { lo = lo; hi = x }; mode = mode_for writer }) tries before after
-    answer) h two in
-    tried lo hi writer tries answer before after (record {
+    subst (λ (x : Held). IsTrialAnswer x tries before after answer) (λ i. record { range = record { lo = l i; hi = h i }; mode = m i }) a in
+    tried answer (record {
       range = is;
       free = free;
       kept = kept;

@@ -1,12 +1,8 @@
 -- What a seat asks for, call after call: a call that asks for nothing leaves it, and two that ask for such ranges alone
 -- are one that does.
-use Rattle.std.proofs.Common.{◌≡◌, List, [], ◌∷◌, ◌++◌, refl, sym, ap, ◌∙◌}
+use Rattle.std.proofs.Common.{◌≡◌, List, [], ◌∷◌, ◌++◌, append_assoc, refl, sym, ap, ◌∙◌}
 use Rattle.lock_core.specs.declared.range.Held.{Held}
 use Rattle.range_rw.specs.Contract.{AreAll, AsksAmong, AsksOnly, AsksFor}
-
-joined : (a b c : List Held) → (a ++ b) ++ c ≡ a ++ (b ++ c)
-joined [] b c = refl
-joined (h ∷ a) b c = ap (λ (l : List Held). h ∷ l) (joined a b c)
 
 all_joined : (IsOne : Held → Type 0) (a b : List Held) → AreAll IsOne a → AreAll IsOne b → AreAll IsOne (a ++ b)
 all_joined IsOne [] b x y = y
@@ -28,7 +24,7 @@ asks_stay {IsOne} {t} {u} e = record { more = []; is = e; all = tt }
 pub asks_on : {IsOne : Held → Type 0} {t u v : List Held} → AsksAmong IsOne t u → AsksAmong IsOne u v → AsksAmong IsOne t v
 asks_on {IsOne} {t} {u} {v} a b = record {
   more = b.more ++ a.more;
-  is = b.is ∙ (ap (λ (l : List Held). b.more ++ l) a.is ∙ sym (joined b.more a.more t));
+  is = b.is ∙ (ap (λ (l : List Held). b.more ++ l) a.is ∙ sym (append_assoc b.more a.more t));
   all = all_joined IsOne b.more a.more b.all a.all;
 }
 
@@ -64,11 +60,8 @@ for_kept {h} {t} {u} {v} f e = (f.0, f.1, e ∙ f.2)
 
 for_more : (h : Held) (t u : List Held) (more : List Held) → AsksFor h t u → AreAll (λ x. x ≡ h) more → AsksFor h t (more ++ u)
 for_more h t u [] f all = f
-for_more h t u (x ∷ more) f all = (
-  more ++ u,
-  asks_on (asks_on f.1 (asks_here h f.0 u f.2)) (record { more = more; is = refl; all = all.1 }),
-  ap (λ (y : Held). y ∷ (more ++ u)) all.0,
-)
+for_more h t u (x ∷ more) f all =
+    (more ++ u, asks_on (asks_on f.1 (asks_here h f.0 u f.2)) (record { more = more; is = refl; all = all.1 }), ap (λ (y : Held). y ∷ (more ++ u)) all.0)
 
 -- before one that asks for no other
 pub for_on : {h : Held} {t u v : List Held} → AsksFor h t u → AsksOnly h u v → AsksFor h t v
@@ -81,12 +74,7 @@ for_only {h} {t} {u} f = asks_on f.1 (asks_here h f.0 u f.2)
 -- it asks for that range first
 turned_round : (h : Held) (more t : List Held) → AreAll (λ x. x ≡ h) more → h ∷ (more ++ t) ≡ more ++ h ∷ t
 turned_round h [] t all = refl
-turned_round h (x ∷ more) t all =
-    (λ i. sym all.0 i ∷ (all.0 i ∷ (more ++ t))) ∙ ap (λ (l : List Held). x ∷ l) (turned_round h more t all.1)
+turned_round h (x ∷ more) t all = (λ i. sym all.0 i ∷ (all.0 i ∷ (more ++ t))) ∙ ap (λ (l : List Held). x ∷ l) (turned_round h more t all.1)
 
 pub for_first : {h : Held} {t u : List Held} → AsksFor h t u → AsksOnly h (h ∷ t) u
-for_first {h} {t} {u} f = record {
-  more = f.1.more;
-  is = f.2 ∙ (ap (λ (l : List Held). h ∷ l) f.1.is ∙ turned_round h f.1.more t f.1.all);
-  all = f.1.all;
-}
+for_first {h} {t} {u} f = record { more = f.1.more; is = f.2 ∙ (ap (λ (l : List Held). h ∷ l) f.1.is ∙ turned_round h f.1.more t f.1.all); all = f.1.all }

@@ -24,29 +24,13 @@ use Rattle.marked_list.specs.Order.{IsOutside, MaySweep}
 use Rattle.marked_list.specs.Causes.{nodes_in, IsSpent}
 use Rattle.range_rw.specs.declared.refusals.NotHeld.{NotHeld}
 use Rattle.range_rw.specs.declared.refusals.NotHeld.TheVariants.{Busy, Again, Long as TooLong, NoNode}
-use Rattle.range_rw.specs.Contract.{
-  SeatState,
-  Pools,
-  IsLongRefusal,
-  IsReadyLeft,
-  IsWalkOf,
-  IsSpentIn,
-  IsCause,
-  IsListCause,
-  IsLockCall,
-  AsksOnly,
-  OpenScan,
-  WorksIn,
-  TellsList,
-  KeepsOthers,
-  StandsIn,
-  pools_at,
-  in_list,
-}
+use Rattle.range_rw.specs.Contract.{SeatState, Pools, IsLongRefusal, IsReadyLeft, IsWalkOf, IsSpentIn, IsCause, IsListCause, IsLockCall}
+use Rattle.range_rw.specs.Contract.{AsksOnly, OpenScan, WorksIn, TellsList, KeepsOthers, StandsIn, pools_at, in_list}
 use Rattle.range_rw.specs.Seats.{counted_in, pools_of, scan_of, walk_of, placed_scan, placed_in, seat_state_in, seat_state_of}
 use Rattle.range_rw.specs.Trying.{IsLaterInTry}
 use Rattle.range_rw.specs.Several.{list_state, IsLaterInLists, IsFreeSeat, HoldsAlone, IsCauseIn, ShowsOthers}
-use Rattle.range_rw.proofs.Pieces.{own_at, only_stays, here_state, rests_free, cause_before, cause_kept}
+use Rattle.range_rw.proofs.Pieces.{own_at, own_each, only_stays, ready_stays, here_state, rests_free}
+use Rattle.range_rw.proofs.Taking.{cause_within}
 use Rattle.range_rw.proofs.Asking.{asks_from}
 use Rattle.range_rw.proofs.Moves.{lists_on, narrow_counts, wide_counts}
 use Rattle.range_rw.proofs.Seated.{count_numbers, pools_shown, try_lists, lists_call}
@@ -130,9 +114,7 @@ module _ {P : Type 0} where
     pub here_free : q.core.own ≡ Nothing → IsFreeSeat q
     here_free own = record {
       rests = here_rests;
-      free = λ j. dite (ℕ_discrete j p.pass.list)
-          (λ e. ap (λ (v : View). v.own) (own_at q j (here_list ∙ sym e)) ∙ own)
-          (λ away. ap (λ (v : View). v.own) (here_only j away) ∙ h.free.free j);
+      free = own_each p.pass.list q here_list own (λ j away. ap (λ (v : View). v.own) (here_only j away) ∙ h.free.free j);
       standing = here_standing;
     }
 
@@ -155,11 +137,7 @@ narrow_list {c} {range} {at} lists some all many one =
 -- leaving an epoch leaves the ready nodes of every list
 pub left_ready : {P : Type 0} (p m : SeatPart (Beside P)) → IsLaterInTry p m → m.core.ready ≡ p.core.ready
     → (j : ℕ) → (shown_core m j).ready ≡ (shown_core p j).ready
-left_ready p m l ready j = dite (ℕ_discrete j p.pass.list)
-    (λ e. ap (λ (v : View). v.ready) (own_at m j (ap (λ (b : Beside _). b.list) l.pass ∙ sym e))
-    ∙ (ready ∙ ap (λ (v : View). v.ready) (sym (own_at p j (sym e)))))
-    (λ away. ap (λ (v : View). v.ready)
-    (only_stays p m (ap (λ (b : Beside _). b.list) l.pass) (ap (λ (b : Beside _). b.others) l.pass) j away))
+left_ready p m l ready = ready_stays p m (ap (λ (b : Beside _). b.list) l.pass) (ap (λ (b : Beside _). b.others) l.pass) ready
 
 -- a seat leaves the epoch in which it was, and goes on
 pub record Left {P : Type 0} (was at now : TableId) (p m q : SeatPart (Beside P)) : Type 0 where
@@ -168,9 +146,8 @@ pub record Left {P : Type 0} (was at now : TableId) (p m q : SeatPart (Beside P)
   pub lists : q.pass.lists ≡ m.pass.lists
 
 module _ {P : Type 0} {was at now : TableId} {p m q : SeatPart (Beside P)} (left : Left was at now p m q) where
-  walk_on : {b s : SeatState P} (c d : SeatState P) → b.trace.taken ≡ m.trace.taken
-      → (s.trace.looked ≡ q.trace.looked) × (s.trace.taken ≡ q.trace.taken) → c.trace.taken ≡ p.trace.taken
-      → (d.trace.looked ≡ q.trace.looked) × (d.trace.taken ≡ q.trace.taken) → IsWalkOf b s → IsWalkOf c d
+  walk_on : {b s : SeatState P} (c d : SeatState P) → b.trace.taken ≡ m.trace.taken → (s.trace.looked ≡ q.trace.looked) × (s.trace.taken ≡ q.trace.taken) →
+      c.trace.taken ≡ p.trace.taken → (d.trace.looked ≡ q.trace.looked) × (d.trace.taken ≡ q.trace.taken) → IsWalkOf b s → IsWalkOf c d
   walk_on c d before after first last w = record {
     walk = w.walk;
     is = last.0 ∙ (sym after.0 ∙ w.is);
@@ -192,9 +169,8 @@ module _ {P : Type 0} {was at now : TableId} {p m q : SeatPart (Beside P)} (left
       let n = count_numbers (λ j. pools_of (shown_core p j)) 1 (p.pass.lists - 1) in (
         i,
         omega arith,
-        cause_kept before (list_state at q i) after refl pools_now refl refl refl refl refl (omega arith) i asked why
-            (cause_before before (list_state at m i) (list_state at q i) left.later.taken left.later.number
-            (λ e. ap (λ (x : Pools). x.ready) pools ∙ (sym (left.ready i) ∙ e)) i asked why x.3),
+        cause_within before (list_state at m i) (list_state at q i) after left.later.taken left.later.number
+            (λ e. ap (λ (x : Pools). x.ready) pools ∙ (sym (left.ready i) ∙ e)) refl pools_now refl refl refl refl refl (omega arith) i asked why x.3,
       )
 
   -- and the list that it tells is one in which the try works
@@ -217,10 +193,8 @@ module _ {P : Type 0} {was at now : TableId} {p m q : SeatPart (Beside P)} (left
           → IsSpentIn seats (seat_state_of (record { table = was; part = p })) (seat_state_of (record { table = now; part = q }))
       spent (Busy owner range mode) x l s = absurd l
       spent (Again told place expected found) x l s = absurd l
-      spent (TooLong visits) x l s =
-          let w = walk_on (seat_state_of (record { table = was; part = p })) (seat_state_of (record { table = now; part = q })) refl (refl, refl) refl
-          (refl, refl) x.3.0 in
-          (w, sym (ap nodes_in w.is) ∙ (s.0 ∙ ap (λ n. 16 * n + 1) many), free)
+      spent (TooLong visits) x l s = let w = walk_on (seat_state_of (record { table = was; part = p })) (seat_state_of (record { table = now; part = q })) refl
+          (refl, refl) refl (refl, refl) x.3.0 in (w, sym (ap nodes_in w.is) ∙ (s.0 ∙ ap (λ n. 16 * n + 1) many), free)
       spent (NoNode told stuck) x l s = absurd l
 
 -- the ready nodes of each list, as the seats show them
@@ -231,14 +205,12 @@ further_ready f g a b each first from zero (suc j) = first
 further_ready f g a b each first from (suc many) zero = each from
 further_ready f g a b each first from (suc many) (suc j) = further_ready f g a b each first (from + 1) many j
 
-pub ready_at : {P : Type 0} (was now : TableId) (p q : SeatPart (Beside P)) → q.pass.lists ≡ p.pass.lists
-    → ((j : ℕ) → IsReadyLeft (shown_core p j).ready (shown_core q j).ready)
-    → (j : ℕ) → IsReadyLeft (pools_at (seat_state_of (record { table = was; part = p })) j).ready
-    (pools_at (seat_state_of (record { table = now; part = q })) j).ready
+pub ready_at : {P : Type 0} (was now : TableId) (p q : SeatPart (Beside P)) → q.pass.lists ≡ p.pass.lists → ((j : ℕ) → IsReadyLeft (shown_core p j).ready
+    (shown_core q j).ready) → (j : ℕ) → IsReadyLeft (pools_at (seat_state_of (record { table = was; part = p })) j).ready (pools_at (seat_state_of
+    (record { table = now; part = q })) j).ready
 ready_at was now p q lists each zero = each 0
-ready_at was now p q lists each (suc j) =
-    subst (λ n. IsReadyLeft (get_or (map (λ i. pools_of (shown_core p i)) (numbers_from 1 (p.pass.lists - 1))) j (pools_of (shown_core p 0))).ready
-    (get_or (map (λ i. pools_of (shown_core q i)) (numbers_from 1 (n - 1))) j (pools_of (shown_core q 0))).ready) (sym lists)
+ready_at was now p q lists each (suc j) = subst (λ n. IsReadyLeft (get_or (map (λ i. pools_of (shown_core p i)) (numbers_from 1 (p.pass.lists - 1))) j
+    (pools_of (shown_core p 0))).ready (get_or (map (λ i. pools_of (shown_core q i)) (numbers_from 1 (n - 1))) j (pools_of (shown_core q 0))).ready) (sym lists)
     (further_ready (λ i. pools_of (shown_core p i)) (λ i. pools_of (shown_core q i)) (pools_of (shown_core p 0)) (pools_of (shown_core q 0)) each (each 0) 1
     (p.pass.lists - 1) j)
 
@@ -246,17 +218,15 @@ ready_at was now p q lists each (suc j) =
 pub others_kept : {P : Type 0} (was now : TableId) (p m q : SeatPart (Beside P)) (c : Regions) (range : Interval) → p.pass.lists ≡ list_count c
     → q.pass.lists ≡ p.pass.lists → m ≡ p → ShowsOthers c range m q
     → KeepsOthers c range (seat_state_of (record { table = was; part = p })) (seat_state_of (record { table = now; part = q }))
-others_kept {P} was now p m q c range many lists same others j less none =
-    pools_shown now q j (omega arith)
-    ∙ (ap pools_of (others j none ∙ ap (λ (x : SeatPart (Beside P)). shown_core x j) same) ∙ sym (pools_shown was p j (omega arith)))
+others_kept {P} was now p m q c range many lists same others j less none = pools_shown now q j (omega arith) ∙ (ap pools_of (others j none ∙ ap
+    (λ (x : SeatPart (Beside P)). shown_core x j) same) ∙ sym (pools_shown was p j (omega arith)))
 
 -- a seat without an open scan is outside its epoch
 pub closed_even : {P : Type 0} (p : SeatPart (Beside P)) → placed_in p.pass.lists p.pass.list (scan_of p) ≡ None → p.core.epoch % 2 ≡ 0
 closed_even {P} p none = by (p.core.epoch % 2 == 0) refl none
   where
-    by : (b : Bool) → (p.core.epoch % 2 == 0) ≡ b
-        → placed_in p.pass.lists p.pass.list (if b then None else Some (walk_of (16 * p.seats + 1) p.core.cursor p.trace.looked)) ≡ None
-        → p.core.epoch % 2 ≡ 0
+    by : (b : Bool) → (p.core.epoch % 2 == 0) ≡ b → placed_in p.pass.lists p.pass.list (if b then None else Some (walk_of (16 * p.seats + 1) p.core.cursor
+        p.trace.looked)) ≡ None → p.core.epoch % 2 ≡ 0
     by true e z = eqb-true (p.core.epoch % 2) 0 e
     by false e z = absurd (let x : ◌≡◌ {A = Option OpenScan} (Some (placed_scan p.pass.lists p.pass.list
         (walk_of (16 * p.seats + 1) p.core.cursor p.trace.looked))) None = z in cc)

@@ -55,13 +55,8 @@ module _ {P : Type 0} {c : Regions} {range : Interval} {own at up : ℕ} {p : Se
   -- it is due still while the standing stays
   pub due_on : (q : SeatPart (Beside P)) → q.pass.lists ≡ p.pass.lists → q.pass.standing ≡ p.pass.standing → IsDue c range q own at up
   due_on q lists standing = ⊎_elim
-      (λ (n : IsNarrowDue c range p own at). inl (record {
-        low = n.low;
-        there = let a = n.there in omega arith;
-        first = n.first;
-        takes = n.takes;
-        free = standing ∙ n.free;
-      }))
+      (λ (n : IsNarrowDue c range p own at). inl
+      (record { low = n.low; there = let a = n.there in omega arith; first = n.first; takes = n.takes; free = standing ∙ n.free }))
       (λ (w : IsWideDue c range p own at up). inr (record {
         first = w.first;
         low = w.low;
@@ -152,8 +147,7 @@ pub record Swept {P : Type 0} (home other : ℕ) (asked : Held) (p w t : SeatPar
 module _ {P : Type 0} {home other : ℕ} {asked : Held} {p w t : SeatPart (Beside P)} (swept : Swept home other asked p w t) where
   -- the range is held as before, and the hand is turned to it
   pub swept_alone : HoldsAlone home asked t
-  swept_alone = holds_turned swept.turn swept.stays swept.rests
-      (holds_on (λ e. swept.differ (sym e)) swept.holds swept.sweep swept.free)
+  swept_alone = holds_turned swept.turn swept.stays swept.rests (holds_on (λ e. swept.differ (sym e)) swept.holds swept.sweep swept.free)
 
   pub swept_lists : t.pass.lists ≡ p.pass.lists
   swept_lists = ap (λ (x : SeatPart (Beside P)). x.pass.lists) swept.turn ∙ swept.sweep.later.lists

@@ -30,7 +30,7 @@ use Rattle.range_rw.specs.Contract.{RefusesTry}
 use Rattle.range_rw.specs.Patience.{InsideEnds, HoldsOrNone}
 use Rattle.range_rw.specs.Trying.{has_come, IsFilling, IsLaterInTry, IsLaterInEpoch, Refuses, LinkEnds, ValidateEnds}
 use Rattle.range_rw.specs.Trying.{InsertEnds, StaysFilled, LeavesNode, EpochEnds}
-use Rattle.range_rw.proofs.Later.{later_on, still_on, walk_still, inside_still, Keeps, refuses_after, refuses_from, walk_refuses, spent_look, long_after}
+use Rattle.range_rw.proofs.Later.{later_on, still_on, walk_still, inside_still, Keeps, keeps_all, lost_on, refuses_on, walk_refuses, spent_look, long_after}
 
 -- ---- the walk and the link
 
@@ -38,12 +38,17 @@ use Rattle.range_rw.proofs.Later.{later_on, still_on, walk_still, inside_still, 
 fill_free : (own : Own) → HasEnds own → held_at own ≡ None
 fill_free own e = ap held_at e.is
 
+-- a walk that came to its end came to its place
+come_is : (a : Walked) → has_come a ≡ true → a ≡ Place
+come_is Place came = refl
+come_is (Conflict owner range mode) came = absurd (let z : ◌≡◌ {A = Bool} false true = came in cc)
+come_is (Lost l) came = absurd (let z : ◌≡◌ {A = Bool} false true = came in cc)
+come_is (Long visits) came = absurd (let z : ◌≡◌ {A = Bool} false true = came in cc)
+
 came_by : {P : Type 0} (first : ℕ) (p q : SeatPart P) (a : Walked) → has_come a ≡ true → HasEnds p.core.own
     → Answers first p.core.own q a → (q.core.own ≡ p.core.own) × StandsAtPlace q.core.cursor
-came_by first p q Place came e x = let y = subst (λ (o : Own). Arrives o q.core) e.is x in (y.0 ∙ sym e.is, y.1)
-came_by first p q (Conflict owner range mode) came e x = absurd (let z : ◌≡◌ {A = Bool} false true = came in cc)
-came_by first p q (Lost l) came e x = absurd (let z : ◌≡◌ {A = Bool} false true = came in cc)
-came_by first p q (Long visits) came e x = absurd (let z : ◌≡◌ {A = Bool} false true = came in cc)
+came_by first p q a came e x =
+    let y = subst (λ (o : Own). Arrives o q.core) e.is (subst (Answers first p.core.own q) (come_is a came) x) in (y.0 ∙ sym e.is, y.1)
 
 ends_same : (own now : Own) → now ≡ own → HasEnds own → HasEnds now
 ends_same own now same e = subst HasEnds (sym same) e
@@ -51,8 +56,7 @@ ends_same own now same e = subst HasEnds (sym same) e
 module _ {P : Type 0} (p q : SeatPart P) (a : Walked) (may : MayWalk p.core) (on : IsLaterInWalk p q) (answer : Answers p.trace.taken p.core.own q a) where
   -- a walk that came to the place of a filled node leaves it so that it may be linked
   pub may_link_on : has_come a ≡ true → MayLink q.core
-  may_link_on came =
-      let c = came_by p.trace.taken p q a came may.own answer in
+  may_link_on came = let c = came_by p.trace.taken p q a came may.own answer in
       record { inside = inside_still p q may.inside (walk_still p q on); own = ends_same p.core.own q.core.own c.0 may.own; place = c.1 }
 
   -- any other answer of the walk refuses the try, with the node still being filled
@@ -73,13 +77,7 @@ module _ {P : Type 0} (p q : SeatPart P) (a : Walked) (may : MayWalk p.core) (on
     free = ap held_at same ∙ fill_free p.core.own may.own
 
     not_spent : IsSpent r → ⊥
-    not_spent s = by_answer a came (long.1 (spent_look q r look call.seats free s))
-      where
-        by_answer : (b : Walked) → has_come b ≡ true → IsLong b → ⊥
-        by_answer Place y l = l
-        by_answer (Conflict owner range mode) y l = l
-        by_answer (Lost m) y l = l
-        by_answer (Long visits) y l = let z : ◌≡◌ {A = Bool} false true = y in absurd (cc)
+    not_spent s = subst IsLong (come_is a came) (long.1 (spent_look q r look call.seats free s))
 
     call_later : IsLaterInTry q r
     call_later = record { number = call.number; seats = call.seats; pass = call.pass; client = call.client; taken = let t = call.taken in omega arith }
@@ -110,18 +108,7 @@ module _ {P : Type 0} (p q : SeatPart P) (a : Walked) (may : MayWalk p.core) (on
     pub lost_ends : (l : LostAnswer) → Links q r (NotLinked l) → LinkEnds p r (Lost l)
     lost_ends l x = (
       (λ node f. subst (IsFilling node) (sym (ap (λ (v : View). v.own) x.1)) (aimed_filling (cursor_word q.core.cursor) node f)),
-      record {
-        lost = x.0.lost;
-        is = x.0.is;
-        kind = subst RefusesTry (sym x.0.kind) tt;
-        from = let f = x.0.from in let t = on.taken in omega arith;
-        below = x.0.below;
-        listed = x.0.listed;
-        placed = x.0.placed;
-        wanted = x.0.wanted;
-        had = x.0.had;
-        differ = x.0.differ;
-      },
+      lost_on (keeps_all r) x.0 (λ s is_link. subst RefusesTry (sym is_link) tt) (let t = on.taken in omega arith),
     )
 
     -- after a walk that came to its place no walk is spent
@@ -151,15 +138,9 @@ module _ {P : Type 0} (p q : SeatPart P) (a : Walked) (own : HasToValidate p.cor
     (answer : Answers p.trace.taken p.core.own q a) (new : IsNewWalk p.trace.taken q) where
   -- a validation that comes to its end holds what was asked for
   pub valid_ends : has_come a ≡ true → ValidateEnds p q a
-  valid_ends came = by_answer a came answer
-    where
-      by_answer : (b : Walked) → has_come b ≡ true → Answers p.trace.taken p.core.own q b → ValidateEnds p q b
-      by_answer Place y x =
-          let z : q.core.own ≡ Linked own.node.node own.node.range own.node.mode Done = subst (λ (o : Own). Arrives o q.core) own.is x in
-          (ap held_at z ∙ ap asked_of (sym own.is), ap may_leave z)
-      by_answer (Conflict owner range mode) y x = absurd (let z : ◌≡◌ {A = Bool} false true = y in cc)
-      by_answer (Lost l) y x = absurd (let z : ◌≡◌ {A = Bool} false true = y in cc)
-      by_answer (Long visits) y x = absurd (let z : ◌≡◌ {A = Bool} false true = y in cc)
+  valid_ends came = let x = subst (Answers p.trace.taken p.core.own q) (come_is a came) answer in
+      let z : q.core.own ≡ Linked own.node.node own.node.range own.node.mode Done = subst (λ (o : Own). Arrives o q.core) own.is x in
+      subst (ValidateEnds p q) (sym (come_is a came)) (ap held_at z ∙ ap asked_of (sym own.is), ap may_leave z)
 
   module _ (isnt : has_come a ≡ false) where
     refused : (q.core.own ≡ p.core.own) × Refuses p.trace.taken (asked_of p.core.own) q a
@@ -189,7 +170,8 @@ module _ {P : Type 0} (p q : SeatPart P) (a : Walked) (own : HasToValidate p.cor
 
       -- then the hand has no own node, and the answer refuses the try
       pub marked_ends : ValidateEnds p r a
-      marked_ends = by_answer a isnt (refuses_after p.trace.taken (asked_of p.core.own) q r a keeps refused.1)
+      marked_ends = by_answer a isnt (refuses_on p.trace.taken p.trace.taken (asked_of p.core.own) (asked_of p.core.own) q r a (omega arith) refl keeps
+          refused.1)
         where
           by_answer : (b : Walked) → has_come b ≡ false → Refuses p.trace.taken (asked_of p.core.own) r b → ValidateEnds p r b
           by_answer Place n x = absurd (let e : ◌≡◌ {A = Bool} true false = n in cc)
@@ -221,11 +203,9 @@ module _ {P : Type 0} (p q : SeatPart P) (a : Walked) (own : HasToValidate p.cor
 
 -- a node that was linked asks for what it was filled with
 pub asks_linked : (own now : Own) → HasEnds own → now ≡ linked_own todo_of own → asked_of now ≡ asked_of own
-asks_linked own now e same =
-    ap asked_of (same ∙ ap (linked_own todo_of) e.is)
-    ∙ ((λ i. Some (record { range = record { lo = unwrap_or (e.low i) 0; hi = unwrap_or (e.high i) 0 }; mode = e.node.mode }))
-    ∙ ((λ i. given (sym e.low i) (λ low. given (sym e.high i)
-    (λ high. Some (record { range = record { lo = low; hi = high }; mode = e.node.mode })))) ∙ ap asked_of (sym e.is)))
+asks_linked own now e same = ap asked_of (same ∙ ap (linked_own todo_of) e.is) ∙ ((λ i. Some
+    (record { range = record { lo = unwrap_or (e.low i) 0; hi = unwrap_or (e.high i) 0 }; mode = e.node.mode })) ∙ ((λ i. given (sym e.low i) (λ low. given
+    (sym e.high i) (λ high. Some (record { range = record { lo = low; hi = high }; mode = e.node.mode })))) ∙ ap asked_of (sym e.is)))
 
 validates_linked : (own now : Own) → HasEnds own → now ≡ linked_own todo_of own → HasToValidate now
 validates_linked own now e same = record {
@@ -242,13 +222,7 @@ validates_linked own now e same = record {
 module _ {P : Type 0} (p q : SeatPart P) (a : Walked) (may : MayWalk p.core) (still : IsLaterInEpoch p q) (ends : LinkEnds p q a) where
   -- a node that came to its place is linked, and the cursor is gone
   pub placed : has_come a ≡ true → (q.core.own ≡ linked_own todo_of p.core.own) × (q.core.cursor ≡ None)
-  placed came = by_answer a came ends
-    where
-      by_answer : (b : Walked) → has_come b ≡ true → LinkEnds p q b → (q.core.own ≡ linked_own todo_of p.core.own) × (q.core.cursor ≡ None)
-      by_answer Place y x = x
-      by_answer (Conflict owner range mode) y x = absurd (let z : ◌≡◌ {A = Bool} false true = y in cc)
-      by_answer (Lost l) y x = absurd (let z : ◌≡◌ {A = Bool} false true = y in cc)
-      by_answer (Long visits) y x = absurd (let z : ◌≡◌ {A = Bool} false true = y in cc)
+  placed came = subst (LinkEnds p q) (come_is a came) ends
 
   -- after walk and link the hand is inside its epoch
   pub insert_inside : IsInside q.core
@@ -280,7 +254,7 @@ module _ {P : Type 0} (p q : SeatPart P) (a : Walked) (may : MayWalk p.core) (st
       asks = asks_linked p.core.own q.core.own may.own (placed came).0
 
       from : (c : Walked) → Refuses q.trace.taken (asked_of q.core.own) r c → Refuses p.trace.taken (asked_of p.core.own) r c
-      from c = refuses_from p.trace.taken q.trace.taken (asked_of p.core.own) (asked_of q.core.own) r c still.later.taken asks
+      from c = refuses_on p.trace.taken q.trace.taken (asked_of p.core.own) (asked_of q.core.own) r r c still.later.taken asks (keeps_all r)
 
       by_answer : (c : Walked) → ValidateEnds q r c → InsertEnds p r c
       by_answer Place y = (y.0 ∙ asks, y.1)
@@ -318,13 +292,7 @@ module _ {P : Type 0} (p e : SeatPart P) (own : HasEnds p.core.own) (entering : 
   own_in = ap (λ (x : SeatPart P). x.core.own) entering
 
   later_in : IsLaterInTry p e
-  later_in = record {
-    number = ap (λ (x : SeatPart P). x.number) entering;
-    seats = ap (λ (x : SeatPart P). x.seats) entering;
-    pass = ap (λ (x : SeatPart P). x.pass) entering;
-    client = ap (λ (x : SeatPart P). x.trace.client) entering;
-    taken = let t = ap (λ (x : SeatPart P). x.trace.taken) entering in omega arith;
-  }
+  later_in = subst (IsLaterInTry p) (sym entering) (record { number = refl; seats = refl; pass = refl; client = refl; taken = omega arith })
 
   -- a hand that entered its epoch with a filled node may walk
   pub may_walk_in : IsInside e.core → MayWalk e.core
@@ -349,8 +317,7 @@ module _ {P : Type 0} (p e : SeatPart P) (own : HasEnds p.core.own) (entering : 
     kept_back : IsBack → kept_own f.core.own ≡ Nothing
     kept_back x = ⊎_elim (λ n. ap kept_own n) (λ g. ap kept_own (g own.node.node filled_in).1) x
 
-    may_leave_in : (a : Option Walked) (leaves : Bool) → MatchOption a (StaysFilled leaves e f) (InsertEnds e f)
-        → may_leave f.core.own ≡ true
+    may_leave_in : (a : Option Walked) (leaves : Bool) → MatchOption a (StaysFilled leaves e f) (InsertEnds e f) → may_leave f.core.own ≡ true
     may_leave_in None leaves x = leaves_back (same_back x.0)
     may_leave_in (Some Place) leaves x = x.1
     may_leave_in (Some (Conflict owner range mode)) leaves x = leaves_back x.0
@@ -358,8 +325,7 @@ module _ {P : Type 0} (p e : SeatPart P) (own : HasEnds p.core.own) (entering : 
     may_leave_in (Some (Long visits)) leaves x = leaves_back x.0
 
     -- after the insertion, also where it was given up, the epoch may be left
-    pub may_end_in : (a : Option Walked) (leaves : Bool) → MatchOption a (StaysFilled leaves e f) (InsertEnds e f)
-        → IsInside e.core → MayEnd f.core
+    pub may_end_in : (a : Option Walked) (leaves : Bool) → MatchOption a (StaysFilled leaves e f) (InsertEnds e f) → IsInside e.core → MayEnd f.core
     may_end_in a leaves ends i = record { inside = inside_still e f i still; own = may_leave_in a leaves ends }
 
     -- the same after a patient insertion
@@ -396,13 +362,8 @@ module _ {P : Type 0} (p e : SeatPart P) (own : HasEnds p.core.own) (entering : 
 
       -- the whole, from entering to leaving, is a call of the try
       pub insert_later : IsLaterInTry p q
-      insert_later = later_on p e q later_in (later_on e f q still.later (record {
-        number = ap (λ (x : SeatPart P). x.number) leaving;
-        seats = seats_out;
-        pass = ap (λ (x : SeatPart P). x.pass) leaving;
-        client = ap (λ (x : SeatPart P). x.trace.client) leaving;
-        taken = let t = ap (λ (x : SeatPart P). x.trace.taken) leaving in omega arith;
-      }))
+      insert_later = later_on p e q later_in (later_on e f q still.later
+          (subst (IsLaterInTry f) (sym leaving) (record { number = refl; seats = refl; pass = refl; client = refl; taken = omega arith })))
 
       back_ready : IsBack → (node : ℕ) → IsFilling node p.core.own → (q.core.ready ≡ p.core.ready) ⊎ (q.core.ready ≡ node ∷ p.core.ready)
       back_ready x node at = ⊎_elim
@@ -410,18 +371,15 @@ module _ {P : Type 0} (p e : SeatPart P) (own : HasEnds p.core.own) (entering : 
           (λ g. let h = g node (at.0, own_in ∙ at.1, at.2) in inr (ready_out ∙ (ap (λ (o : Own). ready_left o f.core.ready) h.1 ∙ (λ i. h.2 i ∷ ready_in i)))) x
 
       back_refuses : (b : Walked) → Refuses e.trace.taken (asked_of e.core.own) f b → Refuses p.trace.taken (asked_of p.core.own) q b
-      back_refuses b x = refuses_from p.trace.taken e.trace.taken (asked_of p.core.own) (asked_of e.core.own) q b later_in.taken
-          (ap asked_of own_in) (refuses_after e.trace.taken (asked_of e.core.own) f q b keeps_out x)
+      back_refuses b x = refuses_on p.trace.taken e.trace.taken (asked_of p.core.own) (asked_of e.core.own) f q b later_in.taken
+          (ap asked_of own_in) keeps_out x
 
       -- the node that is still being filled is the first ready one again
       ready_again : f.core.own ≡ e.core.own → (node : ℕ) → IsFilling node p.core.own → q.core.ready ≡ node ∷ p.core.ready
-      ready_again same node at = ready_out
-          ∙ (ap (λ (o : Own). ready_left o f.core.ready) (same ∙ (own_in ∙ at.1)) ∙ (λ i. at.2 i ∷ ready_in i))
+      ready_again same node at = ready_out ∙ (ap (λ (o : Own). ready_left o f.core.ready) (same ∙ (own_in ∙ at.1)) ∙ (λ i. at.2 i ∷ ready_in i))
 
       ends_walked : (b : Walked) → InsertEnds e f b → EpochEnds p q b
-      ends_walked Place x =
-          let asks = asks_ends p.core.own own in
-          let held : held_at f.core.own ≡ asked_of p.core.own = x.0 ∙ ap asked_of own_in in
+      ends_walked Place x = let asks = asks_ends p.core.own own in let held : held_at f.core.own ≡ asked_of p.core.own = x.0 ∙ ap asked_of own_in in
           (ap held_at own_out ∙ (kept_held f.core.own ∙ held), ready_out ∙ (ready_held f.core.own asks.0 f.core.ready (held ∙ asks.1) ∙ ready_in))
       ends_walked (Conflict owner range mode) x = (own_out ∙ kept_back x.0, back_refuses (Conflict owner range mode) x.1, back_ready x.0)
       ends_walked (Lost l) x = (own_out ∙ kept_back x.0, back_refuses (Lost l) x.1, back_ready x.0)
@@ -442,8 +400,7 @@ module _ {P : Type 0} (p e : SeatPart P) (own : HasEnds p.core.own) (entering : 
       long_back b x none l = long_after f q b (same_looked f q looked_out) seats_out (free_back x) (ap held_at none) l
 
       long_walked : (b : Walked) → InsertEnds e f b → EpochEnds p q b → (IsLong b ↔ IsSpent f) → (IsLong b ↔ IsSpent q)
-      long_walked Place x w l =
-          let asks = asks_ends p.core.own own in
+      long_walked Place x w l = let asks = asks_ends p.core.own own in
           (λ never. absurd never, λ s. absurd (let none : ◌≡◌ {A = Option Held} None (Some asks.0) = sym s.1 ∙ (w.0 ∙ asks.1) in cc))
       long_walked (Conflict owner range mode) x w l = long_back (Conflict owner range mode) x.0 w.0 l
       long_walked (Lost m) x w l = long_back (Lost m) x.0 w.0 l

@@ -1,12 +1,11 @@
 -- Calls of a try one after another: what each leaves is carried through the next, and so is the cause of a refusal.
-use Rattle.std.proofs.Common.{◌≡◌, ◌↔◌, ℕ, ◌+◌, ◌*◌, ◌%◌, ◌≤◌, Bool, true, false, sym, ap, ◌∙◌, arith}
+use Rattle.std.proofs.Common.{◌≡◌, ◌↔◌, ℕ, ◌+◌, ◌*◌, ◌%◌, ◌≤◌, Bool, true, false, refl, sym, ap, ◌∙◌, arith}
 use Rattle.std.specs.Prelude.{Option, None}
 use Rattle.lock_core.specs.declared.range.Held.{Held}
 use Rattle.lock_core.specs.declared.views.Own.{Own}
 use Rattle.lock_core.specs.declared.steps.Step.{Step}
-use Rattle.lock_core.specs.declared.steps.Step.TheVariants.{Enter, Leave, ReadEpoch, ReadHome, GiveHome, FillLo, FillHi}
-use Rattle.lock_core.specs.declared.steps.Step.TheVariants.{Aim, ClearHome, Walk, ReadLo, ReadHi, Link, Unlink, Mark}
-use Rattle.lock_core.specs.declared.steps.Step.TheVariants.{QuickLink, QuickUnlink, Settle}
+use Rattle.lock_core.specs.declared.steps.Step.TheVariants.{Enter, Leave, ReadEpoch, ReadHome, GiveHome, FillLo, FillHi, Aim, ClearHome, Walk, ReadLo, ReadHi}
+use Rattle.lock_core.specs.declared.steps.Step.TheVariants.{Link, Unlink, Mark, QuickLink, QuickUnlink, Settle}
 use Rattle.lock_core.specs.Machine.{held_at}
 use Rattle.epoch_pools.specs.declared.views.SeatPart.{SeatPart}
 use Rattle.marked_list.specs.declared.answers.Walked.{Walked}
@@ -32,13 +31,8 @@ later_on p q r a b = record {
 
 -- two calls in one epoch after each other are one
 pub still_on : {P : Type 0} (p q r : SeatPart P) → IsLaterInEpoch p q → IsLaterInEpoch q r → IsLaterInEpoch p r
-still_on p q r a b = record {
-  later = later_on p q r a.later b.later;
-  epoch = b.epoch ∙ a.epoch;
-  hand = b.hand;
-  ready = b.ready ∙ a.ready;
-  asked = b.asked ∙ a.asked;
-}
+still_on p q r a b =
+    record { later = later_on p q r a.later b.later; epoch = b.epoch ∙ a.epoch; hand = b.hand; ready = b.ready ∙ a.ready; asked = b.asked ∙ a.asked }
 
 -- a call that walks stays in its epoch
 pub walk_still : {P : Type 0} (p q : SeatPart P) → IsLaterInWalk p q → IsLaterInEpoch p q
@@ -75,79 +69,49 @@ pub record Keeps {P : Type 0} (p q : SeatPart P) : Type 0 where
 
 new_after : {P : Type 0} (first : ℕ) (p q : SeatPart P) → IsSameLook p q → q.trace.list ≡ p.trace.list → p.trace.taken ≤ q.trace.taken
     → IsNewWalk first p → IsNewWalk first q
-new_after first p q look list le new =
-    let m = look.1 new.0 new.1 in
-    let s = m.2 in let f = new.2 in let b = new.3 in
+new_after first p q look list le new = let m = look.1 new.0 new.1 in let s = m.2 in let f = new.2 in let b = new.3 in
     (m.0, m.1, omega arith, omega arith, m.3 ∙ (new.4 ∙ sym list))
 
-lost_after : {P : Type 0} (first : ℕ) (p q : SeatPart P) (Kind : Step → Type 0) (place expected found : ℕ)
-    → q.trace.lost ≡ p.trace.lost → q.trace.list ≡ p.trace.list → p.trace.taken ≤ q.trace.taken → IsLost first p Kind place expected found
-    → IsLost first q Kind place expected found
-lost_after first p q Kind place expected found same list le l =
-    record {
-      lost = l.lost;
-      is = same ∙ l.is;
-      kind = l.kind;
-      from = l.from;
-      below = let b = l.below in omega arith;
-      listed = l.listed ∙ sym list;
-      placed = l.placed;
-      wanted = l.wanted;
-      had = l.had;
-      differ = l.differ;
-    }
+-- what the record keeps is kept where nothing was done
+pub keeps_all : {P : Type 0} (p : SeatPart P) → Keeps p p
+keeps_all p = record { number = refl; seats = refl; taken = omega arith; list = refl; met = refl; lost = refl; look = (refl, λ l is. (l, is, refl, refl)) }
 
--- an answer that refuses a try still does so after calls that keep its cause in the record
-pub refuses_after : {P : Type 0} (first : ℕ) (asked : Option Held) (p q : SeatPart P) (a : Walked) → Keeps p q
-    → Refuses first asked p a → Refuses first asked q a
-refuses_after first asked p q Place k x = x
-refuses_after first asked p q (Conflict owner range mode) k x = record {
+-- an exchange that was lost in a later call of the try, and that the record keeps, is one of the try, of a wider kind
+pub lost_on : {P : Type 0} {first later : ℕ} {p q : SeatPart P} {Kind Wide : Step → Type 0} {place expected found : ℕ} → Keeps p q
+    → IsLost later p Kind place expected found → ((s : Step) → Kind s → Wide s) → first ≤ later → IsLost first q Wide place expected found
+lost_on k l wide le = record {
+  lost = l.lost;
+  is = k.lost ∙ l.is;
+  kind = wide l.lost.kind l.kind;
+  from = let f = l.from in omega arith;
+  below = let b = l.below in let t = k.taken in omega arith;
+  listed = l.listed ∙ sym k.list;
+  placed = l.placed;
+  wanted = l.wanted;
+  had = l.had;
+  differ = l.differ;
+}
+
+-- an answer whose cause is in a later call of the try, and that the record keeps, refuses the try
+pub refuses_on : {P : Type 0} (first later : ℕ) (asked now : Option Held) (p q : SeatPart P) (a : Walked) → first ≤ later → now ≡ asked → Keeps p q
+    → Refuses later now p a → Refuses first asked q a
+refuses_on first later asked now p q Place le same k x = x
+refuses_on first later asked now p q (Conflict owner range mode) le same k x = record {
   met = x.met;
   is = k.met ∙ x.is;
-  from = x.from;
+  from = let f = x.from in omega arith;
   below = let b = x.below in let t = k.taken in omega arith;
   listed = x.listed ∙ sym k.list;
   owned = x.owned;
   holds = x.holds;
   other = λ e. x.other (e ∙ k.number);
   wants = x.wants;
-  asks = x.asks;
-  conflicts = x.conflicts;
-}
-refuses_after first asked p q (Lost l) k x = lost_after first p q RefusesTry l.place l.expected l.found k.lost k.list k.taken x
-refuses_after first asked p q (Long visits) k x = (x.0 ∙ ap (λ n. 16 * n + 1) (sym k.seats), new_after first p q k.look k.list k.taken x.1)
-
--- an answer whose cause is in a later call of the try refuses the try
-pub refuses_from : {P : Type 0} (first later : ℕ) (asked now : Option Held) (q : SeatPart P) (a : Walked) → first ≤ later
-    → now ≡ asked → Refuses later now q a → Refuses first asked q a
-refuses_from first later asked now q Place le same x = x
-refuses_from first later asked now q (Conflict owner range mode) le same x = record {
-  met = x.met;
-  is = x.is;
-  from = let f = x.from in omega arith;
-  below = x.below;
-  listed = x.listed;
-  owned = x.owned;
-  holds = x.holds;
-  other = x.other;
-  wants = x.wants;
   asks = sym same ∙ x.asks;
   conflicts = x.conflicts;
 }
-refuses_from first later asked now q (Lost l) le same x =
-    record {
-      lost = x.lost;
-      is = x.is;
-      kind = x.kind;
-      from = let f = x.from in omega arith;
-      below = x.below;
-      listed = x.listed;
-      placed = x.placed;
-      wanted = x.wanted;
-      had = x.had;
-      differ = x.differ;
-    }
-refuses_from first later asked now q (Long visits) le same x = let new = x.1 in let f = new.2 in (x.0, (new.0, new.1, omega arith, new.3, new.4))
+refuses_on first later asked now p q (Lost l) le same k x = lost_on k x (λ s kind. kind) le
+refuses_on first later asked now p q (Long visits) le same k x = let new = new_after later p q k.look k.list k.taken x.1 in
+    (x.0 ∙ ap (λ n. 16 * n + 1) (sym k.seats), (new.0, new.1, (let f = new.2 in omega arith), new.3, new.4))
 
 -- an exchange of a walk is one whose loss refuses a try
 pub walk_loss : (s : Step) → IsWalkLoss s → RefusesTry s
@@ -190,21 +154,7 @@ walk_refuses first own q (Conflict owner range mode) isnt x new = (
     conflicts = x.0.conflicts;
   },
 )
-walk_refuses first own q (Lost l) isnt x new = (
-  x.1,
-  record {
-    lost = x.0.lost;
-    is = x.0.is;
-    kind = walk_loss x.0.lost.kind x.0.kind;
-    from = x.0.from;
-    below = x.0.below;
-    listed = x.0.listed;
-    placed = x.0.placed;
-    wanted = x.0.wanted;
-    had = x.0.had;
-    differ = x.0.differ;
-  },
-)
+walk_refuses first own q (Lost l) isnt x new = (x.1, lost_on (keeps_all q) x.0 walk_loss (omega arith))
 walk_refuses first own q (Long visits) isnt x new = (x.1, (x.0, new))
 
 -- a walk that is spent after a call that looks at no more nodes was spent before it

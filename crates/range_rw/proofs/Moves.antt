@@ -24,10 +24,10 @@ use Rattle.epoch_pools.specs.Passing.{after_look, MayCount, MayPass, HoldsToo}
 use Rattle.range_rw.specs.Contract.{AsksOnly, IsReadyLeft}
 use Rattle.marked_list.specs.Causes.{nodes_in, IsSpent}
 use Rattle.range_rw.specs.declared.refusals.NotHeld.{NotHeld}
-use Rattle.range_rw.specs.Several.{IsLaterInLists, IsPiece, IsFreeSeat, HoldsAlone, HoldsIn, HasSpent, HasPassed, TakesNone}
-use Rattle.range_rw.specs.Several.{list_state, IsCauseAt, KeepsCauses}
+use Rattle.range_rw.specs.Several.{IsLaterInLists, IsPiece, IsFreeSeat, HoldsAlone, HoldsIn, HasSpent, HasPassed, TakesNone, list_state, IsCauseAt, KeepsCauses}
 use Rattle.range_rw.proofs.Asking.{asks_kept}
-use Rattle.range_rw.proofs.Pieces.{own_at, cause_before}
+use Rattle.range_rw.proofs.Pieces.{own_at, own_each}
+use Rattle.range_rw.proofs.Taking.{cause_within}
 
 -- ---- which lists are taken
 
@@ -36,15 +36,9 @@ pub none_first : (c : Regions) (range : Interval) → 0 < c.count → TakesTwo c
 none_first c range more two t = by_first (c.count == 1) refl
   where
     by_first : (b : Bool) → (c.count == 1) ≡ b → ⊥
-    by_first true e =
-        let one : c.count ≡ 1 = eqb-true c.count 1 e in
-        let first : first_list c ≡ 0 = ap (λ (x : Bool). if x then 0 else 1) e in
-        let a = takes_there c range two.one more two.takes_one in
-        let b = takes_there c range two.two more two.takes_two in
-        two.differ (omega arith)
-    by_first false e =
-        let first : first_list c ≡ 1 = ap (λ (x : Bool). if x then 0 else 1) e in
-        none_before c range 0 (omega arith) t
+    by_first true e = let one : c.count ≡ 1 = eqb-true c.count 1 e in let first : first_list c ≡ 0 = ap (λ (x : Bool). if x then 0 else 1) e in
+        let a = takes_there c range two.one more two.takes_one in let b = takes_there c range two.two more two.takes_two in two.differ (omega arith)
+    by_first false e = let first : first_list c ≡ 1 = ap (λ (x : Bool). if x then 0 else 1) e in none_before c range 0 (omega arith) t
 
 -- ---- what counts
 
@@ -54,20 +48,17 @@ free_beside lists i many = ap (λ (b : Bool). b || is_here Free i && is_whole Fr
 
 -- a narrow range counts through its own list alone
 pub narrow_beside : (lists at i : ℕ) → lists ≢ 1 → i ≢ at → is_counted lists (Narrow at) i ≡ false
-narrow_beside lists at i many differ =
-    ap (λ (b : Bool). b || is_here (Narrow at) i && is_whole (Narrow at) lists) (ne_eqb lists 1 many)
-    ∙ ap (λ (b : Bool). b && is_whole (Narrow at) lists) (ne_eqb i at differ)
+narrow_beside lists at i many differ = ap (λ (b : Bool). b || is_here (Narrow at) i && is_whole (Narrow at) lists) (ne_eqb lists 1 many) ∙ ap
+    (λ (b : Bool). b && is_whole (Narrow at) lists) (ne_eqb i at differ)
 
 -- a wide one through list 0 alone
 pub wide_beside : (lists p i : ℕ) → lists ≢ 1 → i ≢ 0 → is_counted lists (Wide p) i ≡ false
-wide_beside lists p i many differ =
-    ap (λ (b : Bool). b || is_here (Wide p) i && is_whole (Wide p) lists) (ne_eqb lists 1 many)
-    ∙ ap (λ (b : Bool). b && is_whole (Wide p) lists) (ne_eqb i 0 differ)
+wide_beside lists p i many differ = ap (λ (b : Bool). b || is_here (Wide p) i && is_whole (Wide p) lists) (ne_eqb lists 1 many) ∙ ap
+    (λ (b : Bool). b && is_whole (Wide p) lists) (ne_eqb i 0 differ)
 
 -- and only once it has passed all
 pub wide_on_its_way : (lists p : ℕ) → lists ≢ 1 → p ≢ lists → is_counted lists (Wide p) 0 ≡ false
-wide_on_its_way lists p many differ =
-    ap (λ (b : Bool). b || is_here (Wide p) 0 && is_whole (Wide p) lists) (ne_eqb lists 1 many) ∙ ne_eqb p lists differ
+wide_on_its_way lists p many differ = ap (λ (b : Bool). b || is_here (Wide p) 0 && is_whole (Wide p) lists) (ne_eqb lists 1 many) ∙ ne_eqb p lists differ
 
 or_true : (b : Bool) → (b || true) ≡ true
 or_true true = refl
@@ -75,12 +66,10 @@ or_true false = refl
 
 -- what counts through the list that holds it
 pub narrow_counts : (lists at i : ℕ) → i ≡ at → is_counted lists (Narrow at) i ≡ true
-narrow_counts lists at i e =
-    ap (λ (b : Bool). lists == 1 || b && is_whole (Narrow at) lists) (eq-eqb i at e) ∙ or_true (lists == 1)
+narrow_counts lists at i e = ap (λ (b : Bool). lists == 1 || b && is_whole (Narrow at) lists) (eq-eqb i at e) ∙ or_true (lists == 1)
 
 pub wide_counts : (lists i : ℕ) → i ≡ 0 → is_counted lists (Wide lists) i ≡ true
-wide_counts lists i e =
-    (λ k. lists == 1 || eq-eqb i 0 e k && eq-eqb lists lists refl k) ∙ or_true (lists == 1)
+wide_counts lists i e = (λ k. lists == 1 || eq-eqb i 0 e k && eq-eqb lists lists refl k) ∙ or_true (lists == 1)
 
 -- what is given back in another list leaves the standing
 pub narrow_back : (at i : ℕ) → i ≢ at → standing_back (Narrow at) i ≡ Narrow at
@@ -141,25 +130,11 @@ module _ {P : Type 0} where
 
   -- a turn makes no step
   pub turn_on : (p : SeatPart (Beside P)) {t : SeatPart (Beside P)} {at : ℕ} → t ≡ turned p at → IsLaterInLists p t
-  turn_on p {t} {at} is = record {
-    number = ap (λ (x : SeatPart (Beside P)). x.number) is;
-    seats = ap (λ (x : SeatPart (Beside P)). x.seats) is;
-    lists = ap (λ (x : SeatPart (Beside P)). x.pass.lists) is;
-    pass = ap (λ (x : SeatPart (Beside P)). x.pass.pass) is;
-    client = ap (λ (x : SeatPart (Beside P)). x.trace.client) is;
-    taken = let e = ap (λ (x : SeatPart (Beside P)). x.trace.taken) is in omega arith;
-  }
+  turn_on p is = subst (IsLaterInLists p) (sym is) (record { number = refl; seats = refl; lists = refl; pass = refl; client = refl; taken = omega arith })
 
   -- a look makes one, and changes the standing alone
   pub look_on : (p : SeatPart (Beside P)) {q : SeatPart (Beside P)} {s : Standing} → q ≡ after_look p s → IsLaterInLists p q
-  look_on p {q} {s} is = record {
-    number = ap (λ (x : SeatPart (Beside P)). x.number) is;
-    seats = ap (λ (x : SeatPart (Beside P)). x.seats) is;
-    lists = ap (λ (x : SeatPart (Beside P)). x.pass.lists) is;
-    pass = ap (λ (x : SeatPart (Beside P)). x.pass.pass) is;
-    client = ap (λ (x : SeatPart (Beside P)). x.trace.client) is;
-    taken = let e = ap (λ (x : SeatPart (Beside P)). x.trace.taken) is in omega arith;
-  }
+  look_on p is = subst (IsLaterInLists p) (sym is) (record { number = refl; seats = refl; lists = refl; pass = refl; client = refl; taken = omega arith })
 
   -- neither asks for a range
   pub turn_asks : (p : SeatPart (Beside P)) {t : SeatPart (Beside P)} {at : ℕ} → t ≡ turned p at → t.trace.asked ≡ p.trace.asked
@@ -173,8 +148,7 @@ module _ {P : Type 0} where
 
   -- what a hand holds in one list alone, it holds there however it is turned
   pub holds_in : {at : ℕ} {asked : Held} {p : SeatPart (Beside P)} → HoldsAlone at asked p → HoldsIn at asked p
-  holds_in {at} {asked} {p} h =
-      record { rests = h.rests; held = ap (λ (v : View). held_at v.own) (own_at p at h.turned) ∙ h.held; others = h.others }
+  holds_in {at} {asked} {p} h = record { rests = h.rests; held = ap (λ (v : View). held_at v.own) (own_at p at h.turned) ∙ h.held; others = h.others }
 
   -- a piece of work in another list, which leaves nothing there, leaves what this list holds
   pub holds_on : {home other : ℕ} {asked : Held} {p q : SeatPart (Beside P)} → home ≢ other → HoldsIn home asked p → IsPiece other p q
@@ -210,13 +184,8 @@ module _ {P : Type 0} where
   -- a narrow range that its list holds may be counted, where nothing counts yet
   pub may_count : (c : Regions) (at : ℕ) (asked : Held) (t : SeatPart (Beside P)) → 1 < t.pass.lists → t.pass.standing ≡ Free → HoldsAlone at asked t
       → TakesOne c asked.range at → MayCount c t
-  may_count c at asked t several free a takes = record {
-    several = several;
-    standing = free;
-    range = asked;
-    held = a.held;
-    takes = subst (TakesOne c asked.range) (sym a.turned) takes;
-  }
+  may_count c at asked t several free a takes =
+      record { several = several; standing = free; range = asked; held = a.held; takes = subst (TakesOne c asked.range) (sym a.turned) takes }
 
   -- a piece of work after which a list holds the range, where the seat held nothing
   pub piece_alone : {at : ℕ} {asked : Held} {p l : SeatPart (Beside P)} → IsFreeSeat p → IsPiece at p l → held_at l.core.own ≡ Some asked
@@ -229,9 +198,7 @@ module _ {P : Type 0} where
       → ((j : ℕ) → j ≢ at → (shown_core p j).own ≡ Nothing) → IsFreeSeat q
   piece_free {at} {p} {q} piece free standing others = record {
     rests = piece.rests;
-    free = λ j. dite (ℕ_discrete j at)
-        (λ e. ap (λ (v : View). v.own) (ap (shown_core q) e ∙ own_at q at piece.turned) ∙ free)
-        (λ away. ap (λ (v : View). v.own) (piece.only j away) ∙ others j away);
+    free = own_each at q piece.turned free (λ j away. ap (λ (v : View). v.own) (piece.only j away) ∙ others j away);
     standing = standing;
   }
 
@@ -267,9 +234,8 @@ module _ {P : Type 0} where
       (λ away. ready_from (ap (λ (v : View). v.ready) (only j away)) (later j))
 
   -- a last piece that leaves the ready nodes of its list
-  pub ready_kept : (at : ℕ) (p n q : SeatPart (Beside P)) → ((j : ℕ) → IsReadyLeft (shown_core p j).ready (shown_core n j).ready)
-      → (shown_core q at).ready ≡ (shown_core n at).ready → ((j : ℕ) → j ≢ at → shown_core q j ≡ shown_core n j)
-      → (j : ℕ) → IsReadyLeft (shown_core p j).ready (shown_core q j).ready
+  pub ready_kept : (at : ℕ) (p n q : SeatPart (Beside P)) → ((j : ℕ) → IsReadyLeft (shown_core p j).ready (shown_core n j).ready) → (shown_core q at).ready ≡
+      (shown_core n at).ready → ((j : ℕ) → j ≢ at → shown_core q j ≡ shown_core n j) → (j : ℕ) → IsReadyLeft (shown_core p j).ready (shown_core q j).ready
   ready_kept at p n q left same only j = dite (ℕ_discrete j at)
       (λ e. subst (λ k. IsReadyLeft (shown_core p k).ready (shown_core q k).ready) (sym e)
       (subst (IsReadyLeft (shown_core p at).ready) (sym same) (left at)))
@@ -278,10 +244,8 @@ module _ {P : Type 0} where
   -- Long still comes exactly where the last walk is spent, once the range is given back
   pub spent_kept : {Long : Type 0} (n q : SeatPart (Beside P)) → nodes_in q.trace.looked ≡ nodes_in n.trace.looked → q.seats ≡ n.seats
       → q.core.own ≡ Nothing → (Long ↔ HasSpent n) → (Long ↔ IsSpent q)
-  spent_kept n q look seats free long = (
-    λ l. (look ∙ (long.0 l ∙ ap (λ k. 16 * k + 1) (sym seats)), ap held_at free),
-    λ s. long.1 (sym look ∙ (s.0 ∙ ap (λ k. 16 * k + 1) seats)),
-  )
+  spent_kept n q look seats free long =
+      (λ l. (look ∙ (long.0 l ∙ ap (λ k. 16 * k + 1) (sym seats)), ap held_at free), λ s. long.1 (sym look ∙ (s.0 ∙ ap (λ k. 16 * k + 1) seats)))
 
   -- ---- a range is linked in one list, and then counted, or given back
 
@@ -305,16 +269,16 @@ module _ {P : Type 0} where
   pub cause_on : {first next : TableId} (at : ℕ) {p m : SeatPart (Beside P)} (q : SeatPart (Beside P)) → next ≡ first → IsLaterInLists p m
       → (shown_core m at).ready ≡ (shown_core p at).ready → (asked : Held) (why : NotHeld) → IsCauseAt next at m q asked why → IsCauseAt first at p q asked why
   cause_on {first} {next} at {p} {m} q same later ready asked why cause = subst (λ (t : TableId). IsCauseAt t at p q asked why) same
-      (cause_before (list_state next p at) (list_state next m at) (list_state next q at) later.taken later.number (λ none. sym ready ∙ none) at asked why cause)
+      (cause_within (list_state next p at) (list_state next m at) (list_state next q at) (list_state next q at) later.taken later.number
+      (λ none. sym ready ∙ none) refl refl refl refl refl refl refl (omega arith) at asked why cause)
 
   -- and so it is behind the link of a range in another list, also once that is given back
   pub linked_cause : {first next last : TableId} {at : ℕ} {asked : Held} {p n : SeatPart (Beside P)} → next ≡ first → last ≡ next → Linking at asked p n
       → (i : ℕ) → i ≢ at → (s u : SeatPart (Beside P)) → KeepsCauses last at s u → (why : NotHeld) → IsCauseAt next i n s asked why
       → IsCauseAt first i p u asked why
-  linked_cause {first} {next} {last} {at} {asked} {p} {n} same there way i away s u keeps why cause =
-      subst (λ (t : TableId). IsCauseAt t i p u asked why) (there ∙ same)
-      (keeps p i asked why away (subst (λ (t : TableId). IsCauseAt t i p s asked why) (sym (there ∙ same))
-      (cause_on i s same way.later (ap (λ (v : View). v.ready) (way.only i away)) asked why cause)))
+  linked_cause {first} {next} {last} {at} {asked} {p} {n} same there way i away s u keeps why cause = subst (λ (t : TableId). IsCauseAt t i p u asked why)
+      (there ∙ same) (keeps p i asked why away (subst (λ (t : TableId). IsCauseAt t i p s asked why) (sym (there ∙ same)) (cause_on i s same way.later
+      (ap (λ (v : View). v.ready) (way.only i away)) asked why cause)))
 
   -- where the standing stays, what was passed stays passed
   pub passed_on : (c : Regions) (at : ℕ) (range : Interval) (p q : SeatPart (Beside P)) → q.pass.standing ≡ p.pass.standing
@@ -371,8 +335,7 @@ module _ {P : Type 0} where
       ap (λ (s : Standing). is_counted p.pass.lists s 0) e ∙ wide_on_its_way p.pass.lists at (λ e. omega arith) (λ e. omega arith))
       passed
 
-  pub passed_back : (c : Regions) (at : ℕ) (range : Interval) (p : SeatPart (Beside P)) → HasPassed c range at p
-      → standing_back p.pass.standing 0 ≡ Free
+  pub passed_back : (c : Regions) (at : ℕ) (range : Interval) (p : SeatPart (Beside P)) → HasPassed c range at p → standing_back p.pass.standing 0 ≡ Free
   passed_back c at range p passed = ⊎_elim
       (λ (x : (p.pass.standing ≡ Free) × TakesNone c range 0 at). ap (λ (s : Standing). standing_back s 0) x.0)
       (λ (e : p.pass.standing ≡ Wide at). ap (λ (s : Standing). standing_back s 0) e)
@@ -412,8 +375,7 @@ module _ {P : Type 0} where
 
       -- that the link in the other list asked for this range is all
       pub both_asks : AsksOnly asked p.trace.asked l.trace.asked → g.trace.asked ≡ h.trace.asked → AsksOnly asked p.trace.asked u.trace.asked
-      both_asks asks give = asks_kept asks
-          (turn_asks g after.turn ∙ (give ∙ (look_asks t after.look ∙ turn_asks l over.turn)))
+      both_asks asks give = asks_kept asks (turn_asks g after.turn ∙ (give ∙ (look_asks t after.look ∙ turn_asks l over.turn)))
 
       -- each list but the other one is as it was
       pub both_only : (j : ℕ) → j ≢ other → shown_core u j ≡ shown_core p j
@@ -438,9 +400,7 @@ module _ {P : Type 0} where
           ∙ (after.standing ∙ (ap (λ (x : SeatPart (Beside P)). standing_back x.pass.standing other) after.look ∙ after.back))
 
       -- the ready nodes of the other list are those that the link left there
-      pub both_ready : (shown_core g other).ready ≡ (shown_core h other).ready
-          → IsReadyLeft (shown_core p other).ready (shown_core l other).ready
-          → IsReadyLeft (shown_core p other).ready (shown_core u other).ready
-      both_ready given left = subst (IsReadyLeft (shown_core p other).ready)
-          (sym (ap (λ (v : View). v.ready) (after.stays other)
-          ∙ (given ∙ ap (λ (v : View). v.ready) (look_shows t after.look other ∙ over.stays other)))) left
+      pub both_ready : (shown_core g other).ready ≡ (shown_core h other).ready → IsReadyLeft (shown_core p other).ready (shown_core l other).ready → IsReadyLeft
+          (shown_core p other).ready (shown_core u other).ready
+      both_ready given left = subst (IsReadyLeft (shown_core p other).ready) (sym (ap (λ (v : View). v.ready) (after.stays other) ∙ (given ∙ ap
+          (λ (v : View). v.ready) (look_shows t after.look other ∙ over.stays other)))) left

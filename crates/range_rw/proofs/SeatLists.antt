@@ -7,21 +7,14 @@ use lib.ListN.{get_elem?}
 use Rattle.atomic_table.specs.Seated.{TableId}
 use Rattle.atomic_table.proofs.Lists.{at_index}
 use Rattle.lock_core.proofs.ByPlace.{below as at_below, at_or, same_or}
-use Rattle.range_rw.specs.Contract.{SeatState, AreNewSeats, AreNewSeatsIn, AreIdleSeats, IsGivenBack}
-use Rattle.range_rw.specs.Contract.{first_passes}
-use Rattle.range_rw.specs.Contract.{new_seat, new_seat_in, pass_in}
+use Rattle.range_rw.specs.Contract.{SeatState, AreNewSeats, AreNewSeatsIn, AreIdleSeats, IsGivenBack, first_passes, new_seat, new_seat_in, pass_in}
 
 -- idle seats of which each is back are idle seats again
-pub seats_back : {P : Type 0} (table : TableId) (old new : List (SeatState P)) → length new ≡ length old → AreIdleSeats table old
-    → ((k : ℕ) (d : SeatState P) → k < length old → (a : SeatState P) × (b : SeatState P) × (a ≡ get_or old k d) × IsGivenBack a b
-    × (b ≡ get_or new k d)) → AreIdleSeats table new
-seats_back table old new same idle each k s at =
-    let lt = at_below new k s at in
-    let e = each k s (omega arith) in
-    let was : get_elem? old k ≡ some e.0 = at_index old k e.0 (omega arith) (e.2 ∙ same_or old k s e.0 (omega arith)) in
-    let i = idle k e.0 was in
-    let now : e.1 ≡ s = e.4 ∙ at_or new k s s at in
-    let back = e.3 in
+pub seats_back : {P : Type 0} (table : TableId) (old new : List (SeatState P)) → length new ≡ length old → AreIdleSeats table old → ((k : ℕ) (d : SeatState P) →
+    k < length old → (a : SeatState P) × (b : SeatState P) × (a ≡ get_or old k d) × IsGivenBack a b × (b ≡ get_or new k d)) → AreIdleSeats table new
+seats_back table old new same idle each k s at = let lt = at_below new k s at in let e = each k s (omega arith) in
+    let was : get_elem? old k ≡ some e.0 = at_index old k e.0 (omega arith) (e.2 ∙ same_or old k s e.0 (omega arith)) in let i = idle k e.0 was in
+    let now : e.1 ≡ s = e.4 ∙ at_or new k s s at in let back = e.3 in
     (sym (ap (λ x. x.table) now) ∙ (back.table ∙ i.0), sym (ap (λ x. x.number) now) ∙ (back.number ∙ i.1), sym (ap (λ x. x.held) now) ∙ back.held)
 
 module _ {P : Type 0} (table : TableId) where
@@ -42,9 +35,8 @@ module _ {P : Type 0} (table : TableId) where
   second_new_in lists first seats left s two = second_in lists first seats left s (omega arith)
 
   -- and the third of three
-  pub third_new_in : (lists : ℕ) (first : ℕ → P) (seats rest left : List (SeatState P)) (s : SeatState P) → length seats ≡ 3
-      → AreNewSeatsIn lists table first seats → rest ≡ remove seats 0 → left ≡ remove rest 0 → s ≡ get_or left 0 s
-      → s ≡ new_seat_in lists table first 2
+  pub third_new_in : (lists : ℕ) (first : ℕ → P) (seats rest left : List (SeatState P)) (s : SeatState P) → length seats ≡ 3 → AreNewSeatsIn lists table first
+      seats → rest ≡ remove seats 0 → left ≡ remove rest 0 → s ≡ get_or left 0 s → s ≡ new_seat_in lists table first 2
   third_new_in lists first [] rest left s three new one two is = absurd (omega arith)
   third_new_in lists first (x ∷ []) rest left s three new one two is = absurd (omega arith)
   third_new_in lists first (x ∷ y ∷ []) rest left s three new one two is = absurd (omega arith)
@@ -62,15 +54,11 @@ module _ {P : Type 0} (table : TableId) where
 
 module _ {P : Type 0} where
   -- what is so of each seat before and after is so at each place of the two lists
-  pub seats_each : (R : ℕ → SeatState P → SeatState P → Type 0) (old new : List (SeatState P))
-      → ((k : ℕ) (d : SeatState P) → k < length old → (a : SeatState P) × (b : SeatState P) × (a ≡ get_or old k d) × R k a b
-      × (b ≡ get_or new k d))
-      → (k : ℕ) (a b : SeatState P) → get_elem? old k ≡ some a → get_elem? new k ≡ some b → R k a b
-  seats_each R old new each k a b at_a at_b =
-      let e = each k a (at_below old k a at_a) in
-      let was : e.0 ≡ a = e.2 ∙ at_or old k a a at_a in
-      let now : e.1 ≡ b = e.4 ∙ at_or new k b a at_b in
-      subst (λ (z : SeatState P × SeatState P). R k z.0 z.1) (λ i. (was i, now i)) e.3
+  pub seats_each : (R : ℕ → SeatState P → SeatState P → Type 0) (old new : List (SeatState P)) → ((k : ℕ) (d : SeatState P) → k < length old → (a : SeatState P)
+      × (b : SeatState P) × (a ≡ get_or old k d) × R k a b × (b ≡ get_or new k d)) → (k : ℕ) (a b : SeatState P) → get_elem? old k ≡ some a → get_elem? new k ≡
+      some b → R k a b
+  seats_each R old new each k a b at_a at_b = let e = each k a (at_below old k a at_a) in let was : e.0 ≡ a = e.2 ∙ at_or old k a a at_a in
+      let now : e.1 ≡ b = e.4 ∙ at_or new k b a at_b in subst (λ (z : SeatState P × SeatState P). R k z.0 z.1) (λ i. (was i, now i)) e.3
 
   -- the pass of a new table's seat is one with which a seat begins
   pub at_firsts : (first : ℕ → P) (n k i : ℕ) (p : P) → get_elem? (first_passes first n k) i ≡ some p → (m : ℕ) × (p ≡ first m)
@@ -78,14 +66,11 @@ module _ {P : Type 0} where
   at_firsts first n (suc k) zero p e = (n, sym (some-injective (first n) p e))
   at_firsts first n (suc k) (suc i) p e = at_firsts first (suc n) k i p e
 
-  passes_from : (first : ℕ → P) (n : ℕ) (seats : List (SeatState P))
-      → ((k : ℕ) (s : SeatState P) → get_elem? seats k ≡ some s → s.pass ≡ first (n + k))
-      → map pass_in seats ≡ first_passes first n (length seats)
+  passes_from : (first : ℕ → P) (n : ℕ) (seats : List (SeatState P)) → ((k : ℕ) (s : SeatState P) → get_elem? seats k ≡ some s → s.pass ≡ first (n + k)) → map
+      pass_in seats ≡ first_passes first n (length seats)
   passes_from first n [] all = refl
-  passes_from first n (s ∷ rest) all =
-      let head : s.pass ≡ first n = let z : n + 0 ≡ n = omega arith in all 0 s refl ∙ ap first z in
-      let more = passes_from first (suc n) rest (λ k t at. let z : n + suc k ≡ suc n + k = omega arith in all (suc k) t at ∙ ap first z) in
-      λ i. head i ∷ more i
+  passes_from first n (s ∷ rest) all = let head : s.pass ≡ first n = let z : n + 0 ≡ n = omega arith in all 0 s refl ∙ ap first z in
+      let more = passes_from first (suc n) rest (λ k t at. let z : n + suc k ≡ suc n + k = omega arith in all (suc k) t at ∙ ap first z) in λ i. head i ∷ more i
 
   -- the passes of a new table's seats are those with which its seats begin
   pub new_passes : (table : TableId) (first : ℕ → P) (seats : List (SeatState P)) → AreNewSeats table first seats

@@ -1,8 +1,7 @@
 -- A seat at a table of any number of lists: what it holds is what its hand holds in the list to which it is turned, and
 -- that counts. So what a call leaves of that list is what it leaves of the seat.
-use Rattle.std.proofs.Common.{◌≡◌, ◌≢◌, ℕ, zero, suc, ◌+◌, ◌-◌, ◌*◌, ◌%◌, ◌<◌, ◌≤◌, Bool, true, false, Result, Ok, Err}
-use Rattle.std.proofs.Common.{MatchResult, inl, ⊎_elim, refl, sym, ap, ◌∙◌, subst, arith}
-use Rattle.std.proofs.Common.{eq-eqb, ne_eqb, eqb-true}
+use Rattle.std.proofs.Common.{◌≡◌, ◌≢◌, ℕ, zero, suc, ◌+◌, ◌-◌, ◌*◌, ◌%◌, ◌<◌, ◌≤◌, Bool, true, false, Result, Ok, Err, MatchResult, inl, ⊎_elim, refl, sym, ap}
+use Rattle.std.proofs.Common.{◌∙◌, subst, arith, eq-eqb, ne_eqb, eqb-true}
 use Rattle.std.specs.Prelude.{Option, Some, None, IsSome, ◌==◌, ◌&&◌, ◌||◌, if◌then◌else◌, List, [], ◌∷◌, length, map, get_or}
 use mathlib.Core.Logic.{dite}
 use native.Mathlib.Decide.{ℕ_discrete}
@@ -29,15 +28,14 @@ use Rattle.range_rw.specs.Seats.{IsSettled, IsSeated, counted_in, pools_of, walk
 use Rattle.range_rw.specs.Trying.{IsLaterInTry}
 use Rattle.range_rw.specs.Releasing.{GivesBack}
 use Rattle.range_rw.specs.Several.{IsLaterInLists, IsFreeSeat, HoldsAlone}
-use Rattle.range_rw.proofs.Pieces.{own_at, only_stays, settled_by}
+use Rattle.range_rw.proofs.Pieces.{own_at, own_each, only_stays, ready_stays, settled_by}
 
 -- a settled own node of a seat that holds nothing is none
 pub free_own : (own : Own) → IsSettled own → held_at own ≡ None → own ≡ Nothing
 free_own Nothing s free = refl
 free_own (Filling node lo hi mode aimed) s free = absurd s
-free_own (Linked node range mode todo) s free =
-    let held : ◌≡◌ {A = Option Held} (Some (record { range = range; mode = mode })) None = sym (ap (λ t. held_at (Linked node range mode t)) s) ∙ free in
-    absurd (cc)
+free_own (Linked node range mode todo) s free = let held : ◌≡◌ {A = Option Held} (Some (record { range = range; mode = mode })) None = sym
+    (ap (λ t. held_at (Linked node range mode t)) s) ∙ free in absurd (cc)
 
 -- what stands at a place of a list that is made number by number
 further_at : {A : Type 0} (f : ℕ → A) (from many j : ℕ) (none : A) → j < many → get_or (map f (numbers_from from many)) j none ≡ f (from + j)
@@ -51,7 +49,7 @@ pub count_numbers : {A : Type 0} (f : ℕ → A) (from many : ℕ) → length (m
 count_numbers f from zero = refl
 count_numbers f from (suc many) = ap suc (count_numbers f (from + 1) many)
 
-both_true : (a b : Bool) → (a && b) ≡ true → (a ≡ true) × (b ≡ true)
+pub both_true : (a b : Bool) → (a && b) ≡ true → (a ≡ true) × (b ≡ true)
 both_true true b e = (refl, e)
 both_true false b e = absurd (let z : ◌≡◌ {A = Bool} false true = e in cc)
 
@@ -65,8 +63,7 @@ here_in (Wide p) i e = sym (eqb-true i 0 e)
 here_counts : (s : Standing) (lists i : ℕ) (held : ℕ → Option Held) → (is_here s i && is_whole s lists) ≡ true → counted_of_many lists s held ≡ held i
 here_counts Free lists i held e = absurd (let z : ◌≡◌ {A = Bool} false true = e in cc)
 here_counts (Narrow j) lists i held e = ap held (sym (eqb-true i j (both_true (i == j) true e).0))
-here_counts (Wide p) lists i held e =
-    let t = both_true (i == 0) (p == lists) e in
+here_counts (Wide p) lists i held e = let t = both_true (i == 0) (p == lists) e in
     ap (λ (b : Bool). if b then held 0 else None) t.1 ∙ ap held (sym (eqb-true i 0 t.0))
 
 module _ {P : Type 0} where
@@ -76,6 +73,12 @@ module _ {P : Type 0} where
   nothing_shown p s none j = dite (ℕ_discrete j p.pass.list)
       (λ e. ap (λ (v : View). held_at v.own) (own_at p j (sym e)) ∙ none)
       (λ away. ap held_at (s.others j away))
+
+  -- with several lists it stands for this one where it counts there
+  stands_here : (p : SeatPart (Beside P)) → p.pass.lists ≢ 1 → is_counted p.pass.lists p.pass.standing p.pass.list ≡ true
+      → (is_here p.pass.standing p.pass.list && is_whole p.pass.standing p.pass.lists) ≡ true
+  stands_here p many counts =
+      sym (ap (λ (b : Bool). b || is_here p.pass.standing p.pass.list && is_whole p.pass.standing p.pass.lists) (ne_eqb p.pass.lists 1 many)) ∙ counts
 
   by_held : (p : SeatPart (Beside P)) → IsSeated p → (o : Option Held) → held_at p.core.own ≡ o → shown_grant p ≡ o
   by_held p s None none = dite (ℕ_discrete p.pass.lists 1)
@@ -88,10 +91,7 @@ module _ {P : Type 0} where
       counts_one p.pass.lists p.pass.standing (λ i. held_at (shown_core p i).own) one
       ∙ (ap (λ (v : View). held_at v.own) (own_at p 0 first) ∙ some))
       (λ many.
-      let counts : is_counted p.pass.lists p.pass.standing p.pass.list ≡ true =
-      s.counts (λ none. absurd (let z : ◌≡◌ {A = Option Held} (Some h) None = sym some ∙ none in cc)) in
-      let here : (is_here p.pass.standing p.pass.list && is_whole p.pass.standing p.pass.lists) ≡ true =
-      sym (ap (λ (b : Bool). b || is_here p.pass.standing p.pass.list && is_whole p.pass.standing p.pass.lists) (ne_eqb p.pass.lists 1 many)) ∙ counts in
+      let here = stands_here p many (s.counts (λ none. absurd (let z : ◌≡◌ {A = Option Held} (Some h) None = sym some ∙ none in cc))) in
       counts_many p.pass.lists p.pass.standing (λ i. held_at (shown_core p i).own) many
       ∙ (here_counts p.pass.standing p.pass.lists p.pass.list (λ i. held_at (shown_core p i).own) here
       ∙ (ap (λ (v : View). held_at v.own) (own_at p p.pass.list refl) ∙ some)))
@@ -179,9 +179,7 @@ module _ {P : Type 0} where
       → IsFreeSeat q
   seated_free p q s none same own rests = record {
     rests = rests;
-    free = λ j. dite (ℕ_discrete j p.pass.list)
-        (λ e. ap (λ (v : View). v.own) (own_at q j (ap (λ (b : Beside P). b.list) same ∙ sym e)) ∙ own)
-        (λ away. ap (λ (v : View). v.own)
+    free = own_each p.pass.list q (ap (λ (b : Beside P). b.list) same) own (λ j away. ap (λ (v : View). v.own)
         (only_stays p q (ap (λ (b : Beside P). b.list) same) (ap (λ (b : Beside P). b.others) same) j away) ∙ s.others j away);
     standing = ap (λ (b : Beside P). b.standing) same ∙ s.free none;
   }
@@ -196,6 +194,12 @@ module _ {P : Type 0} where
       → IsLockCall (seat_state_of (record { table = was; part = p })) (seat_state_of (record { table = now; part = q }))
   lists_call was now p q same l = record { table = same; number = l.number; pass = l.pass; client = l.client; taken = l.taken }
 
+  -- the ready nodes of each of some lists, as the seats show them
+  pub ready_shown : (p q : SeatPart (Beside P)) → ((j : ℕ) → (shown_core q j).ready ≡ (shown_core p j).ready) → (l : List ℕ)
+      → map ready_in (map (λ j. pools_of (shown_core q j)) l) ≡ map ready_in (map (λ j. pools_of (shown_core p j)) l)
+  ready_shown p q same [] = refl
+  ready_shown p q same (j ∷ l) = λ i. same j i ∷ ready_shown p q same l i
+
   -- ---- a release
 
   module _ (rested : P → P) (p q : SeatPart (Beside P)) (s : IsSeated p) (some : held_at p.core.own ≢ None) (g : GivesBack (given_back rested) p q) where
@@ -209,43 +213,28 @@ module _ {P : Type 0} where
     given_others = only_stays p q same_list (ap (λ (b : Beside P). b.others) g.pass)
 
     given_ready : (j : ℕ) → (shown_core q j).ready ≡ (shown_core p j).ready
-    given_ready j = dite (ℕ_discrete j p.pass.list)
-        (λ e. ap (λ (v : View). v.ready) (own_at q j (same_list ∙ sym e)) ∙ (g.ready ∙ ap (λ (v : View). v.ready) (sym (own_at p j (sym e)))))
-        (λ away. ap (λ (v : View). v.ready) (given_others j away))
-
-    ready_each : (l : List ℕ) → map ready_in (map (λ j. pools_of (shown_core q j)) l) ≡ map ready_in (map (λ j. pools_of (shown_core p j)) l)
-    ready_each [] = refl
-    ready_each (j ∷ l) = λ i. given_ready j i ∷ ready_each l i
+    given_ready = ready_stays p q same_list (ap (λ (b : Beside P). b.others) g.pass) g.ready
 
     -- nothing stands for it any more
     back_free : q.pass.standing ≡ Free
     back_free = ap (λ (b : Beside P). b.standing) g.pass ∙ dite (ℕ_discrete p.pass.lists 1)
         (λ one. ap (λ (t : Standing). standing_back t p.pass.list) (s.one one))
-        (λ many.
-        let here : (is_here p.pass.standing p.pass.list && is_whole p.pass.standing p.pass.lists) ≡ true =
-        sym (ap (λ (b : Bool). b || is_here p.pass.standing p.pass.list && is_whole p.pass.standing p.pass.lists) (ne_eqb p.pass.lists 1 many))
-        ∙ s.counts some in
-        ap (λ (b : Bool). if b then Free else p.pass.standing) (both_true (is_here p.pass.standing p.pass.list) (is_whole p.pass.standing p.pass.lists) here).0)
+        (λ many. ap (λ (b : Bool). if b then Free else p.pass.standing)
+        (both_true (is_here p.pass.standing p.pass.list) (is_whole p.pass.standing p.pass.lists) (stands_here p many (s.counts some))).0)
 
     -- it stood in the list to which the hand is turned
     stood_here : counted_in p.pass.standing ≡ p.pass.list
     stood_here = dite (ℕ_discrete p.pass.lists 1)
         (λ one. let first : 0 ≡ p.pass.list = (let t = s.there in omega arith) in ap counted_in (s.one one) ∙ first)
-        (λ many.
-        let here : (is_here p.pass.standing p.pass.list && is_whole p.pass.standing p.pass.lists) ≡ true =
-        sym (ap (λ (b : Bool). b || is_here p.pass.standing p.pass.list && is_whole p.pass.standing p.pass.lists) (ne_eqb p.pass.lists 1 many))
-        ∙ s.counts some in
-        here_in p.pass.standing p.pass.list (both_true (is_here p.pass.standing p.pass.list) (is_whole p.pass.standing p.pass.lists) here).0)
+        (λ many. here_in p.pass.standing p.pass.list
+        (both_true (is_here p.pass.standing p.pass.list) (is_whole p.pass.standing p.pass.lists) (stands_here p many (s.counts some))).0)
 
     -- and every other list of the seat is as it was
     given_only : (was now : TableId) (j : ℕ) → j ≤ length (seat_state_of (record { table = was; part = p })).further → j ≢ counted_in p.pass.standing
         → pools_at (seat_state_of (record { table = now; part = q })) j ≡ pools_at (seat_state_of (record { table = was; part = p })) j
-    given_only was now j le away =
-        let n = count_numbers (λ i. pools_of (shown_core p i)) 1 (p.pass.lists - 1) in
-        let there = s.there in
-        let less : j < p.pass.lists = omega arith in
-        pools_shown now q j (let e = same_lists in omega arith)
-        ∙ (ap pools_of (given_others j (λ e. away (e ∙ sym stood_here))) ∙ sym (pools_shown was p j less))
+    given_only was now j le away = let n = count_numbers (λ i. pools_of (shown_core p i)) 1 (p.pass.lists - 1) in let there = s.there in
+        let less : j < p.pass.lists = omega arith in pools_shown now q j (let e = same_lists in omega arith) ∙ (ap pools_of (given_others j
+        (λ e. away (e ∙ sym stood_here))) ∙ sym (pools_shown was p j less))
 
     -- so the seat is between two calls again
     pub given_seated : IsSeated q
@@ -272,7 +261,8 @@ module _ {P : Type 0} where
       list = ap counted_in back_free;
       pass = ap (λ (b : Beside P). b.pass) g.pass ∙ ap (λ (b : Bool). if b then rested p.pass.pass else p.pass.pass) (s.counts some);
       ready = given_ready 0;
-      further = (λ i. map ready_in (map (λ j. pools_of (shown_core q j)) (numbers_from 1 (same_lists i - 1)))) ∙ ready_each (numbers_from 1 (p.pass.lists - 1));
+      further = (λ i. map ready_in (map (λ j. pools_of (shown_core q j)) (numbers_from 1 (same_lists i - 1))))
+          ∙ ready_shown p q given_ready (numbers_from 1 (p.pass.lists - 1));
       only = given_only was now;
       scan = λ i. placed_in (same_lists i) (same_list i) (g.scan i);
       client = g.client;
@@ -295,10 +285,9 @@ module _ {P N : Type 0} (holds : Grants → List ℕ → List P → Type 0) (all
   seat_made step found after made = subst (λ (x : SeatState P). IsMade holds allows note x.number x.held x.pass step found after) is made
 
   -- the same of an exchange, whichever way it ended
-  pub seat_exchanged : (step : ClientStep) (expected : ℕ) (after : P) (r : Result (Unit {0}) ℕ)
-      → MatchResult r (λ _. IsMade holds allows note h.part.number (shown_grant h.part) (inner_pass h.part) step expected after)
-      (λ found. (found ≢ expected) × IsMade holds allows note h.part.number (shown_grant h.part) (inner_pass h.part) step found after)
-      → MatchResult r (λ _. IsMade holds allows note s.number s.held s.pass step expected after)
-      (λ found. (found ≢ expected) × IsMade holds allows note s.number s.held s.pass step found after)
+  pub seat_exchanged : (step : ClientStep) (expected : ℕ) (after : P) (r : Result (Unit {0}) ℕ) → MatchResult r (λ _. IsMade holds allows note h.part.number
+      (shown_grant h.part) (inner_pass h.part) step expected after) (λ found. (found ≢ expected) × IsMade holds allows note h.part.number (shown_grant h.part)
+      (inner_pass h.part) step found after) → MatchResult r (λ _. IsMade holds allows note s.number s.held s.pass step expected after) (λ found.
+      (found ≢ expected) × IsMade holds allows note s.number s.held s.pass step found after)
   seat_exchanged step expected after (Ok u) m = seat_made step expected after m
   seat_exchanged step expected after (Err found) m = (m.0, seat_made step found after m.1)

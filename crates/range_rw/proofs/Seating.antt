@@ -1,14 +1,14 @@
 -- Seats of a new list's hands, one after another, and the hands of seats that hold nothing.
 use Rattle.std.proofs.Common.{◌≡◌, ℕ, zero, suc, ◌+◌, ◌-◌, ◌<◌, ◌≤◌, List, [], ◌∷◌, ◌++◌, map, get_or, length, inl, refl, sym, ap, ◌∙◌, subst, arith}
+use Rattle.std.proofs.lemmas.List.{map-append}
 use Rattle.std.specs.Prelude.{remove, replicate, false, None}
 use mathlib.Core.Option.{some}
 use lib.ListN.{get_elem?}
 use Rattle.atomic_table.specs.Seated.{TableId}
 use Rattle.atomic_table.proofs.Lists.{at_index}
 use Rattle.lock_core.specs.declared.views.Own.TheVariants.{Nothing}
-use Rattle.lock_core.specs.Machine.{held_at}
+use Rattle.lock_core.specs.Machine.{held_at, numbers_from, start_view}
 use Rattle.lock_core.specs.declared.views.View.{View}
-use Rattle.lock_core.specs.Machine.{numbers_from, start_view}
 use Rattle.epoch_pools.specs.declared.views.SeatPart.{SeatPart}
 use Rattle.epoch_pools.specs.Beside.{core_at, shown, shown_core}
 use Rattle.epoch_pools.specs.Hands.{HandState, IsResting, fresh, new_hand, pass_in as hand_pass}
@@ -61,12 +61,10 @@ module _ {P : Type 0} (table : TableId) (first : ℕ → P) (lists seats : ℕ) 
   new_further : (n from many : ℕ) → from + many ≤ lists
       → map (λ j. pools_of (shown_core (new_part n) j)) (numbers_from from many) ≡ replicate many (first_pools n)
   new_further n from zero le = refl
-  new_further n from (suc many) le =
-      λ i. (ap pools_of (new_shows n from (omega arith)) ∙ new_pools n) i ∷ new_further n (from + 1) many (omega arith) i
+  new_further n from (suc many) le = λ i. (ap pools_of (new_shows n from (omega arith)) ∙ new_pools n) i ∷ new_further n (from + 1) many (omega arith) i
 
   -- the seat of a new hand is a new seat
-  pub seat_is : (n : ℕ) (h : HandState (Beside P)) → 0 < lists → h ≡ new_hand table first lists seats n
-      → seat_state_of h ≡ new_seat_in lists table first n
+  pub seat_is : (n : ℕ) (h : HandState (Beside P)) → 0 < lists → h ≡ new_hand table first lists seats n → seat_state_of h ≡ new_seat_in lists table first n
   seat_is n h more e = ap seat_state_of e
       ∙ (λ i. record (new_seat_in lists table first n) {
         held =
@@ -90,8 +88,7 @@ module _ {P : Type 0} (table : TableId) (first : ℕ → P) (lists seats : ℕ) 
 
   -- without the first the rest are those from the next number on
   pub new_on : (n : ℕ) (hands left : List (HandState (Beside P))) → IsNewFrom n hands → left ≡ remove hands 0 → IsNewFrom (n + 1) left
-  new_on n hands left rest is k h at =
-      let z : n + suc k ≡ (n + 1) + k = omega arith in
+  new_on n hands left rest is k h at = let z : n + suc k ≡ (n + 1) + k = omega arith in
       rest (suc k) h (sym (at_removed hands k) ∙ (ap (λ l. get_elem? l k) (sym is) ∙ at)) ∙ ap (new_hand table first lists seats) z
 
 module _ {P : Type 0} (table : TableId) where
@@ -106,23 +103,13 @@ module _ {P : Type 0} (table : TableId) where
 
   -- without the first the rest are those from the next number on
   pub idle_on : (n : ℕ) (seats left : List (SeatState P)) → IsIdleFrom n seats → left ≡ remove seats 0 → IsIdleFrom (n + 1) left
-  idle_on n seats left rest is k s at =
-      let z : n + suc k ≡ (n + 1) + k = omega arith in
-      let i = rest (suc k) s (sym (at_removed seats k) ∙ (ap (λ l. get_elem? l k) (sym is) ∙ at)) in
-      (i.0, i.1 ∙ z, i.2)
-
--- one seat's pass goes from the seats that are left to the hands that are made
-map_append : {A B : Type 0} (f : A → B) (l m : List A) → map f (l ++ m) ≡ map f l ++ map f m
-map_append f [] m = refl
-map_append f (x ∷ xs) m = ap (λ l. f x ∷ l) (map_append f xs m)
+  idle_on n seats left rest is k s at = let z : n + suc k ≡ (n + 1) + k = omega arith in
+      let i = rest (suc k) s (sym (at_removed seats k) ∙ (ap (λ l. get_elem? l k) (sym is) ∙ at)) in (i.0, i.1 ∙ z, i.2)
 
 -- taking one seat's hand keeps the passes of the hands that are made and the seats that are left
-pub passes_on : {P : Type 0} (hands : List (HandState (Beside P))) (h : HandState (Beside P)) (seats left : List (SeatState P)) (s : SeatState P)
-    (all : List P) → map hand_pass hands ++ map pass_in seats ≡ all → 0 < length seats → s ≡ get_or seats 0 s
-    → left ≡ remove seats 0 → h.part.pass.pass ≡ s.pass
-    → map hand_pass (hands ++ h ∷ []) ++ map pass_in left ≡ all
-passes_on {P} hands h seats left s all before more is rest same =
-    let whole : seats ≡ s ∷ left = first_of_list seats s more is ∙ ap (λ l. s ∷ l) (sym rest) in
-    ap (λ l. l ++ map pass_in left) (map_append hand_pass hands (h ∷ []))
-    ∙ (append_one (map hand_pass hands) h.part.pass.pass (map pass_in left)
-    ∙ (ap (λ (q : P). map hand_pass hands ++ q ∷ map pass_in left) same ∙ (ap (λ l. map hand_pass hands ++ map pass_in l) (sym whole) ∙ before)))
+pub passes_on : {P : Type 0} (hands : List (HandState (Beside P))) (h : HandState (Beside P)) (seats left : List (SeatState P)) (s : SeatState P) (all : List P)
+    → map hand_pass hands ++ map pass_in seats ≡ all → 0 < length seats → s ≡ get_or seats 0 s → left ≡ remove seats 0 → h.part.pass.pass ≡ s.pass → map
+    hand_pass (hands ++ h ∷ []) ++ map pass_in left ≡ all
+passes_on {P} hands h seats left s all before more is rest same = let whole : seats ≡ s ∷ left = first_of_list seats s more is ∙ ap (λ l. s ∷ l) (sym rest) in
+    ap (λ l. l ++ map pass_in left) (map-append hand_pass hands (h ∷ [])) ∙ (append_one (map hand_pass hands) h.part.pass.pass (map pass_in left) ∙ (ap (λ
+    (q : P). map hand_pass hands ++ q ∷ map pass_in left) same ∙ (ap (λ l. map hand_pass hands ++ map pass_in l) (sym whole) ∙ before)))

@@ -17,10 +17,7 @@ module _ (c : Regions) (range : Interval) where
   below_none at zero m le none b = let e : at ≡ 0 = omega arith in subst (λ n. TakesBelow c range n m) e b
   below_none at (suc up) m le none b = dite (ℕ_discrete at (suc up))
       (λ e. subst (λ n. TakesBelow c range n m) e b)
-      (λ far. inr (
-        none up (omega arith) (omega arith),
-        below_none at up m (omega arith) (λ list from to t. none list from (omega arith) t) b,
-      ))
+      (λ far. inr (none up (omega arith) (omega arith), below_none at up m (omega arith) (λ list from to t. none list from (omega arith) t) b))
 
   -- one more behind a list that it takes
   pub below_one : (at m : ℕ) → Takes c range at → TakesBelow c range at m → TakesBelow c range (suc at) (suc m)
@@ -40,8 +37,7 @@ module _ (c : Regions) (range : Interval) where
 
   -- fewer lists have no more of them
   pub fewer_below : (at n m k : ℕ) → at ≤ n → TakesBelow c range at m → TakesBelow c range n k → m ≤ k
-  fewer_below at zero m k le a b =
-      let e : at ≡ 0 = omega arith in let s = same_below 0 m k (subst (λ n. TakesBelow c range n m) e a) b in omega arith
+  fewer_below at zero m k le a b = let e : at ≡ 0 = omega arith in let s = same_below 0 m k (subst (λ n. TakesBelow c range n m) e a) b in omega arith
   fewer_below at (suc n) m k le a b = dite (ℕ_discrete at (suc n))
       (λ e. let s = same_below (suc n) m k (subst (λ i. TakesBelow c range i m) e a) b in omega arith)
       (λ far. ⊎_elim
@@ -71,15 +67,11 @@ module _ (c : Regions) (range : Interval) where
 
   -- so its try makes the steps of one list
   pub alone_steps : (seats : ℕ) → TakesAlone c range → (k : ℕ) × TakesMany c range k × (try_steps seats k ≡ 64 + 386 * seats)
-  alone_steps seats alone =
-      let many = one_at_most alone.0 (list_count c) alone.1 in
-      let none : many.0 - 1 ≡ 0 = let few = many.2 in omega arith in
-      let more : (55 + 193 * seats) * (many.0 - 1) ≡ 0 = ap (λ n. (55 + 193 * seats) * n) none ∙ mul-zero (55 + 193 * seats) in
-      (many.0, many.1, omega arith)
+  alone_steps seats alone = let many = one_at_most alone.0 (list_count c) alone.1 in let none : many.0 - 1 ≡ 0 = let few = many.2 in omega arith in
+      let more : (55 + 193 * seats) * (many.0 - 1) ≡ 0 = ap (λ n. (55 + 193 * seats) * n) none ∙ mul-zero (55 + 193 * seats) in (many.0, many.1, omega arith)
 
   -- whether one of so many numbers, from the first of them on, is of a list
-  is_among : (list lo n : ℕ) → ((m : ℕ) × (lo ≤ m) × (m < lo + n) × (list_of c m ≡ list))
-      ⊎ ((m : ℕ) → lo ≤ m → m < lo + n → list_of c m ≡ list → ⊥)
+  is_among : (list lo n : ℕ) → ((m : ℕ) × (lo ≤ m) × (m < lo + n) × (list_of c m ≡ list)) ⊎ ((m : ℕ) → lo ≤ m → m < lo + n → list_of c m ≡ list → ⊥)
   is_among list lo zero = inr (λ m from below at. absurd (omega arith))
   is_among list lo (suc n) = dite (ℕ_discrete (list_of c (lo + n)) list)
       (λ e. inl (lo + n, omega arith, omega arith, e))
@@ -109,19 +101,13 @@ module _ (c : Regions) (range : Interval) where
   -- so a bound by the lists that a range takes is one by all lists
   pub wide_steps : (seats after before : ℕ) → 0 < c.count → ((k : ℕ) → TakesMany c range k → after ≤ before + try_steps seats k)
       → after ≤ before + (64 + 386 * seats) * list_count c
-  wide_steps seats after before some each =
-      let many = some_many (list_count c) in
-      let few = many.2 in
-      let one : 1 ≤ list_count c = omega arith in
+  wide_steps seats after before some each = let many = some_many (list_count c) in let few = many.2 in let one : 1 ≤ list_count c = omega arith in
       let le : (55 + 193 * seats) * (many.0 - 1) ≤ (64 + 386 * seats) * (list_count c - 1) = mul-le _ _ _ _ (omega arith) (omega arith) in
-      let whole : list_count c ≡ suc (list_count c - 1) = omega arith in
-      let all : (64 + 386 * seats) * list_count c ≡ (64 + 386 * seats) * (list_count c - 1) + (64 + 386 * seats) =
-      ap (λ n. (64 + 386 * seats) * n) whole ∙ mul-suc (64 + 386 * seats) (list_count c - 1) in
-      let b = each many.0 many.1 in omega arith
+      let whole : list_count c ≡ suc (list_count c - 1) = omega arith in let all : (64 + 386 * seats) * list_count c ≡ (64 + 386 * seats) * (list_count c - 1) +
+      (64 + 386 * seats) = ap (λ n. (64 + 386 * seats) * n) whole ∙ mul-suc (64 + 386 * seats) (list_count c - 1) in let b = each many.0 many.1 in omega arith
 
 -- with one list each range takes it, and no other
 pub takes_first : (c : Regions) (range : Interval) → 0 < c.count → list_count c ≡ 1 → range.lo < range.hi → TakesOne c range 0
-takes_first c range some one less =
-    let own : Takes c range (list_of c range.lo) = takes_own c range range.lo (omega arith) less in
+takes_first c range some one less = let own : Takes c range (list_of c range.lo) = takes_own c range range.lo (omega arith) less in
     let first : (i : ℕ) → Takes c range i → i ≡ 0 = λ i t. let e = takes_there c range i some t in omega arith in
     record { takes = subst (Takes c range) (first (list_of c range.lo) own) own; alone = λ other t. first other t }

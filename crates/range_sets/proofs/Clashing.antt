@@ -28,24 +28,18 @@ next_pair wants i j a b ei ej apart from k m lt clash = ⊎_elim inl (λ p. let 
     (λ differ. inr (e, omega arith))) (from k m lt clash)
 
 -- where all second places behind i were asked, no pair that conflicts begins at i or before
-pub next_first : (wants : List Want) (i j : ℕ) → length wants ≤ j
-    → ((k m : ℕ) → k < m → AreClashing wants k m → (i < k) ⊎ ((i ≡ k) × (j ≤ m))) → (k m : ℕ) → k < m → AreClashing wants k m
-    → i + 1 ≤ k
+pub next_first : (wants : List Want) (i j : ℕ) → length wants ≤ j → ((k m : ℕ) → k < m → AreClashing wants k m → (i < k) ⊎ ((i ≡ k) × (j ≤ m))) → (k m : ℕ) → k
+    < m → AreClashing wants k m → i + 1 ≤ k
 next_first wants i j end from k m lt clash = ⊎_elim (λ low. omega arith) (λ p. let low = p.1 in
     let within = slice_get_within wants m clash.1 clash.3 in absurd (omega arith)) (from k m lt clash)
 
 -- where no pair that conflicts begins at any place, no two wants conflict
 pub no_pair : (wants : List Want) (n : ℕ) → length wants ≤ n → ((k m : ℕ) → k < m → AreClashing wants k m → n ≤ k) → NoClash wants
-no_pair wants n end from i j d lt within conflict =
-    let low = from i j lt (get_or wants i d, get_or wants j d, slice_get-get_or wants i d (omega arith), slice_get-get_or wants j d within, conflict) in
-    omega arith
+no_pair wants n end from i j d lt within conflict = let low = from i j lt
+    (get_or wants i d, get_or wants j d, slice_get-get_or wants i d (omega arith), slice_get-get_or wants j d within, conflict) in omega arith
 
 -- wants of which two conflict aren't apart
 pub breaks : (wants : List Want) (i j : ℕ) → i < j → NoClash wants → AreClashing wants i j → ⊥
-breaks wants i j lt apart clash =
-    let c = clash in
-    let ea = get_or_from_slice_get wants i c.0 c.0 c.2 in
-    let eb = get_or_from_slice_get wants j c.1 c.0 c.3 in
-    apart i j c.0 lt (slice_get_within wants j c.1 c.3)
-    (subst (λ y. Conflicts (want_held (get_or wants i c.0)) (want_held y)) (sym eb)
-    (subst (λ x. Conflicts (want_held x) (want_held c.1)) (sym ea) c.4))
+breaks wants i j lt apart clash = let c = clash in let ea = get_or_from_slice_get wants i c.0 c.0 c.2 in let eb = get_or_from_slice_get wants j c.1 c.0 c.3 in
+    apart i j c.0 lt (slice_get_within wants j c.1 c.3) (subst (λ y. Conflicts (want_held (get_or wants i c.0)) (want_held y)) (sym eb) (subst
+    (λ x. Conflicts (want_held x) (want_held c.1)) (sym ea) c.4))

@@ -44,10 +44,8 @@ alone_first : (t : TableShape) (i : ℕ) (wants : List Want) → i ≤ length wa
 alone_first t zero [] there alone = zero-mul (64 + 386 * t.seats)
 alone_first t zero (w ∷ ws) there alone = zero-mul (64 + 386 * t.seats)
 alone_first t (suc i) [] there alone = absurd (omega arith)
-alone_first t (suc i) (w ∷ ws) there alone =
-    let one = alone_steps t.cut w.range t.seats (alone 0 w (omega arith)) in
-    let more = suc-mul i (64 + 386 * t.seats) in
-    let behind = all_behind (λ w. TakesAlone t.cut w.range) w ws alone in
+alone_first t (suc i) (w ∷ ws) there alone = let one = alone_steps t.cut w.range t.seats (alone 0 w (omega arith)) in
+    let more = suc-mul i (64 + 386 * t.seats) in let behind = all_behind (λ w. TakesAlone t.cut w.range) w ws alone in
     (one.0, i * (64 + 386 * t.seats), one.1, alone_first t i ws (omega arith) behind, let s = one.2 in omega arith)
 
 -- and all of them
@@ -71,9 +69,7 @@ module _ {P : Type 0} where
 
   -- and of the last three
   pub last_three : (Q : SeatState P → Type 0) (a b c d : SeatState P) → All Q (a ∷ b ∷ c ∷ d ∷ []) → Q b × Q c × Q d
-  last_three Q a b c d all =
-      let one = all_behind Q a (b ∷ c ∷ d ∷ []) all in
-      let two = all_behind Q b (c ∷ d ∷ []) one in
+  last_three Q a b c d all = let one = all_behind Q a (b ∷ c ∷ d ∷ []) all in let two = all_behind Q b (c ∷ d ∷ []) one in
       let three = all_behind Q c (d ∷ []) two in (one 0 b (omega arith), two 0 c (omega arith), three 0 d (omega arith))
 
   -- it stays so where it is so of the first one's new state
@@ -95,10 +91,8 @@ module _ {P : Type 0} where
 
   same_free : (xs : List (SeatState P)) → AllFree xs → EachIs IsLetGo xs xs
   same_free [] free = tt
-  same_free (x ∷ xs) free = (
-    record { back = record { table = refl; number = refl; held = free 0 x (omega arith) }; client = refl },
-    same_free xs (free_behind x xs free),
-  )
+  same_free (x ∷ xs) free =
+      (record { back = record { table = refl; number = refl; held = free 0 x (omega arith) }; client = refl }, same_free xs (free_behind x xs free))
 
   -- seats that are as before have asked for nothing
   same_asks : (wants : List Want) (xs : List (SeatState P)) → AsksEach wants xs xs
@@ -121,8 +115,7 @@ module _ {P : Type 0} where
     -- the one want was granted to the last seat
     pub granted_last : (wants rest : List Want) (w : Want) (x y : SeatState P) → wants ≡ w ∷ rest → length wants ≤ 1
         → IsGranted t w x y → AreGranted t wants (x ∷ []) (y ∷ [])
-    granted_last wants rest w x y e few one =
-        let long : length wants ≡ length (w ∷ rest) = ap length e in
+    granted_last wants rest w x y e few one = let long : length wants ≡ length (w ∷ rest) = ap length e in
         granted_more wants rest w x y [] [] e one (granted_none rest [] (omega arith))
 
     -- granted wants are held, each by the seat at its place, and the other seats hold nothing
@@ -162,9 +155,8 @@ module _ {P : Type 0} where
     granted_each [] xs ys e n takes = let same : taken_by ys ≡ taken_by xs = ap taken_by e in omega arith
     granted_each (w ∷ ws) [] ys g n takes = absurd g
     granted_each (w ∷ ws) (x ∷ xs) [] g n takes = absurd g
-    granted_each (w ∷ ws) (x ∷ xs) (y ∷ ys) g n takes =
-        granted_steps x.trace.taken y.trace.taken (taken_by xs) (taken_by ys) (taken_by (x ∷ xs)) (taken_by (y ∷ ys))
-        (try_steps t.seats takes.0) takes.1 n (sum_by-cons taken_of x xs) (sum_by-cons taken_of y ys) takes.4
+    granted_each (w ∷ ws) (x ∷ xs) (y ∷ ys) g n takes = granted_steps x.trace.taken y.trace.taken (taken_by xs) (taken_by ys) (taken_by (x ∷ xs))
+        (taken_by (y ∷ ys)) (try_steps t.seats takes.0) takes.1 n (sum_by-cons taken_of x xs) (sum_by-cons taken_of y ys) takes.4
         (granted_each ws xs ys g.1 takes.1 takes.3) (g.0.bound takes.0 takes.2)
 
     -- four seats hold what is wanted, each at its place
@@ -188,19 +180,16 @@ module _ {P : Type 0} where
       -- the first want was refused
       pub refused_first : (wants rest : List Want) (w : Want) (x y : SeatState P) (xs : List (SeatState P)) (i : ℕ) (why : NotHeld)
           → wants ≡ w ∷ rest → i ≡ 0 → IsRefused t w why x y → IsRefusedAt t rested wants (x ∷ xs) (y ∷ xs) i why
-      refused_first wants rest w x y xs i why e first one =
-          subst (λ l. IsRefusedAt t rested l (x ∷ xs) (y ∷ xs) i why) (sym e)
-          (subst (λ k. IsRefusedAt t rested (w ∷ rest) (x ∷ xs) (y ∷ xs) k why) (sym first) (one, refl))
+      refused_first wants rest w x y xs i why e first one = subst (λ l. IsRefusedAt t rested l (x ∷ xs) (y ∷ xs) i why) (sym e) (subst (λ k. IsRefusedAt t
+          rested (w ∷ rest) (x ∷ xs) (y ∷ xs) k why) (sym first) (one, refl))
 
       -- a want behind the first was refused, and the first seat's range given back
       pub refused_behind : (wants rest : List Want) (w : Want) (x y : SeatState P) (xs ys : List (SeatState P)) (i n : ℕ) (why told : NotHeld)
           → wants ≡ w ∷ rest → n ≡ i + 1 → told ≡ why → IsTakenBack t rested w x y → IsRefusedAt t rested rest xs ys i why
           → IsRefusedAt t rested wants (x ∷ xs) (y ∷ ys) n told
-      refused_behind wants rest w x y xs ys i n why told e next same one behind =
-          let is : n ≡ suc i = omega arith in
-          subst (λ l. IsRefusedAt t rested l (x ∷ xs) (y ∷ ys) n told) (sym e)
-          (subst (λ k. IsRefusedAt t rested (w ∷ rest) (x ∷ xs) (y ∷ ys) k told) (sym is)
-          (subst (λ v. IsRefusedAt t rested (w ∷ rest) (x ∷ xs) (y ∷ ys) (suc i) v) (sym same) (one, behind)))
+      refused_behind wants rest w x y xs ys i n why told e next same one behind = let is : n ≡ suc i = omega arith in subst (λ l. IsRefusedAt t rested l
+          (x ∷ xs) (y ∷ ys) n told) (sym e) (subst (λ k. IsRefusedAt t rested (w ∷ rest) (x ∷ xs) (y ∷ ys) k told) (sym is) (subst (λ v. IsRefusedAt t rested
+          (w ∷ rest) (x ∷ xs) (y ∷ ys) (suc i) v) (sym same) (one, behind)))
 
       -- each seat asked for its own want, also where one was refused
       pub refused_asks : (wants : List Want) (xs ys : List (SeatState P)) (i : ℕ) (why : NotHeld) → IsRefusedAt t rested wants xs ys i why
@@ -319,15 +308,12 @@ module _ {P : Type 0} where
         pub each_told : (r : Result (Unit {0}) SetRefused) → IfErr r (λ e. IsRefusedAt t rested wants xs ys e.index e.why)
             → IfErr r (λ e. (n : ℕ) → TriesTake t (take (e.index + 1) wants) n → taken_by ys ≤ taken_by xs + n + 2 * e.index)
         each_told (Ok x) h = tt
-        each_told (Err e) h = λ n takes.
-            let next : e.index + 1 ≡ suc e.index = omega arith in
+        each_told (Err e) h = λ n takes. let next : e.index + 1 ≡ suc e.index = omega arith in
             (refusal wants xs ys e.index e.why free h).each n (subst (λ k. TriesTake t (take k wants) n) next takes)
 
         -- with the steps of one list for each, where each range takes one
-        pub bound_told : All (λ w. TakesAlone t.cut w.range) wants → (r : Result (Unit {0}) SetRefused)
-            → IfErr r (λ e. IsRefusedAt t rested wants xs ys e.index e.why)
-            → IfErr r (λ e. taken_by ys ≤ taken_by xs + (e.index + 1) * (64 + 386 * t.seats) + 2 * e.index)
+        pub bound_told : All (λ w. TakesAlone t.cut w.range) wants → (r : Result (Unit {0}) SetRefused) → IfErr r (λ e. IsRefusedAt t rested wants xs ys e.index
+            e.why) → IfErr r (λ e. taken_by ys ≤ taken_by xs + (e.index + 1) * (64 + 386 * t.seats) + 2 * e.index)
         bound_told alone (Ok x) h = tt
-        bound_told alone (Err e) h =
-            let there = refused_there wants xs ys e.index e.why h in
+        bound_told alone (Err e) h = let there = refused_there wants xs ys e.index e.why h in
             each_told (Err e) h ((e.index + 1) * (64 + 386 * t.seats)) (alone_first t (e.index + 1) wants (omega arith) alone)

@@ -4,6 +4,5 @@ use Rattle.range_c.proofs.exports.gz_range_open_cut.Goals as goal
 
 -- a handle that is open is told so, and nothing else is the cause
 pub returns-then-is_open-clause-cause : goal.returns-then-is_open-clause-cause
-returns-then-is_open-clause-cause c =
-    λ _. cutting_of_open c.args.regions c.args.bits c.args.seats (length c.args.words.now) c.code.result c.args.handle.now.pointer.behind
+returns-then-is_open-clause-cause c = λ _. cutting_of_open c.args.regions c.args.bits c.args.seats (length c.args.words.now) c.args.handle.now.pointer.behind
     (c.is_open.ensures.open c.if-is_open.true) c.code.ensures

@@ -7,8 +7,8 @@ use Rattle.range_c.proofs.opening.open_regions.Goals as goal
 pub returns-in-Ok-clause-opened : goal.returns-in-Ok-clause-opened
 returns-in-Ok-clause-opened c =
     let is : IsCut c.args.regions c.args.bits = search rules in
-    opens_cut c.open_lists.result (λ b. b.value) c.args.regions c.args.bits c.args.seats c.args.client.now c.in-Ok.cut
-    c.in-Ok.ensures.cut.0 c.in-Ok.ensures.cut.1 is c.open_lists.ensures.opened
+    opens_cut c.open_lists.result (λ b. b.value) c.args.seats c.args.client.now c.in-Ok.cut c.in-Ok.ensures.cut.0 c.in-Ok.ensures.cut.1 is
+    c.open_lists.ensures.opened
 
 -- where they make one, the cause is another
 pub returns-in-Ok-clause-refused : goal.returns-in-Ok-clause-refused

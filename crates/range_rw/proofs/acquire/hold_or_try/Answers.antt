@@ -30,42 +30,30 @@ pub hold_patiently-requires-clause-free : goal.hold_patiently-requires-clause-fr
 hold_patiently-requires-clause-free g c = free_sweeps c.args.hand.now.part c.requires.free
 
 -- with one list the try is the list's
-pub returns-then-lists-eq1-clause-later : goal.returns-then-lists-eq1-clause-later
-returns-then-lists-eq1-clause-later g c = here_later (here g c)
-
--- what it holds it holds alone
-pub returns-then-lists-eq1-clause-held : goal.returns-then-lists-eq1-clause-held
-returns-then-lists-eq1-clause-held g c = ok_on c.hold_patiently.result (here_alone (here g c)) c.hold_patiently.ensures.held
-
--- and that counts
-pub returns-then-lists-eq1-clause-counts : goal.returns-then-lists-eq1-clause-counts
-returns-then-lists-eq1-clause-counts g c = ok_on c.hold_patiently.result (λ _. one_counts c.hold_patiently.new.hand.part.pass
-    (let a = (here_later (here g c)).lists in let b = c.requires.lists.0 in let e = c.if-lists-eq1.true in omega arith)) c.hold_patiently.ensures.held
-
--- by itself
-pub returns-then-lists-eq1-clause-one : goal.returns-then-lists-eq1-clause-one
-returns-then-lists-eq1-clause-one g c = ok_on c.hold_patiently.result (λ _ _. here_standing (here g c)) c.hold_patiently.ensures.held
-
--- it is held in that list, which each range takes alone
-pub returns-then-lists-eq1-clause-stands : goal.returns-then-lists-eq1-clause-stands
-returns-then-lists-eq1-clause-stands g c = ok_on c.hold_patiently.result
-    (λ _. stands_first (takes_first c.args.list.now.cut c.args.range c.requires.regions
-    (let b = c.requires.lists.1 in let e = c.if-lists-eq1.true in omega arith) c.lo.ensures.bounds.0) (here_standing (here g c)))
-    c.hold_patiently.ensures.held
-
--- a refusal leaves nothing held
-pub returns-then-lists-eq1-clause-free : goal.returns-then-lists-eq1-clause-free
-returns-then-lists-eq1-clause-free g c = err_free c.hold_patiently.result (here_free (here g c)) c.hold_patiently.ensures.free
-
--- there is no other list
-pub returns-then-lists-eq1-clause-only : goal.returns-then-lists-eq1-clause-only
-returns-then-lists-eq1-clause-only g c = here_others (here g c) c.args.list.now.cut c.args.range
-    (let a = c.list.ensures.list in let b = c.list.ensures.there in let l = c.requires.lists.0 in let e = c.if-lists-eq1.true in omega arith)
+pub returns-then-lists-eq1 : goal.returns-then-lists-eq1
+returns-then-lists-eq1 g c =
+    let h = here g c in let tried = c.hold_patiently.ensures in record {
+      table = tried.table;
+      later = here_later h;
+      asks = tried.asks;
+      gets = tried.gets;
+      -- what it holds it holds alone, and that counts by itself
+      held = ok_on c.hold_patiently.result (here_alone h) tried.held;
+      counts = ok_on c.hold_patiently.result (λ _. one_counts c.hold_patiently.new.hand.part.pass
+          (let a = (here_later h).lists in let b = c.requires.lists.0 in let e = c.if-lists-eq1.true in omega arith)) tried.held;
+      one = ok_on c.hold_patiently.result (λ _ _. here_standing h) tried.held;
+      -- it is held in that list, which each range takes alone
+      stands = ok_on c.hold_patiently.result (λ _. stands_first (takes_first c.args.list.now.cut c.args.range c.requires.regions
+          (let b = c.requires.lists.1 in let e = c.if-lists-eq1.true in omega arith) c.lo.ensures.bounds.0) (here_standing h)) tried.held;
+      -- a refusal leaves nothing held, and there is no other list
+      free = err_free c.hold_patiently.result (here_free h) tried.free;
+      only = here_others h c.args.list.now.cut c.args.range
+          (let a = c.list.ensures.list in let b = c.list.ensures.there in let l = c.requires.lists.0 in let e = c.if-lists-eq1.true in omega arith);
+    }
 
 -- the list that a narrow range takes is one behind list 0, and there
 pub hold_narrow_patiently-requires-clause-several : goal.hold_narrow_patiently-requires-clause-several
-hold_narrow_patiently-requires-clause-several g c =
-    narrow_list c.args.hand.now.part.pass.lists c.requires.regions (sym c.requires.lists.0 ∙ c.requires.lists.1)
+hold_narrow_patiently-requires-clause-several g c = narrow_list c.args.hand.now.part.pass.lists c.requires.regions (sym c.requires.lists.0 ∙ c.requires.lists.1)
     (λ e. c.if-lists-eq1.false (c.requires.lists.1 ∙ e)) (one g (goal.at.hold_narrow_patiently-requires-clause-several g c).In-Some)
 
 -- it takes that one alone
@@ -83,9 +71,8 @@ returns-in-Some-clause-counts g c =
 
 -- there are several lists
 pub returns-in-Some-clause-one : goal.returns-in-Some-clause-one
-returns-in-Some-clause-one g c = ok_on c.hold_narrow_patiently.result
-    (λ h only. absurd (c.if-lists-eq1.false (c.requires.lists.0 ∙ (sym c.hold_narrow_patiently.ensures.later.lists ∙ only))))
-    c.hold_narrow_patiently.ensures.held
+returns-in-Some-clause-one g c = ok_on c.hold_narrow_patiently.result (λ h only. absurd (c.if-lists-eq1.false (c.requires.lists.0 ∙ (sym
+    c.hold_narrow_patiently.ensures.later.lists ∙ only)))) c.hold_narrow_patiently.ensures.held
 
 -- it is held in the list that it takes alone
 pub returns-in-Some-clause-stands : goal.returns-in-Some-clause-stands
@@ -106,9 +93,8 @@ returns-in-None-clause-counts g c = ok_both c.hold_wide_patiently.result alone_w
 
 -- there are several lists
 pub returns-in-None-clause-one : goal.returns-in-None-clause-one
-returns-in-None-clause-one g c = ok_on c.hold_wide_patiently.result
-    (λ h only. absurd (c.if-lists-eq1.false (c.requires.lists.0 ∙ (sym c.hold_wide_patiently.ensures.later.lists ∙ only))))
-    c.hold_wide_patiently.ensures.held
+returns-in-None-clause-one g c = ok_on c.hold_wide_patiently.result (λ h only. absurd (c.if-lists-eq1.false (c.requires.lists.0 ∙ (sym
+    c.hold_wide_patiently.ensures.later.lists ∙ only)))) c.hold_wide_patiently.ensures.held
 
 -- it is held in list 0
 pub returns-in-None-clause-stands : goal.returns-in-None-clause-stands

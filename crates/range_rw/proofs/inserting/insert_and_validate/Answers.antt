@@ -4,7 +4,5 @@ use Rattle.range_rw.proofs.inserting.insert_and_validate.Goals as goal
 
 -- the node that was linked has its validation to do
 pub validate_once-requires-clause-own : goal.validate_once-requires-clause-own
-validate_once-requires-clause-own g c =
-    let w = c.walk_and_link in
-    insert_validates c.args.hand.now.part w.new.hand.part c.in-Some.walked c.requires.order w.ensures.later c.in-Some.ensures.ends
-    (sym c.is_place.ensures ∙ c.if-not-is_place.false)
+validate_once-requires-clause-own g c = let w = c.walk_and_link in insert_validates c.args.hand.now.part w.new.hand.part c.in-Some.walked c.requires.order
+    w.ensures.later c.in-Some.ensures.ends (sym c.is_place.ensures ∙ c.if-not-is_place.false)

@@ -48,14 +48,12 @@ returns-in-Err-count_or_give-clause-later g c = lists_on c.link_patiently.ensure
 
 -- no list but this one and list 0 has changed
 pub returns-in-Ok-count_or_give-clause-only : goal.returns-in-Ok-count_or_give-clause-only
-returns-in-Ok-count_or_give-clause-only g c = λ j none.
-    let away : j ≢ c.args.at = λ e. none (inr (subst (Takes c.args.list.now.cut c.args.range) (sym e) c.requires.takes.takes)) in
-    c.count_or_give.ensures.only j away (λ e. none (inl e)) ∙ c.link_patiently.ensures.piece.only j away
+returns-in-Ok-count_or_give-clause-only g c = λ j none. let away : j ≢ c.args.at = λ e. none (inr (subst (Takes c.args.list.now.cut c.args.range) (sym e)
+    c.requires.takes.takes)) in c.count_or_give.ensures.only j away (λ e. none (inl e)) ∙ c.link_patiently.ensures.piece.only j away
 
 pub returns-in-Err-count_or_give-clause-only : goal.returns-in-Err-count_or_give-clause-only
-returns-in-Err-count_or_give-clause-only g c = λ j none.
-    let away : j ≢ c.args.at = λ e. none (inr (subst (Takes c.args.list.now.cut c.args.range) (sym e) c.requires.takes.takes)) in
-    c.count_or_give.ensures.only j away (λ e. none (inl e)) ∙ c.link_patiently.ensures.piece.only j away
+returns-in-Err-count_or_give-clause-only g c = λ j none. let away : j ≢ c.args.at = λ e. none (inr (subst (Takes c.args.list.now.cut c.args.range) (sym e)
+    c.requires.takes.takes)) in c.count_or_give.ensures.only j away (λ e. none (inl e)) ∙ c.link_patiently.ensures.piece.only j away
 
 -- both parts ask for the range alone
 pub returns-in-Ok-count_or_give-clause-asks : goal.returns-in-Ok-count_or_give-clause-asks

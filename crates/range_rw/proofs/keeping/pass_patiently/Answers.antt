@@ -40,18 +40,15 @@ all-init g c =
       only = λ j none. refl;
       takes = λ less. subst (λ x. Takes x c.args.range c.next_taken-at.result) cut
           (c.next_taken-at.ensures.taken (let e = ap list_count cut in let l = c.requires.lists.1 in omega arith));
-      bound =
-          let le : k * c.args.looks ≤ k * (c.next_taken-at.result + c.args.looks) = mul-le _ _ _ _ (omega arith) (omega arith) in omega arith;
+      bound = let le : k * c.args.looks ≤ k * (c.next_taken-at.result + c.args.looks) = mul-le _ _ _ _ (omega arith) (omega arith) in omega arith;
     }
 
 -- the next list may be passed
 pub pass_one-requires-clause-may : goal.pass_one-requires-clause-may
-pass_one-requires-clause-may g c =
-    let i = c.all.invariant in
-    pass_next c.args.list.now.cut c.all.at c.next_taken-up.result (record { range = c.args.range; mode = c.args.mode }) c.all.hand.part (let e = i.lists.0
-    in omega arith) i.low i.alone i.passed
-    (subst (λ x. TakesNone x c.args.range (c.all.at + 1) c.next_taken-up.result) i.cut c.next_taken-up.ensures.first) c.next_taken-up.ensures.from
-    (let e = i.lists.0 in let f = i.lists.1 in let m = ap list_count i.cut in let n = c.next_taken-up.ensures.most in omega arith)
+pass_one-requires-clause-may g c = let i = c.all.invariant in pass_next c.args.list.now.cut c.all.at c.next_taken-up.result
+    (record { range = c.args.range; mode = c.args.mode }) c.all.hand.part (let e = i.lists.0 in omega arith) i.low i.alone i.passed (subst (λ x. TakesNone x
+    c.args.range (c.all.at + 1) c.next_taken-up.result) i.cut c.next_taken-up.ensures.first) c.next_taken-up.ensures.from (let e = i.lists.0 in let f =
+    i.lists.1 in let m = ap list_count i.cut in let n = c.next_taken-up.ensures.most in omega arith)
 
 -- with one list more passed
 pub all-preserved-in-Ok : goal.all-preserved-in-Ok
@@ -119,8 +116,7 @@ all-preserved g c =
 
 -- the hand turns back to list 0
 pub turn-requires-clause-there : goal.turn-requires-clause-there
-turn-requires-clause-there g c =
-    let i = c.all.invariant in let e = c.pass_one.ensures.later.lists in let l = i.lists.0 in omega arith
+turn-requires-clause-there g c = let i = c.all.invariant in let e = c.pass_one.ensures.later.lists in let l = i.lists.0 in omega arith
 
 -- from one in which it rests
 pub turn-requires-clause-resting : goal.turn-requires-clause-resting
@@ -128,25 +124,19 @@ turn-requires-clause-resting g c = c.in-Err.ensures.holds.0.rests
 
 -- all lists are passed
 pub returns-clause-counts : goal.returns-clause-counts
-returns-clause-counts g c =
-    let i = c.all.invariant in
-    let end : c.all.at ≡ list_count c.args.list.now.cut = let a = i.most in let b = i.lists.1 in omega arith in
-    all_passed c.args.list.now.cut c.all.at c.args.range c.all.hand.part c.requires.regions end c.requires.takes i.passed
-    ∙ ap Wide (let a = i.most in let b = i.lists.0 in omega arith)
+returns-clause-counts g c = let i = c.all.invariant in let end : c.all.at ≡ list_count c.args.list.now.cut = let a = i.most in let b = i.lists.1 in
+    omega arith in all_passed c.args.list.now.cut c.all.at c.args.range c.all.hand.part c.requires.regions end c.requires.takes i.passed ∙ ap Wide (let a =
+    i.most in let b = i.lists.0 in omega arith)
 
 -- each list that the range doesn't take is as it was
 pub returns-then-left-eq0-clause-only : goal.returns-then-left-eq0-clause-only
-returns-then-left-eq0-clause-only g c = λ j none.
-    let i = c.all.invariant in
+returns-then-left-eq0-clause-only g c = λ j none. let i = c.all.invariant in
     c.pass_one.ensures.only j (λ e. none (inr (subst (Takes c.args.list.now.cut c.args.range) (sym e) (i.takes (omega arith))))) ∙ i.only j none
 
 -- the lists before this one, this one and the looks
 pub returns-then-left-eq0-clause-bound : goal.returns-then-left-eq0-clause-bound
-returns-then-left-eq0-clause-bound g c =
-    let i = c.all.invariant in
-    let k = 55 + 193 * c.args.hand.now.part.seats in
-    let s = i.later.seats in let n = i.later.lists in let m = i.lists.0 in
-    let a = i.bound in let b = c.pass_one.ensures.bound in
+returns-then-left-eq0-clause-bound g c = let i = c.all.invariant in let k = 55 + 193 * c.args.hand.now.part.seats in let s = i.later.seats in
+    let n = i.later.lists in let m = i.lists.0 in let a = i.bound in let b = c.pass_one.ensures.bound in
     let more : k * suc (c.all.at + c.args.looks) ≡ k * (c.all.at + c.args.looks) + k = mul-suc k (c.all.at + c.args.looks) in
     let le : k * suc (c.all.at + c.args.looks) ≤ k * (c.args.hand.now.part.pass.lists + c.args.looks) = mul-le _ _ _ _ (omega arith) (omega arith) in
     omega arith

@@ -23,17 +23,13 @@ returns-then-quick_give-clause-back g c = quick_given (may_give_back g.G.Guard.i
 
 -- the range is still held, so its node may be marked
 pub mark-requires-2-clause-order : goal.mark-requires-2-clause-order
-mark-requires-2-clause-order g c =
-    may_mark_still (may_give_back g.G.Guard.is_at_rest)
-    (given_back g.G.Guard.rested) c.args.hand.now.part c.quick_give.new.hand.part c.requires.between c.requires.holds c.requires.rest
-    (quick_given (may_give_back g.G.Guard.is_at_rest) c.args.hand.now.part c.requires.between c.requires.holds c.requires.rest (given_back g.G.Guard.rested)
-    c.quick_give.new.hand.part false c.if-quick_give.ensures.given)
+mark-requires-2-clause-order g c = may_mark_still (may_give_back g.G.Guard.is_at_rest) (given_back g.G.Guard.rested) c.args.hand.now.part
+    c.quick_give.new.hand.part c.requires.between c.requires.holds c.requires.rest (quick_given (may_give_back g.G.Guard.is_at_rest) c.args.hand.now.part
+    c.requires.between c.requires.holds c.requires.rest (given_back g.G.Guard.rested) c.quick_give.new.hand.part false c.if-quick_give.ensures.given)
 
 -- the mark gave the range back, after a fast path that was lost
 pub returns-clause-back : goal.returns-clause-back
-returns-clause-back g c =
-    marked_later (may_give_back g.G.Guard.is_at_rest)
-    (given_back g.G.Guard.rested) c.args.hand.now.part c.quick_give.new.hand.part c.requires.between c.requires.holds c.requires.rest
-    (quick_given (may_give_back g.G.Guard.is_at_rest) c.args.hand.now.part c.requires.between c.requires.holds c.requires.rest (given_back g.G.Guard.rested)
-    c.quick_give.new.hand.part false c.if-quick_give.ensures.given)
-    c.mark-2.new.hand.part c.mark-2.ensures.marked
+returns-clause-back g c = marked_later (may_give_back g.G.Guard.is_at_rest) (given_back g.G.Guard.rested) c.args.hand.now.part c.quick_give.new.hand.part
+    c.requires.between c.requires.holds c.requires.rest (quick_given (may_give_back g.G.Guard.is_at_rest) c.args.hand.now.part c.requires.between
+    c.requires.holds c.requires.rest (given_back g.G.Guard.rested) c.quick_give.new.hand.part false c.if-quick_give.ensures.given) c.mark-2.new.hand.part
+    c.mark-2.ensures.marked

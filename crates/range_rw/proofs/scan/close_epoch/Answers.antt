@@ -11,6 +11,5 @@ leave_epoch-requires-clause-given g c = c.requires.seat.between.hand
 
 -- it is outside its epoch
 pub returns-clause-outside : goal.returns-clause-outside
-returns-clause-outside g c =
-    let l = c.leave_epoch.ensures in
+returns-clause-outside g c = let l = c.leave_epoch.ensures in
     is_left c.args.hand.now.part c.leave_epoch.new.hand.part c.requires.seat l.later l.asked l.free l.ready c.view.ensures.sound

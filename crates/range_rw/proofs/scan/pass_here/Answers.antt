@@ -1,7 +1,8 @@
 use Rattle.std.proofs.Common.{ap, ◌∙◌}
 use Rattle.std.specs.Prelude.{◌%◌}
 use Rattle.epoch_pools.specs.declared.views.Beside.{Beside}
-use Rattle.range_rw.proofs.SeatedScans.{own_free, walked_later, list_gives, end_at}
+use Rattle.range_rw.proofs.Scans.{list_gives}
+use Rattle.range_rw.proofs.SeatedScans.{own_free, walked_later, end_at}
 use Rattle.range_rw.proofs.scan.pass_here.Goals as goal
 
 -- the hand has no node of its own
@@ -31,7 +32,6 @@ returns-clause-end g c = λ is. end_at c.args.hand.now.part c.pass-passed.new.ha
 
 -- and the answer of the list is what the call comes to there
 pub returns-clause-gives : goal.returns-clause-gives
-returns-clause-gives g c = λ was opened.
-    let e = c.pass-passed.ensures in
-    list_gives c.args.hand.now.table c.pass-passed.new.hand.table c.args.hand.now.part c.pass-passed.new.hand.part c.requires.inside e.later
-    c.view-2.ensures.sound c.list.ensures.noted was opened c.pass-passed.result e.moved c.view.ensures.sound e.walk e.resting e.answer
+returns-clause-gives g c = λ was opened. let e = c.pass-passed.ensures in list_gives c.args.hand.now.table c.pass-passed.new.hand.table c.args.hand.now.part
+    c.pass-passed.new.hand.part c.requires.inside e.later c.view-2.ensures.sound c.view.ensures.sound e.walk c.list.ensures.noted was opened
+    c.pass-passed.result e.moved e.resting e.answer

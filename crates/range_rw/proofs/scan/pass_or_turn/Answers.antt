@@ -9,8 +9,7 @@ use Rattle.range_rw.proofs.scan.pass_or_turn.Goals as goal
 
 -- there is a next list
 pub next_list-requires-clause-more : goal.next_list-requires-clause-more
-next_list-requires-clause-more g c =
-    let a = c.pass_here.ensures.list in let b = c.pass_here.ensures.later.later.lists in let m = c.requires.more in omega arith
+next_list-requires-clause-more g c = let a = c.pass_here.ensures.list in let b = c.pass_here.ensures.later.later.lists in let m = c.requires.more in omega arith
 
 -- the cursor stands at the end of the list
 pub next_list-requires-clause-end : goal.next_list-requires-clause-end
@@ -18,11 +17,9 @@ next_list-requires-clause-end g c = c.pass_here.ensures.end c.in-None.ensures.en
 
 -- an answer is that of the list
 pub returns-in-Some-clause-gives : goal.returns-in-Some-clause-gives
-returns-in-Some-clause-gives g c = λ was opened.
-    let b = seat_state_of c.args.hand.now in let a = seat_state_of c.pass_here.new.hand in let q = c.pass_here.new.hand.part in
-    let o = c.in-Some.ensures.other in
-    subst (λ x. IsNextIn b a was (scanned_as x)) (sym o.0)
-    (no_end (q.pass.list + 1 ≡ q.pass.lists) b a was c.pass_here.result (subst IsNoEnd o.0 o.1) (c.pass_here.ensures.gives was opened))
+returns-in-Some-clause-gives g c = λ was opened. let b = seat_state_of c.args.hand.now in let a = seat_state_of c.pass_here.new.hand in
+    let q = c.pass_here.new.hand.part in let o = c.in-Some.ensures.other in subst (λ x. IsNextIn b a was (scanned_as x)) (sym o.0) (no_end
+    (q.pass.list + 1 ≡ q.pass.lists) b a was c.pass_here.result (subst IsNoEnd o.0 o.1) (c.pass_here.ensures.gives was opened))
 
 -- where the walk has looked at as many nodes as it may, nothing changes
 pub returns-in-Some-clause-spent : goal.returns-in-Some-clause-spent
@@ -30,8 +27,7 @@ returns-in-Some-clause-spent g c = λ seen. let s = c.pass_here.ensures.spent se
 
 -- and it isn't at the end
 pub returns-in-None-clause-spent : goal.returns-in-None-clause-spent
-returns-in-None-clause-spent g c = λ seen.
-    let s = c.pass_here.ensures.spent seen in
+returns-in-None-clause-spent g c = λ seen. let s = c.pass_here.ensures.spent seen in
     absurd (let z : ◌≡◌ {A = Passed} ListEnd (TooLong (16 * c.args.hand.now.part.seats + 1)) = sym c.in-None.ensures.end ∙ s.1 in cc)
 
 -- the seat still holds nothing
@@ -50,10 +46,7 @@ returns-in-None-clause-turned g c = c.next_list.ensures.inside.list ∙ ap (λ n
 
 -- and its list was passed
 pub returns-in-None-clause-passed : goal.returns-in-None-clause-passed
-returns-in-None-clause-passed g c = λ was opened.
-    let p = c.args.hand.now in let e = c.pass_here.new.hand in let q = c.next_list.new.hand in
-    passes_list p.table e.table q.table p.part e.part q.part was c.pass_here.ensures.table c.next_list.ensures.table c.requires.inside opened
-    c.pass_here.ensures.later c.pass_here.ensures.list
-    (subst (λ x. ListGives (e.part.pass.list + 1 ≡ e.part.pass.lists) (seat_state_of p) (seat_state_of e) was x) c.in-None.ensures.end
-    (c.pass_here.ensures.gives was opened)).0
-    c.next_list.ensures.inside c.next_list.ensures.taken c.next_list.ensures.looked
+returns-in-None-clause-passed g c = λ was opened. let p = c.args.hand.now in let e = c.pass_here.new.hand in let q = c.next_list.new.hand in passes_list p.table
+    e.table q.table p.part e.part q.part was c.pass_here.ensures.table c.next_list.ensures.table c.requires.inside opened c.pass_here.ensures.later
+    c.pass_here.ensures.list (subst (λ x. ListGives (e.part.pass.list + 1 ≡ e.part.pass.lists) (seat_state_of p) (seat_state_of e) was x) c.in-None.ensures.end
+    (c.pass_here.ensures.gives was opened)).0 c.next_list.ensures.inside c.next_list.ensures.taken c.next_list.ensures.looked

@@ -5,13 +5,8 @@ use Rattle.range_rw.proofs.several.count_swept.Goals as goal
 
 -- list 0 is the one that a narrow range has to look at
 pub look_swept-requires-clause-due : goal.look_swept-requires-clause-due
-look_swept-requires-clause-due g c = inl (record {
-  low = c.requires.several.0;
-  there = c.requires.several.1;
-  first = refl;
-  takes = c.requires.takes;
-  free = c.requires.free;
-})
+look_swept-requires-clause-due g c =
+    inl (record { low = c.requires.several.0; there = c.requires.several.1; first = refl; takes = c.requires.takes; free = c.requires.free })
 
 -- it counts then
 pub returns-clause-counts : goal.returns-clause-counts

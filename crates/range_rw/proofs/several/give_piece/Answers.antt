@@ -23,44 +23,21 @@ unlink_or_mark-requires-clause-rest g c = may_give_beside g.G.Guard.is_at_rest c
     (subst (λ (x : SeatPart _). is_counted x.pass.lists x.pass.standing x.pass.list ≡ false) (sym c.turn.ensures.part) c.requires.beside)
 
 -- the release is a piece of work in that list
-pub returns-clause-piece : goal.returns-clause-piece
-returns-clause-piece g c = given_piece c.args.at c.args.hand.now.part c.turn.new.self.part c.unlink_or_mark.new.hand.part c.turn.ensures.part
-    c.turn.ensures.stays g.G.Guard.rested c.turn.ensures.rests
-    (subst (λ (x : SeatPart _). is_counted x.pass.lists x.pass.standing x.pass.list ≡ false) (sym c.turn.ensures.part) c.requires.beside)
-    c.unlink_or_mark.ensures.back
-
--- what counts through another list counts on
-pub returns-clause-standing : goal.returns-clause-standing
-returns-clause-standing g c = given_standing c.args.at c.args.hand.now.part c.turn.new.self.part c.unlink_or_mark.new.hand.part c.turn.ensures.part
-    c.turn.ensures.stays g.G.Guard.rested c.unlink_or_mark.ensures.back.pass
-
--- the hand has no node of its own there
-pub returns-clause-free : goal.returns-clause-free
-returns-clause-free g c = c.unlink_or_mark.ensures.back.own
-
--- the ready nodes stay
-pub returns-clause-ready : goal.returns-clause-ready
-returns-clause-ready g c =
-    let q = c.unlink_or_mark.new.hand.part in
-    let piece = given_piece c.args.at c.args.hand.now.part c.turn.new.self.part q c.turn.ensures.part c.turn.ensures.stays g.G.Guard.rested
-    c.turn.ensures.rests
-    (subst (λ (x : SeatPart _). is_counted x.pass.lists x.pass.standing x.pass.list ≡ false) (sym c.turn.ensures.part) c.requires.beside)
-    c.unlink_or_mark.ensures.back in
-    ap (λ (v : View). v.ready) (own_at q c.args.at piece.turned)
-    ∙ (c.unlink_or_mark.ensures.back.ready ∙ ap (λ (x : SeatPart _). x.core.ready) c.turn.ensures.part)
-
--- in one step or two
-pub returns-clause-bound : goal.returns-clause-bound
-returns-clause-bound g c =
-    let e = ap (λ (x : SeatPart _). x.trace.taken) c.turn.ensures.part in
-    let b = c.unlink_or_mark.ensures.back.most in omega arith
-
--- which are counted
-pub returns-clause-counted : goal.returns-clause-counted
-returns-clause-counted g c =
-    let e = ap (λ (x : SeatPart _). x.trace.taken) c.turn.ensures.part in
-    let n = c.unlink_or_mark.ensures.counted in omega arith
-
--- turn and release ask for nothing
-pub returns-clause-asked : goal.returns-clause-asked
-returns-clause-asked g c = c.unlink_or_mark.ensures.back.asked ∙ ap (λ (x : SeatPart _). x.trace.asked) c.turn.ensures.part
+pub returns : goal.returns
+returns g c =
+    let back = c.unlink_or_mark.ensures.back in let q = c.unlink_or_mark.new.hand.part in let is = c.turn.ensures.part in
+    let piece = given_piece c.args.at c.args.hand.now.part c.turn.new.self.part q is c.turn.ensures.stays g.G.Guard.rested c.turn.ensures.rests
+    (subst (λ (x : SeatPart _). is_counted x.pass.lists x.pass.standing x.pass.list ≡ false) (sym is) c.requires.beside) back in record {
+      table = c.unlink_or_mark.ensures.table ∙ c.turn.ensures.table;
+      piece = piece;
+      -- turn and release ask for nothing
+      asked = back.asked ∙ ap (λ (x : SeatPart _). x.trace.asked) is;
+      -- what counts through another list counts on
+      standing = given_standing c.args.at c.args.hand.now.part c.turn.new.self.part q is c.turn.ensures.stays g.G.Guard.rested back.pass;
+      -- the hand has no node of its own there, and the ready nodes stay
+      free = back.own;
+      ready = ap (λ (v : View). v.ready) (own_at q c.args.at piece.turned) ∙ (back.ready ∙ ap (λ (x : SeatPart _). x.core.ready) is);
+      -- in one step or two, which are counted
+      bound = let e = ap (λ (x : SeatPart _). x.trace.taken) is in let b = back.most in omega arith;
+      counted = let e = ap (λ (x : SeatPart _). x.trace.taken) is in let n = c.unlink_or_mark.ensures.counted in omega arith;
+    }

@@ -35,8 +35,7 @@ on : (g : Over) (c : After-count_swept g) → IsLaterInLists c.args.hand.now.par
 on g c = lists_on (behind g c).later c.count_swept.ensures.later
 
 -- each list's ready nodes are as before or without the first
-ready : (g : Over) (c : After-count_swept g) (j : ℕ)
-    → IsReadyLeft (shown_core c.args.hand.now.part j).ready (shown_core c.count_swept.new.hand.part j).ready
+ready : (g : Over) (c : After-count_swept g) (j : ℕ) → IsReadyLeft (shown_core c.args.hand.now.part j).ready (shown_core c.count_swept.new.hand.part j).ready
 ready g c = ready_both c.args.at 0 c.args.hand.now.part c.count_narrow.new.hand.part c.count_swept.new.hand.part
     (λ e. let a = c.requires.several.0 in omega arith) (behind g c).ready (behind g c).only c.count_swept.ensures.ready c.count_swept.ensures.only
 
@@ -70,21 +69,94 @@ returns-in-Err-clause-cause g c = (c.args.at, c.requires.several.1, inr c.requir
 pub returns-in-Err-clause-only : goal.returns-in-Err-clause-only
 returns-in-Err-clause-only g c = λ j none. c.link_piece.ensures.piece.only j (away g (goal.at.returns-in-Err-clause-only g c).Start j none)
 
--- after a look that found list 0 empty
-pub returns-then-count_narrow-clause-only : goal.returns-then-count_narrow-clause-only
-returns-then-count_narrow-clause-only g c = λ j none.
-    let h = goal.at.returns-then-count_narrow-clause-only g c in (way g h.After-count_narrow).only j (away g h.Start j none)
+-- after a look that found list 0 empty the range is held in its list
+pub returns-then-count_narrow : goal.returns-then-count_narrow
+returns-then-count_narrow g c =
+    let h = goal.at.returns-then-count_narrow g c in let w = way g h.After-count_narrow in record {
+      table = c.count_narrow.ensures.table ∙ c.link_piece.ensures.table;
+      -- the look leaves the seat the same, and the link asks for the range
+      later = w.later;
+      asks = w.asks;
+      held = w.alone;
+      -- which counts, since the look found list 0 empty
+      counts = ap (λ (x : SeatPart _). x.pass.standing) c.count_narrow.ensures.part ∙ (ap (λ (b : Bool). standing_by b
+          (Narrow c.link_piece.new.hand.part.pass.list) c.link_piece.new.hand.part) c.if-count_narrow.true ∙ ap Narrow c.link_piece.ensures.piece.turned);
+      free = tt;
+      -- the ready nodes are those that the link left, and no other list has changed
+      ready = ready_each c.args.at c.args.hand.now.part c.count_narrow.new.hand.part w.ready w.only;
+      only = λ j none. w.only j (away g h.Start j none);
+      cause = tt;
+      long = tt;
+      seats = c.link_piece.ensures.seats;
+      -- the steps of the link and the look, which are counted
+      bound = let a = c.link_piece.ensures.bound in let t = ap (λ (x : SeatPart _). x.trace.taken) c.count_narrow.ensures.part in omega arith;
+      counted = let a = c.link_piece.ensures.counted in let t = ap (λ (x : SeatPart _). x.trace.taken) c.count_narrow.ensures.part in
+          let n = c.count_narrow.ensures.counted in omega arith;
+    }
 
--- and where it didn't, list 0 besides
-pub returns-in-Ok-count_swept-clause-only : goal.returns-in-Ok-count_swept-clause-only
-returns-in-Ok-count_swept-clause-only g c = λ j none.
-    let h = goal.at.returns-in-Ok-count_swept-clause-only g c in
-    c.count_swept.ensures.only j (λ e. none (inl e)) ∙ (way g h.After-count_narrow).only j (away g h.Start j none)
+-- where it didn't, and the range counts behind the work in list 0
+pub returns-in-Ok-count_swept : goal.returns-in-Ok-count_swept
+returns-in-Ok-count_swept g c =
+    let h = goal.at.returns-in-Ok-count_swept g c in let w = way g h.After-count_narrow in record {
+      table = c.count_swept.ensures.table ∙ (c.count_narrow.ensures.table ∙ c.link_piece.ensures.table);
+      later = on g h.After-count_swept;
+      -- what is linked in list 0 too is the same range
+      asks = asks_on w.asks c.count_swept.ensures.asks;
+      held = c.in-Ok-count_swept.ensures.held;
+      counts = c.in-Ok-count_swept.ensures.counts;
+      free = tt;
+      -- each list's ready nodes are as before or without the first, and no other list has changed
+      ready = ready g h.After-count_swept;
+      only = λ j none. c.count_swept.ensures.only j (λ e. none (inl e)) ∙ w.only j (away g h.Start j none);
+      cause = tt;
+      long = tt;
+      seats = c.link_piece.ensures.seats;
+      -- the steps of the link and the looks, which are counted
+      bound =
+          let f = ap (λ (x : SeatPart _). x.trace.taken) c.count_narrow.ensures.part in let fs = ap (λ (x : SeatPart _). x.seats) c.count_narrow.ensures.part in
+          let a = c.link_piece.ensures.bound in let s = c.link_piece.ensures.piece.later.seats in let b = c.count_swept.ensures.bound in omega arith;
+      counted = let f = ap (λ (x : SeatPart _). x.trace.taken) c.count_narrow.ensures.part in let fn = c.count_narrow.ensures.counted in
+          let a = c.link_piece.ensures.counted in let b = c.count_swept.ensures.counted in omega arith;
+    }
 
-pub returns-in-Err-count_swept-clause-only : goal.returns-in-Err-count_swept-clause-only
-returns-in-Err-count_swept-clause-only g c = λ j none.
-    let h = goal.at.returns-in-Err-count_swept-clause-only g c in let other = away g h.Start j none in
-    c.give_up.ensures.piece.only j other ∙ (c.count_swept.ensures.only j (λ e. none (inl e)) ∙ (way g h.After-count_narrow).only j other)
+-- after a refusal there the range is given up
+pub returns-in-Err-count_swept : goal.returns-in-Err-count_swept
+returns-in-Err-count_swept g c =
+    let h = goal.at.returns-in-Err-count_swept g c in let w = way g h.After-count_narrow in record {
+      table = c.give_up.ensures.table ∙ (c.count_swept.ensures.table ∙ (c.count_narrow.ensures.table ∙ c.link_piece.ensures.table));
+      -- the seat is the same, giving up asks for nothing, and it holds nothing
+      later = lists_on (on g h.After-count_swept) c.give_up.ensures.piece.later;
+      asks = asks_kept (asks_on w.asks c.count_swept.ensures.asks) c.give_up.ensures.asked;
+      held = tt;
+      counts = tt;
+      free = piece_free c.give_up.ensures.piece c.give_up.ensures.free (c.give_up.ensures.standing ∙ ap (λ s. standing_back s c.args.at)
+          c.in-Err-count_swept.ensures.holds.1) c.in-Err-count_swept.ensures.holds.0.others;
+      -- each list's ready nodes are as before or without the first, and no other list has changed
+      ready = ready_kept c.args.at c.args.hand.now.part c.count_swept.new.hand.part c.give_up.new.hand.part (ready g h.After-count_swept)
+          c.give_up.ensures.ready c.give_up.ensures.piece.only;
+      only = λ j none. let other = away g h.Start j none in
+          c.give_up.ensures.piece.only j other ∙ (c.count_swept.ensures.only j (λ e. none (inl e)) ∙ w.only j other);
+      -- what refused it in list 0 refuses the call, and is still in the record
+      cause = (
+        0,
+        (let a = c.requires.several.0 in let b = c.requires.several.1 in omega arith),
+        inl refl,
+        linked_cause (c.count_narrow.ensures.table ∙ c.link_piece.ensures.table) c.count_swept.ensures.table w 0
+            (λ e. let a = c.requires.several.0 in omega arith) c.count_swept.new.hand.part c.give_up.new.hand.part c.give_up.ensures.causes
+            c.in-Err-count_swept.why c.in-Err-count_swept.ensures.cause,
+      );
+      -- Long comes exactly where the last walk is spent
+      long = spent_kept c.count_swept.new.hand.part c.give_up.new.hand.part c.give_up.ensures.look c.give_up.ensures.piece.later.seats
+          c.give_up.ensures.free c.in-Err-count_swept.ensures.long;
+      seats = c.link_piece.ensures.seats;
+      -- the steps of the link, the looks and the mark, which are counted
+      bound = let f = ap (λ (x : SeatPart _). x.trace.taken) c.count_narrow.ensures.part in
+          let fs = ap (λ (x : SeatPart _). x.seats) c.count_narrow.ensures.part in let a = c.link_piece.ensures.bound in
+          let s = c.link_piece.ensures.piece.later.seats in let b = c.count_swept.ensures.bound in let m = c.give_up.ensures.taken in omega arith;
+      counted = let f = ap (λ (x : SeatPart _). x.trace.taken) c.count_narrow.ensures.part in let fn = c.count_narrow.ensures.counted in
+          let a = c.link_piece.ensures.counted in let b = c.count_swept.ensures.counted in let m = c.give_up.ensures.taken in
+          let n = c.give_up.ensures.counted in omega arith;
+    }
 
 -- a narrow range of which nothing counts yet may be counted
 pub count_narrow-requires-clause-may : goal.count_narrow-requires-clause-may
@@ -92,152 +164,28 @@ count_narrow-requires-clause-may g c = may_count c.args.list.now.cut c.args.at (
     (let a = c.requires.several.0 in let b = c.requires.several.1 in let e = c.link_piece.ensures.piece.later.lists in omega arith)
     (c.link_piece.ensures.standing ∙ c.requires.free.standing) (piece_alone c.requires.free c.link_piece.ensures.piece c.in-Ok.ensures.held) c.requires.takes
 
--- the look leaves the seat the same
-pub returns-then-count_narrow-clause-later : goal.returns-then-count_narrow-clause-later
-returns-then-count_narrow-clause-later g c = (way g (goal.at.returns-then-count_narrow-clause-later g c).After-count_narrow).later
+-- the range is held in its list still, and nothing counts
+pub count_swept-requires : goal.count_swept-requires
+count_swept-requires g c =
+    let w = way g (goal.at.count_swept-requires g c).After-count_narrow in record {
+      table = c.count_narrow.ensures.table ∙ (c.link_piece.ensures.table ∙ c.requires.table);
+      several = (c.requires.several.0, (let a = c.requires.several.1 in let e = w.later.lists in omega arith));
+      takes = c.requires.takes;
+      holds = holds_in w.alone;
+      free = ap (λ (x : SeatPart _). x.pass.standing) c.count_narrow.ensures.part ∙ (ap (λ (b : Bool). standing_by b (Narrow
+          c.link_piece.new.hand.part.pass.list) c.link_piece.new.hand.part) c.if-count_narrow.false
+          ∙ (c.link_piece.ensures.standing ∙ c.requires.free.standing));
+    }
 
--- and what it holds
-pub returns-then-count_narrow-clause-held : goal.returns-then-count_narrow-clause-held
-returns-then-count_narrow-clause-held g c = (way g (goal.at.returns-then-count_narrow-clause-held g c).After-count_narrow).alone
-
--- which counts, since it found list 0 empty
-pub returns-then-count_narrow-clause-counts : goal.returns-then-count_narrow-clause-counts
-returns-then-count_narrow-clause-counts g c = ap (λ (x : SeatPart _). x.pass.standing) c.count_narrow.ensures.part
-    ∙ (ap (λ (b : Bool). standing_by b (Narrow c.link_piece.new.hand.part.pass.list) c.link_piece.new.hand.part) c.if-count_narrow.true ∙ ap Narrow
-    c.link_piece.ensures.piece.turned)
-
--- the ready nodes are those that the link left
-pub returns-then-count_narrow-clause-ready : goal.returns-then-count_narrow-clause-ready
-returns-then-count_narrow-clause-ready g c =
-    let w = way g (goal.at.returns-then-count_narrow-clause-ready g c).After-count_narrow in
-    ready_each c.args.at c.args.hand.now.part c.count_narrow.new.hand.part w.ready w.only
-
--- the steps of the link and the look
-pub returns-then-count_narrow-clause-bound : goal.returns-then-count_narrow-clause-bound
-returns-then-count_narrow-clause-bound g c =
-    let a = c.link_piece.ensures.bound in let t = ap (λ (x : SeatPart _). x.trace.taken) c.count_narrow.ensures.part in omega arith
-
--- which are counted
-pub returns-then-count_narrow-clause-counted : goal.returns-then-count_narrow-clause-counted
-returns-then-count_narrow-clause-counted g c =
-    let a = c.link_piece.ensures.counted in let t = ap (λ (x : SeatPart _). x.trace.taken) c.count_narrow.ensures.part in
-    let n = c.count_narrow.ensures.counted in omega arith
-
--- there are these lists still
-pub count_swept-requires-clause-several : goal.count_swept-requires-clause-several
-count_swept-requires-clause-several g c = (
-  c.requires.several.0,
-  (let a = c.requires.several.1 in let e = (way g (goal.at.count_swept-requires-clause-several g c).After-count_narrow).later.lists in omega arith),
-)
-
--- the range is held
-pub count_swept-requires-clause-holds : goal.count_swept-requires-clause-holds
-count_swept-requires-clause-holds g c = holds_in (way g (goal.at.count_swept-requires-clause-holds g c).After-count_narrow).alone
-
--- and nothing counts
-pub count_swept-requires-clause-free : goal.count_swept-requires-clause-free
-count_swept-requires-clause-free g c = (ap (λ (x : SeatPart _). x.pass.standing) c.count_narrow.ensures.part ∙ (ap (λ (b : Bool). standing_by b (Narrow
-    c.link_piece.new.hand.part.pass.list) c.link_piece.new.hand.part) c.if-count_narrow.false
-    ∙ (c.link_piece.ensures.standing ∙ c.requires.free.standing)))
-
--- the seat is the same
-pub returns-in-Ok-count_swept-clause-later : goal.returns-in-Ok-count_swept-clause-later
-returns-in-Ok-count_swept-clause-later g c = on g (goal.at.returns-in-Ok-count_swept-clause-later g c).After-count_swept
-
--- each list's ready nodes are as before or without the first
-pub returns-in-Ok-count_swept-clause-ready : goal.returns-in-Ok-count_swept-clause-ready
-returns-in-Ok-count_swept-clause-ready g c = ready g (goal.at.returns-in-Ok-count_swept-clause-ready g c).After-count_swept
-
--- the steps of the link and the looks
-pub returns-in-Ok-count_swept-clause-bound : goal.returns-in-Ok-count_swept-clause-bound
-returns-in-Ok-count_swept-clause-bound g c =
-    let f = ap (λ (x : SeatPart _). x.trace.taken) c.count_narrow.ensures.part in let fs = ap (λ (x : SeatPart _). x.seats) c.count_narrow.ensures.part in
-    let a = c.link_piece.ensures.bound in let s = c.link_piece.ensures.piece.later.seats in let b = c.count_swept.ensures.bound in omega arith
-
--- which are counted
-pub returns-in-Ok-count_swept-clause-counted : goal.returns-in-Ok-count_swept-clause-counted
-returns-in-Ok-count_swept-clause-counted g c =
-    let f = ap (λ (x : SeatPart _). x.trace.taken) c.count_narrow.ensures.part in
-    let fn = c.count_narrow.ensures.counted in let a = c.link_piece.ensures.counted in let b = c.count_swept.ensures.counted in omega arith
-
--- there is the list that holds the range
-pub give_up-requires-clause-there : goal.give_up-requires-clause-there
-give_up-requires-clause-there g c =
-    let e = (on g (goal.at.give_up-requires-clause-there g c).After-count_swept).lists in let a = c.requires.several.1 in omega arith
-
--- the hand rests
-pub give_up-requires-clause-resting : goal.give_up-requires-clause-resting
-give_up-requires-clause-resting g c = c.in-Err-count_swept.ensures.holds.0.rests
-
--- the range is held
-pub give_up-requires-clause-holds : goal.give_up-requires-clause-holds
-give_up-requires-clause-holds g c = some_held c.in-Err-count_swept.ensures.holds.0.held
-
--- and doesn't count
-pub give_up-requires-clause-beside : goal.give_up-requires-clause-beside
-give_up-requires-clause-beside g c =
-    ap (λ s. is_counted c.count_swept.new.hand.part.pass.lists s c.args.at) c.in-Err-count_swept.ensures.holds.1
-    ∙ free_beside c.count_swept.new.hand.part.pass.lists c.args.at (λ one.
-    let e = (on g (goal.at.give_up-requires-clause-beside g c).After-count_swept).lists in
-    let a = c.requires.several.0 in let b = c.requires.several.1 in omega arith)
-
--- the seat is the same after it has given up
-pub returns-in-Err-count_swept-clause-later : goal.returns-in-Err-count_swept-clause-later
-returns-in-Err-count_swept-clause-later g c = lists_on
-    (on g (goal.at.returns-in-Err-count_swept-clause-later g c).After-count_swept) c.give_up.ensures.piece.later
-
--- and holds nothing
-pub returns-in-Err-count_swept-clause-free : goal.returns-in-Err-count_swept-clause-free
-returns-in-Err-count_swept-clause-free g c = piece_free c.give_up.ensures.piece
-    c.give_up.ensures.free
-    (c.give_up.ensures.standing ∙ ap (λ s. standing_back s c.args.at) c.in-Err-count_swept.ensures.holds.1) c.in-Err-count_swept.ensures.holds.0.others
-
--- each list's ready nodes are as before or without the first
-pub returns-in-Err-count_swept-clause-ready : goal.returns-in-Err-count_swept-clause-ready
-returns-in-Err-count_swept-clause-ready g c = ready_kept c.args.at c.args.hand.now.part c.count_swept.new.hand.part c.give_up.new.hand.part
-    (ready g (goal.at.returns-in-Err-count_swept-clause-ready g c).After-count_swept) c.give_up.ensures.ready c.give_up.ensures.piece.only
-
--- Long comes exactly where the last walk is spent
-pub returns-in-Err-count_swept-clause-long : goal.returns-in-Err-count_swept-clause-long
-returns-in-Err-count_swept-clause-long g c = spent_kept c.count_swept.new.hand.part c.give_up.new.hand.part c.give_up.ensures.look
-    c.give_up.ensures.piece.later.seats c.give_up.ensures.free c.in-Err-count_swept.ensures.long
-
--- the steps of the link, the looks and the mark
-pub returns-in-Err-count_swept-clause-bound : goal.returns-in-Err-count_swept-clause-bound
-returns-in-Err-count_swept-clause-bound g c =
-    let f = ap (λ (x : SeatPart _). x.trace.taken) c.count_narrow.ensures.part in let fs = ap (λ (x : SeatPart _). x.seats) c.count_narrow.ensures.part in
-    let a = c.link_piece.ensures.bound in let s = c.link_piece.ensures.piece.later.seats in
-    let b = c.count_swept.ensures.bound in let m = c.give_up.ensures.taken in omega arith
-
--- which are counted
-pub returns-in-Err-count_swept-clause-counted : goal.returns-in-Err-count_swept-clause-counted
-returns-in-Err-count_swept-clause-counted g c =
-    let f = ap (λ (x : SeatPart _). x.trace.taken) c.count_narrow.ensures.part in
-    let fn = c.count_narrow.ensures.counted in let a = c.link_piece.ensures.counted in let b = c.count_swept.ensures.counted in
-    let m = c.give_up.ensures.taken in let n = c.give_up.ensures.counted in omega arith
-
--- what refused it in list 0 refuses the call, and is still in the record
-pub returns-in-Err-count_swept-clause-cause : goal.returns-in-Err-count_swept-clause-cause
-returns-in-Err-count_swept-clause-cause g c = (
-  0,
-  (let a = c.requires.several.0 in let b = c.requires.several.1 in omega arith),
-  inl refl,
-  linked_cause (c.count_narrow.ensures.table ∙ c.link_piece.ensures.table) c.count_swept.ensures.table
-      (way g (goal.at.returns-in-Err-count_swept-clause-cause g c).After-count_narrow) 0 (λ e. let a = c.requires.several.0 in omega arith)
-      c.count_swept.new.hand.part c.give_up.new.hand.part c.give_up.ensures.causes c.in-Err-count_swept.why c.in-Err-count_swept.ensures.cause,
-)
-
--- the link asks for the range, and the look for nothing
-pub returns-then-count_narrow-clause-asks : goal.returns-then-count_narrow-clause-asks
-returns-then-count_narrow-clause-asks g c = (way g (goal.at.returns-then-count_narrow-clause-asks g c).After-count_narrow).asks
-
--- what is linked in list 0 too is the same range
-pub returns-in-Ok-count_swept-clause-asks : goal.returns-in-Ok-count_swept-clause-asks
-returns-in-Ok-count_swept-clause-asks g c =
-    asks_on (way g (goal.at.returns-in-Ok-count_swept-clause-asks g c).After-count_narrow).asks c.count_swept.ensures.asks
-
--- giving up asks for nothing
-pub returns-in-Err-count_swept-clause-asks : goal.returns-in-Err-count_swept-clause-asks
-returns-in-Err-count_swept-clause-asks g c =
-    asks_kept (asks_on (way g (goal.at.returns-in-Err-count_swept-clause-asks g c).After-count_narrow).asks c.count_swept.ensures.asks)
-    c.give_up.ensures.asked
+-- the range is held in its list, and doesn't count
+pub give_up-requires : goal.give_up-requires
+give_up-requires g c =
+    let l = on g (goal.at.give_up-requires g c).After-count_swept in record {
+      table = c.count_swept.ensures.table ∙ (c.count_narrow.ensures.table ∙ (c.link_piece.ensures.table ∙ c.requires.table));
+      there = let e = l.lists in let a = c.requires.several.1 in omega arith;
+      resting = c.in-Err-count_swept.ensures.holds.0.rests;
+      holds = some_held c.in-Err-count_swept.ensures.holds.0.held;
+      beside = ap (λ s. is_counted c.count_swept.new.hand.part.pass.lists s c.args.at) c.in-Err-count_swept.ensures.holds.1
+          ∙ free_beside c.count_swept.new.hand.part.pass.lists c.args.at
+          (λ one. let e = l.lists in let a = c.requires.several.0 in let b = c.requires.several.1 in omega arith);
+    }

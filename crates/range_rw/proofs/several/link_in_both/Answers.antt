@@ -39,22 +39,18 @@ after g c = record {
   rests = c.turn-in-Ok.ensures.rests;
 }
 
--- there is that list
-pub link_piece-requires-clause-there : goal.link_piece-requires-clause-there
-link_piece-requires-clause-there g c = due_there c.requires.due
-
--- the hand rests
-pub link_piece-requires-clause-resting : goal.link_piece-requires-clause-resting
-link_piece-requires-clause-resting g c = c.requires.holds.rests
-
--- and has no node of its own in that list
-pub link_piece-requires-clause-free : goal.link_piece-requires-clause-free
-link_piece-requires-clause-free g c = c.requires.holds.others c.args.at (due_differ c.requires.due)
+-- there is that list, in which the hand rests and has no node of its own
+pub link_piece-requires : goal.link_piece-requires
+link_piece-requires g c = record {
+  table = c.requires.table;
+  there = due_there c.requires.due;
+  resting = c.requires.holds.rests;
+  free = c.requires.holds.others c.args.at (due_differ c.requires.due);
+}
 
 -- the hand turns back to the list that holds the range
 pub turn-requires-clause-there : goal.turn-requires-clause-there
-turn-requires-clause-there g c =
-    let e = c.link_piece.ensures.piece.later.lists in let a = due_own c.requires.due in omega arith
+turn-requires-clause-there g c = let e = c.link_piece.ensures.piece.later.lists in let a = due_own c.requires.due in omega arith
 
 -- from one in which it rests
 pub turn-requires-clause-resting : goal.turn-requires-clause-resting
@@ -62,10 +58,9 @@ turn-requires-clause-resting g c = c.link_piece.ensures.piece.rests
 
 -- the range may be looked for in that list still
 pub look_held-requires-clause-may : goal.look_held-requires-clause-may
-look_held-requires-clause-may g c =
-    let way = over g (goal.at.look_held-requires-clause-may g c).After-turn in
-    may_look (record { range = c.args.range; mode = c.args.mode }) (due_on c.requires.due c.turn.new.self.part (both_lists way) (both_standing way))
-    (both_list way) (both_held way)
+look_held-requires-clause-may g c = let way = over g (goal.at.look_held-requires-clause-may g c).After-turn in may_look
+    (record { range = c.args.range; mode = c.args.mode }) (due_on c.requires.due c.turn.new.self.part (both_lists way) (both_standing way)) (both_list way)
+    (both_held way)
 
 -- and it is held there too
 pub look_held-requires-clause-too : goal.look_held-requires-clause-too
@@ -73,9 +68,8 @@ look_held-requires-clause-too g c = both_too (over g (goal.at.look_held-requires
 
 -- there is the list in which the node is given back
 pub give_piece-requires-clause-there : goal.give_piece-requires-clause-there
-give_piece-requires-clause-there g c =
-    let e = ap (λ (x : SeatPart _). x.pass.lists) c.look_held.ensures.part ∙ both_lists (over g (goal.at.give_piece-requires-clause-there g c).After-turn) in
-    let a = due_there c.requires.due in omega arith
+give_piece-requires-clause-there g c = let e = ap (λ (x : SeatPart _). x.pass.lists) c.look_held.ensures.part ∙ both_lists (over g
+    (goal.at.give_piece-requires-clause-there g c).After-turn) in let a = due_there c.requires.due in omega arith
 
 -- the hand rests where it is turned
 pub give_piece-requires-clause-resting : goal.give_piece-requires-clause-resting
@@ -83,74 +77,54 @@ give_piece-requires-clause-resting g c = subst (λ (x : SeatPart _). IsResting x
 
 -- the other list holds the range
 pub give_piece-requires-clause-holds : goal.give_piece-requires-clause-holds
-give_piece-requires-clause-holds g c = some_held
-    (ap (λ (v : View). held_at v.own) (look_shows c.turn.new.self.part c.look_held.ensures.part c.args.at)
-    ∙ both_other (over g (goal.at.give_piece-requires-clause-holds g c).After-turn))
+give_piece-requires-clause-holds g c = some_held (ap (λ (v : View). held_at v.own) (look_shows c.turn.new.self.part c.look_held.ensures.part c.args.at) ∙
+    both_other (over g (goal.at.give_piece-requires-clause-holds g c).After-turn))
 
 -- and it doesn't count through that list
 pub give_piece-requires-clause-beside : goal.give_piece-requires-clause-beside
-give_piece-requires-clause-beside g c =
-    (λ i. is_counted ((ap (λ (x : SeatPart _). x.pass.lists) c.look_held.ensures.part
-    ∙ both_lists (over g (goal.at.give_piece-requires-clause-beside g c).After-turn)) i)
-    ((ap (λ (x : SeatPart _). x.pass.standing) c.look_held.ensures.part) i) c.args.at) ∙ due_beside c.requires.due
+give_piece-requires-clause-beside g c = (λ i. is_counted ((ap (λ (x : SeatPart _). x.pass.lists) c.look_held.ensures.part ∙ both_lists (over g
+    (goal.at.give_piece-requires-clause-beside g c).After-turn)) i) ((ap (λ (x : SeatPart _). x.pass.standing) c.look_held.ensures.part) i) c.args.at) ∙
+    due_beside c.requires.due
 
 -- the hand turns back
 pub turn-requires-in-Ok-clause-there : goal.turn-requires-in-Ok-clause-there
-turn-requires-in-Ok-clause-there g c =
-    let e = c.give_piece.ensures.piece.later.lists ∙ (ap (λ (x : SeatPart _). x.pass.lists) c.look_held.ensures.part
-    ∙ both_lists (over g (goal.at.turn-requires-in-Ok-clause-there g c).After-turn)) in
-    let a = due_own c.requires.due in omega arith
+turn-requires-in-Ok-clause-there g c = let e = c.give_piece.ensures.piece.later.lists ∙ (ap (λ (x : SeatPart _). x.pass.lists) c.look_held.ensures.part ∙
+    both_lists (over g (goal.at.turn-requires-in-Ok-clause-there g c).After-turn)) in let a = due_own c.requires.due in omega arith
 
 -- from one in which it rests
 pub turn-requires-in-Ok-clause-resting : goal.turn-requires-in-Ok-clause-resting
 turn-requires-in-Ok-clause-resting g c = c.give_piece.ensures.piece.rests
 
--- the seat is the same
-pub returns-in-Ok-clause-later : goal.returns-in-Ok-clause-later
-returns-in-Ok-clause-later g c = both_later (over g (goal.at.returns-in-Ok-clause-later g c).After-turn) (after g c)
-
--- it holds the range where it held it, alone
-pub returns-in-Ok-clause-held : goal.returns-in-Ok-clause-held
-returns-in-Ok-clause-held g c = both_alone (over g (goal.at.returns-in-Ok-clause-held g c).After-turn) (after g c)
-
--- and it counts
-pub returns-in-Ok-clause-counts : goal.returns-in-Ok-clause-counts
-returns-in-Ok-clause-counts g c = both_counts (over g (goal.at.returns-in-Ok-clause-counts g c).After-turn) (after g c)
-
--- the ready nodes of the other list are those that the link left
-pub returns-in-Ok-clause-ready : goal.returns-in-Ok-clause-ready
-returns-in-Ok-clause-ready g c = both_ready (over g (goal.at.returns-in-Ok-clause-ready g c).After-turn) (after g c)
-    c.give_piece.ensures.ready c.link_piece.ensures.ready
-
--- each other list is as it was
-pub returns-in-Ok-clause-only : goal.returns-in-Ok-clause-only
-returns-in-Ok-clause-only g c = both_only (over g (goal.at.returns-in-Ok-clause-only g c).After-turn) (after g c)
-
--- the steps of the link, the look and the release
-pub returns-in-Ok-clause-bound : goal.returns-in-Ok-clause-bound
-returns-in-Ok-clause-bound g c =
-    let a = c.link_piece.ensures.bound in
-    let t = ap (λ (x : SeatPart _). x.trace.taken) c.turn.ensures.part in
-    let l = ap (λ (x : SeatPart _). x.trace.taken) c.look_held.ensures.part in
-    let b = c.give_piece.ensures.bound in
-    let u = ap (λ (x : SeatPart _). x.trace.taken) c.turn-in-Ok.ensures.part in omega arith
-
--- which are counted
-pub returns-in-Ok-clause-counted : goal.returns-in-Ok-clause-counted
-returns-in-Ok-clause-counted g c =
-    let a = c.link_piece.ensures.counted in
-    let t = ap (λ (x : SeatPart _). x.trace.taken) c.turn.ensures.part in
-    let l = ap (λ (x : SeatPart _). x.trace.taken) c.look_held.ensures.part in
-    let n = c.look_held.ensures.counted in
-    let b = c.give_piece.ensures.counted in
-    let u = ap (λ (x : SeatPart _). x.trace.taken) c.turn-in-Ok.ensures.part in omega arith
+-- the range counts
+pub returns-in-Ok : goal.returns-in-Ok
+returns-in-Ok g c =
+    let way = over g (goal.at.returns-in-Ok g c).After-turn in let back = after g c in record {
+      table = c.turn-in-Ok.ensures.table ∙ (c.give_piece.ensures.table ∙ (c.look_held.ensures.table ∙ (c.turn.ensures.table ∙ c.link_piece.ensures.table)));
+      later = both_later way back;
+      -- the link asks for the range, and nothing behind it does
+      asks = both_asks way back c.link_piece.ensures.asks c.give_piece.ensures.asked;
+      -- it is held where it was held, alone, and it counts
+      held = both_alone way back;
+      counts = both_counts way back;
+      holds = tt;
+      -- the ready nodes of the other list are those that the link left, and each other list is as it was
+      ready = both_ready way back c.give_piece.ensures.ready c.link_piece.ensures.ready;
+      only = both_only way back;
+      cause = tt;
+      long = tt;
+      -- the steps of the link, the look and the release, which are counted
+      bound = let a = c.link_piece.ensures.bound in let t = ap (λ (x : SeatPart _). x.trace.taken) c.turn.ensures.part in
+          let l = ap (λ (x : SeatPart _). x.trace.taken) c.look_held.ensures.part in let b = c.give_piece.ensures.bound in
+          let u = ap (λ (x : SeatPart _). x.trace.taken) c.turn-in-Ok.ensures.part in omega arith;
+      counted = let a = c.link_piece.ensures.counted in let t = ap (λ (x : SeatPart _). x.trace.taken) c.turn.ensures.part in
+          let l = ap (λ (x : SeatPart _). x.trace.taken) c.look_held.ensures.part in let n = c.look_held.ensures.counted in
+          let b = c.give_piece.ensures.counted in let u = ap (λ (x : SeatPart _). x.trace.taken) c.turn-in-Ok.ensures.part in omega arith;
+    }
 
 -- after a refusal the range is still held, and nothing more stands for it
 pub returns-in-Err-clause-holds : goal.returns-in-Err-clause-holds
-returns-in-Err-clause-holds g c = (
-  holds_on (λ e. due_differ c.requires.due (sym e)) c.requires.holds c.link_piece.ensures.piece c.in-Err.ensures.free,
-  c.link_piece.ensures.standing,
-)
+returns-in-Err-clause-holds g c =
+    (holds_on (λ e. due_differ c.requires.due (sym e)) c.requires.holds c.link_piece.ensures.piece c.in-Err.ensures.free, c.link_piece.ensures.standing)
 
 -- the seat is the same
 pub returns-in-Err-clause-later : goal.returns-in-Err-clause-later
@@ -162,10 +136,4 @@ returns-in-Err-clause-only g c = c.link_piece.ensures.piece.only
 
 -- Long comes exactly where the last walk is spent
 pub returns-in-Err-clause-long : goal.returns-in-Err-clause-long
-returns-in-Err-clause-long g c =
-    (λ l. (c.in-Err.ensures.long.0 l).0, λ spent. c.in-Err.ensures.long.1 (spent, ap held_at c.in-Err.ensures.free))
-
--- the link asks for the range, and nothing behind it does
-pub returns-in-Ok-clause-asks : goal.returns-in-Ok-clause-asks
-returns-in-Ok-clause-asks g c =
-    both_asks (over g (goal.at.returns-in-Ok-clause-asks g c).After-turn) (after g c) c.link_piece.ensures.asks c.give_piece.ensures.asked
+returns-in-Err-clause-long g c = (λ l. (c.in-Err.ensures.long.0 l).0, λ spent. c.in-Err.ensures.long.1 (spent, ap held_at c.in-Err.ensures.free))

@@ -8,12 +8,10 @@ use Rattle.range_rw.proofs.several.look.Goals as goal
 
 -- a wide range has passed all below `up`
 pub returns-then-own-eq0-clause-part : goal.returns-then-own-eq0-clause-part
-returns-then-own-eq0-clause-part g c = c.pass_list.ensures.part
-    ∙ ap (λ (s : Standing). after_look c.args.hand.now.part (standing_by c.pass_list.result s c.args.hand.now.part))
-    (sym (standing_wide c.args.own c.args.up c.if-own-eq0.true))
+returns-then-own-eq0-clause-part g c = c.pass_list.ensures.part ∙ ap (λ (s : Standing). after_look c.args.hand.now.part (standing_by c.pass_list.result s
+    c.args.hand.now.part)) (sym (standing_wide c.args.own c.args.up c.if-own-eq0.true))
 
 -- a narrow one, which the hand's list holds, counts
 pub returns-else-own-eq0-clause-part : goal.returns-else-own-eq0-clause-part
-returns-else-own-eq0-clause-part g c = c.count_narrow.ensures.part
-    ∙ ap (λ (s : Standing). after_look c.args.hand.now.part (standing_by c.count_narrow.result s c.args.hand.now.part))
-    (ap Narrow c.requires.may.turned ∙ sym (standing_narrow c.args.own c.args.up c.if-own-eq0.false))
+returns-else-own-eq0-clause-part g c = c.count_narrow.ensures.part ∙ ap (λ (s : Standing). after_look c.args.hand.now.part (standing_by c.count_narrow.result s
+    c.args.hand.now.part)) (ap Narrow c.requires.may.turned ∙ sym (standing_narrow c.args.own c.args.up c.if-own-eq0.false))

@@ -13,9 +13,8 @@ returns-then-own-eq0-clause-part g c = c.pass_held.ensures.part
 
 -- a narrow one, which the hand's list holds, counts
 pub returns-else-own-eq0-clause-part : goal.returns-else-own-eq0-clause-part
-returns-else-own-eq0-clause-part g c = c.count_held.ensures.part
-    ∙ ap (λ (s : Standing). after_look c.args.hand.now.part s)
-    (ap Narrow c.requires.may.turned ∙ sym (standing_narrow c.args.own c.args.up c.if-own-eq0.false))
+returns-else-own-eq0-clause-part g c = c.count_held.ensures.part ∙ ap (λ (s : Standing). after_look c.args.hand.now.part s) (ap Narrow c.requires.may.turned ∙
+    sym (standing_narrow c.args.own c.args.up c.if-own-eq0.false))
 
 -- list 0 is the one that a narrow range looks at
 pub count_held-requires-clause-too : goal.count_held-requires-clause-too

@@ -54,12 +54,10 @@ all-init g c =
 
 -- the next list may be passed
 pub pass_one-requires-clause-may : goal.pass_one-requires-clause-may
-pass_one-requires-clause-may g c =
-    let i = c.all.invariant in
-    pass_next c.args.list.now.cut c.all.at c.next_taken-up.result (record { range = c.args.range; mode = c.args.mode }) c.all.hand.part (let e = i.lists.0
-    in omega arith) i.low i.alone i.passed
-    (subst (λ x. TakesNone x c.args.range (c.all.at + 1) c.next_taken-up.result) i.cut c.next_taken-up.ensures.first) c.next_taken-up.ensures.from
-    (let e = i.lists.0 in let f = i.lists.1 in let m = ap list_count i.cut in let n = c.next_taken-up.ensures.most in omega arith)
+pass_one-requires-clause-may g c = let i = c.all.invariant in pass_next c.args.list.now.cut c.all.at c.next_taken-up.result
+    (record { range = c.args.range; mode = c.args.mode }) c.all.hand.part (let e = i.lists.0 in omega arith) i.low i.alone i.passed (subst (λ x. TakesNone x
+    c.args.range (c.all.at + 1) c.next_taken-up.result) i.cut c.next_taken-up.ensures.first) c.next_taken-up.ensures.from (let e = i.lists.0 in let f =
+    i.lists.1 in let m = ap list_count i.cut in let n = c.next_taken-up.ensures.most in omega arith)
 
 -- with one list more passed
 pub all-preserved : goal.all-preserved
@@ -106,80 +104,55 @@ all-preserved g c =
 
 -- all lists are passed
 pub returns-clause-counts : goal.returns-clause-counts
-returns-clause-counts g c =
-    let i = c.all.invariant in
-    let end : c.all.at ≡ list_count c.args.list.now.cut = let a = i.most in let b = i.lists.1 in omega arith in
-    all_passed c.args.list.now.cut c.all.at c.args.range c.all.hand.part c.requires.regions end c.requires.takes i.passed
-    ∙ ap Wide (let a = i.most in let b = i.lists.0 in omega arith)
+returns-clause-counts g c = let i = c.all.invariant in let end : c.all.at ≡ list_count c.args.list.now.cut = let a = i.most in let b = i.lists.1 in
+    omega arith in all_passed c.args.list.now.cut c.all.at c.args.range c.all.hand.part c.requires.regions end c.requires.takes i.passed ∙ ap Wide (let a =
+    i.most in let b = i.lists.0 in omega arith)
 
--- before the list that refused, the range doesn't count
-pub returns-in-Err-clause-holds : goal.returns-in-Err-clause-holds
-returns-in-Err-clause-holds g c =
-    let i = c.all.invariant in (
-      c.in-Err.ensures.holds.0,
-      (λ k. is_counted (c.pass_one.ensures.later.lists k) (c.in-Err.ensures.holds.1 k) 0)
-          ∙ passed_beside c.args.list.now.cut c.all.at c.args.range c.all.hand.part (let e = i.lists.0 in omega arith) i.low i.passed,
-    )
-
--- and nothing stands for it once it is given back
-pub returns-in-Err-clause-back : goal.returns-in-Err-clause-back
-returns-in-Err-clause-back g c = ap (λ s. standing_back s 0) c.in-Err.ensures.holds.1
-    ∙ passed_back c.args.list.now.cut c.all.at c.args.range c.all.hand.part c.all.invariant.passed
-
--- the seat is the same
-pub returns-in-Err-clause-later : goal.returns-in-Err-clause-later
-returns-in-Err-clause-later g c = lists_on c.all.invariant.later c.pass_one.ensures.later
-
--- list 0 is as it was
-pub returns-in-Err-clause-first : goal.returns-in-Err-clause-first
-returns-in-Err-clause-first g c = c.pass_one.ensures.only 0 (λ e. let l = c.all.invariant.low in omega arith) ∙ c.all.invariant.first
-
--- each list's ready nodes are as before or without the first
-pub returns-in-Err-clause-ready : goal.returns-in-Err-clause-ready
-returns-in-Err-clause-ready g c =
-    let i = c.all.invariant in
-    ready_next c.all.at c.args.hand.now.part c.all.hand.part c.pass_one.new.hand.part (ap (λ (v : View). v.ready) (i.ahead c.all.at (omega arith)))
-    c.pass_one.ensures.ready c.pass_one.ensures.only i.ready
-
--- what refused it in that list refuses the call
-pub returns-in-Err-clause-cause : goal.returns-in-Err-clause-cause
-returns-in-Err-clause-cause g c =
-    let i = c.all.invariant in (
-      c.all.at,
-      i.low,
-      (let e = i.lists.0 in let f = i.later.lists in omega arith),
-      i.takes (omega arith),
-      cause_on c.all.at c.pass_one.new.hand.part i.table i.later (ap (λ (v : View). v.ready) (i.ahead c.all.at (omega arith)))
-          (record { range = c.args.range; mode = c.args.mode }) c.in-Err.why c.in-Err.ensures.cause,
-    )
-
--- each list that the range doesn't take is as it was
-pub returns-in-Err-clause-only : goal.returns-in-Err-clause-only
-returns-in-Err-clause-only g c = λ j none.
-    let i = c.all.invariant in
-    c.pass_one.ensures.only j (λ e. none (inr (subst (Takes c.args.list.now.cut c.args.range) (sym e) (i.takes (omega arith))))) ∙ i.only j none
+-- a list refused the range
+pub returns-in-Err : goal.returns-in-Err
+returns-in-Err g c =
+    let i = c.all.invariant in let one = c.pass_one.ensures in let cut = c.args.list.now.cut in let p = c.args.hand.now.part in
+    let here : Takes cut c.args.range c.all.at = i.takes (omega arith) in
+    let same = ap (λ (v : View). v.ready) (i.ahead c.all.at (omega arith)) in record {
+      table = one.table ∙ i.table;
+      -- the seat is the same, and each list is passed with the same range
+      later = lists_on i.later one.later;
+      asks = asks_on i.asks one.asks;
+      held = tt;
+      counts = tt;
+      -- before that list the range doesn't count, and nothing stands for it once it is given back
+      holds = (
+        c.in-Err.ensures.holds.0,
+        (λ k. is_counted (one.later.lists k) (c.in-Err.ensures.holds.1 k) 0)
+            ∙ passed_beside cut c.all.at c.args.range c.all.hand.part (let e = i.lists.0 in omega arith) i.low i.passed,
+      );
+      back = ap (λ s. standing_back s 0) c.in-Err.ensures.holds.1 ∙ passed_back cut c.all.at c.args.range c.all.hand.part i.passed;
+      -- list 0 is as it was, and each list's ready nodes are as before or without the first
+      first = one.only 0 (λ e. let l = i.low in omega arith) ∙ i.first;
+      ready = ready_next c.all.at p c.all.hand.part c.pass_one.new.hand.part same one.ready one.only i.ready;
+      -- each list that the range doesn't take is as it was
+      only = λ j none. one.only j (λ e. none (inr (subst (Takes cut c.args.range) (sym e) here))) ∙ i.only j none;
+      -- what refused it in that list refuses the call
+      cause = (
+        c.all.at,
+        i.low,
+        (let e = i.lists.0 in let f = i.later.lists in omega arith),
+        here,
+        cause_on c.all.at c.pass_one.new.hand.part i.table i.later same (record { range = c.args.range; mode = c.args.mode }) c.in-Err.why
+            c.in-Err.ensures.cause,
+      );
+      long = c.in-Err.ensures.long;
+      -- with the list that refused, the lists that were passed are no more than it takes
+      each = λ k many. let n = 55 + 193 * p.seats in let few : suc i.each.0 ≤ k = fewer_below cut c.args.range (suc c.all.at) (list_count cut) (suc i.each.0) k
+          (let b = i.lists.1 in omega arith) (below_one cut c.args.range c.all.at i.each.0 here i.each.1) many in
+          let le : n * suc i.each.0 ≤ n * k = mul-le _ _ _ _ (omega arith) few in let more : n * suc i.each.0 ≡ n * i.each.0 + n = mul-suc n i.each.0 in
+          let s = i.later.seats in let a = i.each.2 in let b = one.bound in omega arith;
+      counted = let a = i.counted in let b = one.counted in omega arith;
+    }
 
 -- the lists that were passed are no more than it takes
 pub returns-clause-each : goal.returns-clause-each
-returns-clause-each g c = λ k many.
-    let i = c.all.invariant in
-    let few : i.each.0 ≤ k = fewer_below c.args.list.now.cut c.args.range c.all.at (list_count c.args.list.now.cut) i.each.0 k
-    (let a = i.most in let b = i.lists.1 in omega arith) i.each.1 many in
+returns-clause-each g c = λ k many. let i = c.all.invariant in let few : i.each.0 ≤ k = fewer_below c.args.list.now.cut c.args.range c.all.at
+    (list_count c.args.list.now.cut) i.each.0 k (let a = i.most in let b = i.lists.1 in omega arith) i.each.1 many in
     let le : (55 + 193 * c.args.hand.now.part.seats) * i.each.0 ≤ (55 + 193 * c.args.hand.now.part.seats) * k = mul-le _ _ _ _ (omega arith) few in
     let a = i.each.2 in omega arith
-
--- and neither are they with the one that refused
-pub returns-in-Err-clause-each : goal.returns-in-Err-clause-each
-returns-in-Err-clause-each g c = λ k many.
-    let i = c.all.invariant in
-    let few : suc i.each.0 ≤ k = fewer_below c.args.list.now.cut c.args.range (suc c.all.at) (list_count c.args.list.now.cut) (suc i.each.0) k
-    (let b = i.lists.1 in omega arith) (below_one c.args.list.now.cut c.args.range c.all.at i.each.0 (i.takes (omega arith)) i.each.1) many in
-    let le : (55 + 193 * c.args.hand.now.part.seats) * suc i.each.0 ≤ (55 + 193 * c.args.hand.now.part.seats) * k = mul-le _ _ _ _ (omega arith) few in
-    let more : (55 + 193 * c.args.hand.now.part.seats) * suc i.each.0
-    ≡ (55 + 193 * c.args.hand.now.part.seats) * i.each.0 + (55 + 193 * c.args.hand.now.part.seats) =
-    mul-suc (55 + 193 * c.args.hand.now.part.seats) i.each.0 in
-    let s = i.later.seats in let a = i.each.2 in let b = c.pass_one.ensures.bound in omega arith
-
--- each list is passed with the same range
-pub returns-in-Err-clause-asks : goal.returns-in-Err-clause-asks
-returns-in-Err-clause-asks g c = asks_on c.all.invariant.asks c.pass_one.ensures.asks

@@ -10,97 +10,58 @@ use Rattle.range_rw.proofs.Dues.{due_on, due_wide, standing_wide}
 use Rattle.range_rw.proofs.several.pass_one.Goals as goal
 
 -- a look that found the list empty has passed it
-pub returns-then-pass_list-clause-later : goal.returns-then-pass_list-clause-later
-returns-then-pass_list-clause-later g c = look_on c.args.hand.now.part c.pass_list.ensures.part
-
--- the range is held as it was
-pub returns-then-pass_list-clause-held : goal.returns-then-pass_list-clause-held
-returns-then-pass_list-clause-held g c = holds_looked c.pass_list.ensures.part c.requires.holds
-
--- and has passed that list
-pub returns-then-pass_list-clause-passed : goal.returns-then-pass_list-clause-passed
-returns-then-pass_list-clause-passed g c = ap (λ (x : SeatPart _). x.pass.standing) c.pass_list.ensures.part
-    ∙ ap (λ (b : Bool). standing_by b (Wide c.args.up) c.args.hand.now.part) c.if-pass_list.true
-
--- no ready node went
-pub returns-then-pass_list-clause-ready : goal.returns-then-pass_list-clause-ready
-returns-then-pass_list-clause-ready g c = inr (inl (ap (λ (v : View). v.ready) (look_shows c.args.hand.now.part
-    c.pass_list.ensures.part c.args.at)))
-
--- each list is as it was
-pub returns-then-pass_list-clause-only : goal.returns-then-pass_list-clause-only
-returns-then-pass_list-clause-only g c = λ j away. look_shows c.args.hand.now.part c.pass_list.ensures.part j
-
--- one step
-pub returns-then-pass_list-clause-bound : goal.returns-then-pass_list-clause-bound
-returns-then-pass_list-clause-bound g c = let l = ap (λ (x : SeatPart _). x.trace.taken) c.pass_list.ensures.part in omega arith
-
--- which is counted
-pub returns-then-pass_list-clause-counted : goal.returns-then-pass_list-clause-counted
-returns-then-pass_list-clause-counted g c =
-    let l = ap (λ (x : SeatPart _). x.trace.taken) c.pass_list.ensures.part in let n = c.pass_list.ensures.counted in omega arith
-
--- a look asks for nothing
-pub returns-then-pass_list-clause-asks : goal.returns-then-pass_list-clause-asks
-returns-then-pass_list-clause-asks g c = asks_stay (ap (λ (x : SeatPart _). x.trace.asked) c.pass_list.ensures.part)
+pub returns-then-pass_list : goal.returns-then-pass_list
+returns-then-pass_list g c =
+    let p = c.args.hand.now.part in let is = c.pass_list.ensures.part in record {
+      table = c.pass_list.ensures.table;
+      -- it leaves the seat the same, and asks for nothing
+      later = look_on p is;
+      asks = asks_stay (ap (λ (x : SeatPart _). x.trace.asked) is);
+      -- the range is held as it was, and has passed that list
+      held = holds_looked is c.requires.holds;
+      passed = ap (λ (x : SeatPart _). x.pass.standing) is ∙ ap (λ (b : Bool). standing_by b (Wide c.args.up) p) c.if-pass_list.true;
+      holds = tt;
+      -- no ready node went, and each list is as it was
+      ready = inr (inl (ap (λ (v : View). v.ready) (look_shows p is c.args.at)));
+      only = λ j away. look_shows p is j;
+      cause = tt;
+      long = tt;
+      -- one step, which is counted
+      bound = let l = ap (λ (x : SeatPart _). x.trace.taken) is in omega arith;
+      counted = let l = ap (λ (x : SeatPart _). x.trace.taken) is in let n = c.pass_list.ensures.counted in omega arith;
+    }
 
 -- the list is due still
 pub look_swept-requires-clause-due : goal.look_swept-requires-clause-due
-look_swept-requires-clause-due g c = due_on (due_wide (record { range = c.args.range; mode = c.args.mode }) c.requires.list
-    c.requires.holds.held c.requires.may) c.pass_list.new.hand.part
-    (ap (λ (x : SeatPart _). x.pass.lists) c.pass_list.ensures.part) (ap (λ (x : SeatPart _). x.pass.standing) c.pass_list.ensures.part
-    ∙ ap (λ (b : Bool). standing_by b (Wide c.args.up) c.args.hand.now.part) c.if-pass_list.false)
+look_swept-requires-clause-due g c = due_on (due_wide (record { range = c.args.range; mode = c.args.mode }) c.requires.list c.requires.holds.held
+    c.requires.may) c.pass_list.new.hand.part (ap (λ (x : SeatPart _). x.pass.lists) c.pass_list.ensures.part) (ap (λ (x : SeatPart _). x.pass.standing)
+    c.pass_list.ensures.part ∙ ap (λ (b : Bool). standing_by b (Wide c.args.up) c.args.hand.now.part) c.if-pass_list.false)
 
 -- and the range is held as it was
 pub look_swept-requires-clause-holds : goal.look_swept-requires-clause-holds
 look_swept-requires-clause-holds g c = holds_in (holds_looked c.pass_list.ensures.part c.requires.holds)
 
--- the seat is the same after the sweep and what follows
-pub returns-clause-later : goal.returns-clause-later
-returns-clause-later g c = lists_on (look_on c.args.hand.now.part c.pass_list.ensures.part) c.look_swept.ensures.later
-
--- after a refusal it stands as it stood
-pub returns-clause-holds : goal.returns-clause-holds
-returns-clause-holds g c = err_free c.look_swept.result (λ h. (
-  h.0,
-  h.1 ∙ (ap (λ (x : SeatPart _). x.pass.standing) c.pass_list.ensures.part
-      ∙ ap (λ (b : Bool). standing_by b (Wide c.args.up) c.args.hand.now.part) c.if-pass_list.false),
-))
-    c.look_swept.ensures.holds
-
--- its ready nodes in that list are those that the rest left
-pub returns-clause-ready : goal.returns-clause-ready
-returns-clause-ready g c = ready_from (ap (λ (v : View). v.ready)
-    (look_shows c.args.hand.now.part c.pass_list.ensures.part c.args.at))
-    c.look_swept.ensures.ready
-
--- each other list is as it was
-pub returns-clause-only : goal.returns-clause-only
-returns-clause-only g c = λ j away. c.look_swept.ensures.only j away ∙ look_shows c.args.hand.now.part c.pass_list.ensures.part j
-
--- the cause of its refusal is one of the call
-pub returns-clause-cause : goal.returns-clause-cause
-returns-clause-cause g c = err_on _ _ c.look_swept.result (cause_on c.args.at c.look_swept.new.hand.part c.pass_list.ensures.table
-    (look_on c.args.hand.now.part c.pass_list.ensures.part)
-    (ap (λ (v : View). v.ready) (look_shows c.args.hand.now.part c.pass_list.ensures.part c.args.at))
-    (record { range = c.args.range; mode = c.args.mode })) c.look_swept.ensures.cause
-
--- the steps of the look and of the rest
-pub returns-clause-bound : goal.returns-clause-bound
-returns-clause-bound g c =
-    let l = ap (λ (x : SeatPart _). x.trace.taken) c.pass_list.ensures.part in
-    let s = ap (λ (x : SeatPart _). x.seats) c.pass_list.ensures.part in let b = c.look_swept.ensures.bound in omega arith
-
--- which are counted
-pub returns-clause-counted : goal.returns-clause-counted
-returns-clause-counted g c =
-    let l = ap (λ (x : SeatPart _). x.trace.taken) c.pass_list.ensures.part in let n = c.pass_list.ensures.counted in
-    let b = c.look_swept.ensures.counted in omega arith
-
--- the look asks for nothing
-pub returns-clause-asks : goal.returns-clause-asks
-returns-clause-asks g c = asks_from (ap (λ (x : SeatPart _). x.trace.asked) c.pass_list.ensures.part) c.look_swept.ensures.asks
-
--- it has passed that list
-pub returns-clause-passed : goal.returns-clause-passed
-returns-clause-passed g c = ok_on c.look_swept.result (λ is. is ∙ standing_wide 0 c.args.up refl) c.look_swept.ensures.counts
+-- otherwise it comes to what the sweep and the rest come to
+pub returns : goal.returns
+returns g c =
+    let p = c.args.hand.now.part in let is = c.pass_list.ensures.part in let rest = c.look_swept.ensures in record {
+      table = rest.table ∙ c.pass_list.ensures.table;
+      -- the seat is the same, and the look asks for nothing
+      later = lists_on (look_on p is) rest.later;
+      asks = asks_from (ap (λ (x : SeatPart _). x.trace.asked) is) rest.asks;
+      held = rest.held;
+      -- it has passed that list, and after a refusal it stands as it stood
+      passed = ok_on c.look_swept.result (λ same. same ∙ standing_wide 0 c.args.up refl) rest.counts;
+      holds = err_free c.look_swept.result (λ h.
+          (h.0, h.1 ∙ (ap (λ (x : SeatPart _). x.pass.standing) is ∙ ap (λ (b : Bool). standing_by b (Wide c.args.up) p) c.if-pass_list.false))) rest.holds;
+      -- its ready nodes in that list are those that the rest left, and each other list is as it was
+      ready = ready_from (ap (λ (v : View). v.ready) (look_shows p is c.args.at)) rest.ready;
+      only = λ j away. rest.only j away ∙ look_shows p is j;
+      -- the cause of its refusal is one of the call
+      cause = err_on _ _ c.look_swept.result (cause_on c.args.at c.look_swept.new.hand.part c.pass_list.ensures.table (look_on p is)
+          (ap (λ (v : View). v.ready) (look_shows p is c.args.at)) (record { range = c.args.range; mode = c.args.mode })) rest.cause;
+      long = rest.long;
+      -- the steps of the look and of the rest, which are counted
+      bound = let l = ap (λ (x : SeatPart _). x.trace.taken) is in let s = ap (λ (x : SeatPart _). x.seats) is in let b = rest.bound in omega arith;
+      counted = let l = ap (λ (x : SeatPart _). x.trace.taken) is in let n = c.pass_list.ensures.counted in let b = rest.counted in omega arith;
+    }

@@ -12,12 +12,7 @@ use Rattle.range_rw.proofs.several.try_hold.Goals as goal
 
 -- with one list the call tries in that
 here : (g : Over) (c : After-try_range g) → Here c.args.hand.now.part c.try_range.new.hand.part
-here g c = record {
-  free = c.requires.free;
-  later = c.try_range.ensures.later;
-  outside = c.try_range.ensures.outside;
-  cursor = c.try_range.ensures.cursor;
-}
+here g c = record { free = c.requires.free; later = c.try_range.ensures.later; outside = c.try_range.ensures.outside; cursor = c.try_range.ensures.cursor }
 
 -- with several lists a narrow range takes one alone
 one : (g : Over) (c : In-Some g) → TakesOne c.args.list.now.cut c.args.range c.in-Some.at
@@ -32,56 +27,37 @@ pub try_range-requires-clause-free : goal.try_range-requires-clause-free
 try_range-requires-clause-free g c = free_sweeps c.args.hand.now.part c.requires.free
 
 -- with one list the try is the list's
-pub returns-then-lists-eq1-clause-later : goal.returns-then-lists-eq1-clause-later
-returns-then-lists-eq1-clause-later g c = here_later (here g c)
-
--- what it holds it holds alone
-pub returns-then-lists-eq1-clause-held : goal.returns-then-lists-eq1-clause-held
-returns-then-lists-eq1-clause-held g c = ok_on c.try_range.result (here_alone (here g c)) c.try_range.ensures.held
-
--- and that counts
-pub returns-then-lists-eq1-clause-counts : goal.returns-then-lists-eq1-clause-counts
-returns-then-lists-eq1-clause-counts g c = ok_on c.try_range.result (λ _. one_counts c.try_range.new.hand.part.pass
-    (let a = (here_later (here g c)).lists in let b = c.requires.lists.0 in let e = c.if-lists-eq1.true in omega arith)) c.try_range.ensures.held
-
--- by itself
-pub returns-then-lists-eq1-clause-one : goal.returns-then-lists-eq1-clause-one
-returns-then-lists-eq1-clause-one g c = ok_on c.try_range.result (λ _ _. here_standing (here g c)) c.try_range.ensures.held
-
--- it is held in that list, which each range takes alone
-pub returns-then-lists-eq1-clause-stands : goal.returns-then-lists-eq1-clause-stands
-returns-then-lists-eq1-clause-stands g c = ok_on c.try_range.result
-    (λ _. stands_first (takes_first c.args.list.now.cut c.args.range c.requires.regions
-    (let b = c.requires.lists.1 in let e = c.if-lists-eq1.true in omega arith) c.lo.ensures.bounds.0) (here_standing (here g c))) c.try_range.ensures.held
-
--- a refusal leaves nothing held
-pub returns-then-lists-eq1-clause-free : goal.returns-then-lists-eq1-clause-free
-returns-then-lists-eq1-clause-free g c = err_free c.try_range.result (here_free (here g c)) c.try_range.ensures.free
-
--- each list's ready nodes are as before or without the first
-pub returns-then-lists-eq1-clause-ready : goal.returns-then-lists-eq1-clause-ready
-returns-then-lists-eq1-clause-ready g c = here_ready (here g c) c.try_range.ensures.ready
-
--- there is no other list
-pub returns-then-lists-eq1-clause-only : goal.returns-then-lists-eq1-clause-only
-returns-then-lists-eq1-clause-only g c = here_others (here g c) c.args.list.now.cut c.args.range
-    (let a = c.list.ensures.list in let b = c.list.ensures.there in let l = c.requires.lists.0 in let e = c.if-lists-eq1.true in omega arith)
-
--- the cause of a refusal is that of the try
-pub returns-then-lists-eq1-clause-cause : goal.returns-then-lists-eq1-clause-cause
-returns-then-lists-eq1-clause-cause g c = err_on _ _ c.try_range.result
-    (here_cause (here g c) c.args.hand.now.table c.args.hand.now.table c.args.list.now.cut (λ i. c.args.hand.now.table)
-    (is_there c.list.ensures.list c.list.ensures.there) (record { range = c.args.range; mode = c.args.mode })
-    (inl (let a = c.list.ensures.list in let b = c.list.ensures.there in let l = c.requires.lists.0 in let e = c.if-lists-eq1.true in omega arith)))
-    c.try_range.ensures.cause
-
--- its steps are few
-pub returns-then-lists-eq1-clause-narrow : goal.returns-then-lists-eq1-clause-narrow
-returns-then-lists-eq1-clause-narrow g c = λ _. let b = c.try_range.ensures.bound in omega arith
-
--- the steps of one list
-pub returns-then-lists-eq1-clause-each : goal.returns-then-lists-eq1-clause-each
-returns-then-lists-eq1-clause-each g c = λ k _. let b = c.try_range.ensures.bound in omega arith
+pub returns-then-lists-eq1 : goal.returns-then-lists-eq1
+returns-then-lists-eq1 g c =
+    let h = here g c in let tried = c.try_range.ensures in record {
+      table = tried.table;
+      later = here_later h;
+      asks = tried.asks;
+      -- what it holds it holds alone, and that counts by itself
+      held = ok_on c.try_range.result (here_alone h) tried.held;
+      counts = ok_on c.try_range.result (λ _. one_counts c.try_range.new.hand.part.pass
+          (let a = (here_later h).lists in let b = c.requires.lists.0 in let e = c.if-lists-eq1.true in omega arith)) tried.held;
+      one = ok_on c.try_range.result (λ _ _. here_standing h) tried.held;
+      -- it is held in that list, which each range takes alone
+      stands = ok_on c.try_range.result (λ _. stands_first (takes_first c.args.list.now.cut c.args.range c.requires.regions
+          (let b = c.requires.lists.1 in let e = c.if-lists-eq1.true in omega arith) c.lo.ensures.bounds.0) (here_standing h)) tried.held;
+      -- a refusal leaves nothing held
+      free = err_free c.try_range.result (here_free h) tried.free;
+      -- the list's ready nodes are as before or without the first, and there is no other list
+      ready = here_ready h tried.ready;
+      only = here_others h c.args.list.now.cut c.args.range
+          (let a = c.list.ensures.list in let b = c.list.ensures.there in let l = c.requires.lists.0 in let e = c.if-lists-eq1.true in omega arith);
+      -- the cause of a refusal is that of the try
+      cause = err_on _ _ c.try_range.result (here_cause h c.args.hand.now.table c.args.hand.now.table c.args.list.now.cut (λ i. c.args.hand.now.table) (is_there
+          c.list.ensures.list c.list.ensures.there) (record { range = c.args.range; mode = c.args.mode }) (inl (let a = c.list.ensures.list in let b =
+          c.list.ensures.there in let l = c.requires.lists.0 in let e = c.if-lists-eq1.true in omega arith))) tried.cause;
+      long = tried.long;
+      seats = tried.seats;
+      -- its steps are those of one list, and few
+      narrow = λ _. let b = tried.bound in omega arith;
+      each = λ k _. let b = tried.bound in omega arith;
+      counted = tried.counted;
+    }
 
 -- the list that a narrow range takes is one behind list 0, and there
 pub hold_narrow-requires-clause-several : goal.hold_narrow-requires-clause-several
@@ -107,18 +83,15 @@ returns-clause-one g c = ok_on c.hold_narrow.result (λ h only. let f = c.if-lis
 
 -- it is held in the list that it takes alone
 pub returns-clause-stands : goal.returns-clause-stands
-returns-clause-stands g c =
-    ok_on c.hold_narrow.result (stands_narrow (one g (goal.at.returns-clause-stands g c).In-Some)) c.hold_narrow.ensures.counts
+returns-clause-stands g c = ok_on c.hold_narrow.result (stands_narrow (one g (goal.at.returns-clause-stands g c).In-Some)) c.hold_narrow.ensures.counts
 
 -- the steps of a narrow try
 pub returns-clause-narrow : goal.returns-clause-narrow
-returns-clause-narrow g c = λ _.
-    let b = c.hold_narrow.ensures.bound in let s = c.seats.ensures.some in let e = c.seats.ensures.seats in omega arith
+returns-clause-narrow g c = λ _. let b = c.hold_narrow.ensures.bound in let s = c.seats.ensures.some in let e = c.seats.ensures.seats in omega arith
 
 -- which are no more than those of one list
 pub returns-clause-each : goal.returns-clause-each
-returns-clause-each g c = λ k _.
-    let b = c.hold_narrow.ensures.bound in let s = c.seats.ensures.some in let e = c.seats.ensures.seats in omega arith
+returns-clause-each g c = λ k _. let b = c.hold_narrow.ensures.bound in let s = c.seats.ensures.some in let e = c.seats.ensures.seats in omega arith
 
 -- a wide range takes two
 pub hold_wide-requires-clause-takes : goal.hold_wide-requires-clause-takes
@@ -144,17 +117,12 @@ returns-in_default-clause-narrow g c = λ t.
 
 -- it is held in list 0
 pub returns-in_default-clause-stands : goal.returns-in_default-clause-stands
-returns-in_default-clause-stands g c =
-    ok_on c.hold_wide.result (stands_wide (two g c)) c.hold_wide.ensures.counts
+returns-in_default-clause-stands g c = ok_on c.hold_wide.result (stands_wide (two g c)) c.hold_wide.ensures.counts
 
 -- the steps of a wide try
 pub returns-in_default-clause-each : goal.returns-in_default-clause-each
-returns-in_default-clause-each g c = λ k many.
-    let n = c.args.hand.now.part.seats in
-    let both = two g c in
-    let more : 1 ≤ k = some_below c.args.list.now.cut c.args.range (list_count c.args.list.now.cut) k both.one
-    (takes_there c.args.list.now.cut c.args.range both.one c.requires.regions both.takes_one) both.takes_one many in
-    let whole : k ≡ suc (k - 1) = omega arith in
+returns-in_default-clause-each g c = λ k many. let n = c.args.hand.now.part.seats in let both = two g c in let more : 1 ≤ k = some_below c.args.list.now.cut
+    c.args.range (list_count c.args.list.now.cut) k both.one (takes_there c.args.list.now.cut c.args.range both.one c.requires.regions both.takes_one)
+    both.takes_one many in let whole : k ≡ suc (k - 1) = omega arith in
     let e : (55 + 193 * n) * k ≡ (55 + 193 * n) * (k - 1) + (55 + 193 * n) = ap (λ m. (55 + 193 * n) * m) whole ∙ mul-suc (55 + 193 * n) (k - 1) in
-    let s = c.seats.ensures.some in let y = c.seats.ensures.seats in
-    let b = c.hold_wide.ensures.each k many in omega arith
+    let s = c.seats.ensures.some in let y = c.seats.ensures.seats in let b = c.hold_wide.ensures.each k many in omega arith

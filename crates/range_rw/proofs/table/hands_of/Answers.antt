@@ -12,14 +12,12 @@ use Rattle.range_rw.proofs.table.hands_of.Goals as goal
 
 -- the seat that comes next is of the table
 pub hand_of-requires-clause-table : goal.hand_of-requires-clause-table
-hand_of-requires-clause-table g c =
-    let more : 0 < length c.all.seats.items = search rules in
+hand_of-requires-clause-table g c = let more : 0 < length c.all.seats.items = search rules in
     (next_idle c.args.list.now.table (length c.all.hands.items) c.all.seats.items c.remove-seat.result c.all.invariant.rest more c.remove-seat.ensures.value).0
 
 -- and holds nothing
 pub hand_of-requires-clause-free : goal.hand_of-requires-clause-free
-hand_of-requires-clause-free g c =
-    let more : 0 < length c.all.seats.items = search rules in
+hand_of-requires-clause-free g c = let more : 0 < length c.all.seats.items = search rules in
     (next_idle c.args.list.now.table (length c.all.hands.items) c.all.seats.items c.remove-seat.result c.all.invariant.rest more c.remove-seat.ensures.value).2
 
 -- one more hand is idle, with its seat's pass, and one seat less is left

@@ -38,8 +38,7 @@ returns-in-None-clause-held g c = insert_held c.in-Ok.ensures.tried c.if-held.fa
 
 -- where the list was found empty there is a ready node
 pub try_again-requires-clause-some : goal.try_again-requires-clause-some
-try_again-requires-clause-some g c =
-    some_again c.in-Ok.ensures.tried c.if-held.false c.insert_in_epoch.new.hand.part c.in_default.ensures.ends.0
+try_again-requires-clause-some g c = some_again c.in-Ok.ensures.tried c.if-held.false c.insert_in_epoch.new.hand.part c.in_default.ensures.ends.0
 
 -- the ready nodes after the second attempt
 pub returns-in_default-clause-ready : goal.returns-in_default-clause-ready
@@ -48,12 +47,10 @@ returns-in_default-clause-ready g c = ready_again c.in-Ok.ensures.tried c.if-hel
 
 -- its cause is one of the whole try
 pub returns-in_default-clause-cause : goal.returns-in_default-clause-cause
-returns-in_default-clause-cause g c =
-    let p = c.args.hand.now.part in let f = c.link_if_empty.new.hand.part in let r = c.insert_in_epoch.new.hand.part in
-    cause_again c.insert_in_epoch.new.hand.table c.args.hand.now.table c.args.hand.now.table p r c.try_again.new.hand.part
-    (later_on p f r c.link_if_empty.ensures.later c.insert_in_epoch.ensures.later)
-    (λ none. absurd (some_again c.in-Ok.ensures.tried c.if-held.false r c.in_default.ensures.ends.0 none))
-    (record { range = c.args.range; mode = c.args.mode }) c.try_again.result c.try_again.ensures.cause
+returns-in_default-clause-cause g c = let p = c.args.hand.now.part in let f = c.link_if_empty.new.hand.part in let r = c.insert_in_epoch.new.hand.part in
+    cause_again c.insert_in_epoch.new.hand.table c.args.hand.now.table c.args.hand.now.table p r c.try_again.new.hand.part (later_on p f r
+    c.link_if_empty.ensures.later c.insert_in_epoch.ensures.later) (λ none. absurd (some_again c.in-Ok.ensures.tried c.if-held.false r
+    c.in_default.ensures.ends.0 none)) (record { range = c.args.range; mode = c.args.mode }) c.try_again.result c.try_again.ensures.cause
 
 -- what the fast path tried is all that is asked for
 pub returns-in-Some-refusal_of-clause-asks : goal.returns-in-Some-refusal_of-clause-asks
@@ -65,5 +62,4 @@ returns-in-None-clause-asks g c = asks_kept c.link_if_empty.ensures.asks c.inser
 
 -- and the second attempt asks for the same
 pub returns-in_default-clause-asks : goal.returns-in_default-clause-asks
-returns-in_default-clause-asks g c =
-    asks_on (asks_kept c.link_if_empty.ensures.asks c.insert_in_epoch.ensures.asked) c.try_again.ensures.asks
+returns-in_default-clause-asks g c = asks_on (asks_kept c.link_if_empty.ensures.asks c.insert_in_epoch.ensures.asked) c.try_again.ensures.asks

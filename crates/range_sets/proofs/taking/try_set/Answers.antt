@@ -22,10 +22,8 @@ returns-clause-each g c = on_ok_weaker c.try_four.result (granted_each _ _ _ _) 
 
 -- which has the steps of one list, where each range takes one
 pub returns-clause-bound : goal.returns-clause-bound
-returns-clause-bound g c = λ alone.
-    let n = alone_take c.args.table.now c.args.wants.now alone in
-    on_ok_weaker c.try_four.result (λ granted. granted_each _ _ _ _ granted (length c.args.wants.now * (64 + 386 * c.args.table.now.seats)) n)
-    c.try_four.ensures.granted
+returns-clause-bound g c = λ alone. let n = alone_take c.args.table.now c.args.wants.now alone in on_ok_weaker c.try_four.result (λ granted. granted_each _ _ _
+    _ granted (length c.args.wants.now * (64 + 386 * c.args.table.now.seats)) n) c.try_four.ensures.granted
 
 -- after a refusal nothing is held
 pub returns-clause-free : goal.returns-clause-free
@@ -49,8 +47,7 @@ returns-clause-refused_each g c = each_told _ _ _ _ _ c.requires.free c.try_four
 
 -- which have the steps of one list each, where each range takes one
 pub returns-clause-refused_bound : goal.returns-clause-refused_bound
-returns-clause-refused_bound g c = λ alone.
-    bound_told _ _ _ _ _ c.requires.free alone c.try_four.result c.try_four.ensures.refused
+returns-clause-refused_bound g c = λ alone. bound_told _ _ _ _ _ c.requires.free alone c.try_four.result c.try_four.ensures.refused
 
 -- each seat asked for its own want
 pub returns-clause-asks : goal.returns-clause-asks

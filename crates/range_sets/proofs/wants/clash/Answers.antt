@@ -9,8 +9,7 @@ others-init c = (omega arith, search rules, first_pairs c.args.wants.now c.first
 
 -- the pair that conflicts is the first
 pub returns-then-conflicts-clause-found : goal.returns-then-conflicts-clause-found
-returns-then-conflicts-clause-found c =
-    let i = c.others.invariant in
+returns-then-conflicts-clause-found c = let i = c.others.invariant in
     let ei = slice_get_read c.args.wants.now (length c.args.wants.now) c.firsts.i c.index-wants-i.result refl (search rules) c.index-wants-i.is in
     let ej = slice_get_read c.args.wants.now (length c.args.wants.now) c.others.j c.index-wants-j.result refl (search rules) c.index-wants-j.is in
     record { order = i.0; clashes = (_, _, ei, ej, c.conflicts.ensures.0 c.if-conflicts.true); first = i.2 }
@@ -28,8 +27,7 @@ returns-then-conflicts-clause-none c =
 
 -- this pair doesn't conflict, so each that does is behind it
 pub others-preserved : goal.others-preserved
-others-preserved c =
-    let i = c.others.invariant in
+others-preserved c = let i = c.others.invariant in
     let ei = slice_get_read c.args.wants.now (length c.args.wants.now) c.firsts.i c.index-wants-i.result refl (search rules) c.index-wants-i.is in
     let ej = slice_get_read c.args.wants.now (length c.args.wants.now) c.others.j c.index-wants-j.result refl (search rules) c.index-wants-j.is in
     (omega arith, search rules, next_pair c.args.wants.now c.firsts.i c.others.j _ _ ei ej (λ clash. absurd (search rules)) i.2)

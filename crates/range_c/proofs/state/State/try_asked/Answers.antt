@@ -13,6 +13,6 @@ returns c =
     let is : IsRange c.args.asked.lo c.args.asked.hi = search rules in
     let free : c.args.self.now.seat.held ≡ None = search rules in
     record {
-      tried = tried_for c.args.asked.lo c.args.asked.hi c.in-Ok.range c.args.asked.writer c.mode_of.result c.args.asked.tries
-          c.try_up_to.result c.args.self.now c.try_up_to.new.self lo hi mode is free c.try_up_to.ensures.kept c.try_up_to.ensures.answer;
+      tried = tried_for c.in-Ok.range c.args.asked.writer c.args.asked.tries c.try_up_to.result lo hi mode is free c.try_up_to.ensures.kept
+          c.try_up_to.ensures.answer;
     }

@@ -13,10 +13,9 @@ returns-clause-held c =
     let free = ap (λ (b : Behind). b.seat.held) c.self.view_is ∙ c.requires.free in
     let here = subst (λ (t : TableShape). IfOk c.try_acquire_uncounted.result
     (λ _. IsGranted t.seats t.cut ask c.self.inside.seat c.try_acquire_uncounted.new.seat)) (ap (λ (l : Lock). l.table) c.deref.ensures)
-    (granted_for c.try_acquire_uncounted.result _ _ ask c.self.inside.seat c.try_acquire_uncounted.new.seat c.try_acquire_uncounted.ensures.call free
-    c.try_acquire_uncounted.ensures.wide c.try_acquire_uncounted.ensures.bound c.try_acquire_uncounted.ensures.held) in
-    subst (λ (b : Behind). IfOk c.try_acquire_uncounted.result (λ _. IsGranted b.seats b.cut ask b.seat c.try_acquire_uncounted.new.seat))
-    c.self.view_is here
+    (granted_for c.try_acquire_uncounted.result _ _ ask c.try_acquire_uncounted.ensures.call free c.try_acquire_uncounted.ensures.wide
+    c.try_acquire_uncounted.ensures.bound c.try_acquire_uncounted.ensures.held) in
+    subst (λ (b : Behind). IfOk c.try_acquire_uncounted.result (λ _. IsGranted b.seats b.cut ask b.seat c.try_acquire_uncounted.new.seat)) c.self.view_is here
 
 -- one that was refused is one try within its bound, with its cause
 pub returns-clause-refused : goal.returns-clause-refused
@@ -25,8 +24,6 @@ returns-clause-refused c =
     let free = ap (λ (b : Behind). b.seat.held) c.self.view_is ∙ c.requires.free in
     let here = subst (λ (t : TableShape). IfErr c.try_acquire_uncounted.result
     (IsRefused t.seats t.cut ask c.self.inside.seat c.try_acquire_uncounted.new.seat)) (ap (λ (l : Lock). l.table) c.deref.ensures)
-    (refused_for c.try_acquire_uncounted.result _ _ ask c.self.inside.seat c.try_acquire_uncounted.new.seat c.try_acquire_uncounted.ensures.call free
-    c.try_acquire_uncounted.ensures.wide c.try_acquire_uncounted.ensures.bound c.try_acquire_uncounted.ensures.free c.try_acquire_uncounted.ensures.cause
-    c.try_acquire_uncounted.ensures.long) in
-    subst (λ (b : Behind). IfErr c.try_acquire_uncounted.result (IsRefused b.seats b.cut ask b.seat c.try_acquire_uncounted.new.seat))
-    c.self.view_is here
+    (refused_for c.try_acquire_uncounted.result _ _ ask c.try_acquire_uncounted.ensures.call free c.try_acquire_uncounted.ensures.wide
+    c.try_acquire_uncounted.ensures.bound c.try_acquire_uncounted.ensures.free c.try_acquire_uncounted.ensures.cause c.try_acquire_uncounted.ensures.long) in
+    subst (λ (b : Behind). IfErr c.try_acquire_uncounted.result (IsRefused b.seats b.cut ask b.seat c.try_acquire_uncounted.new.seat)) c.self.view_is here

@@ -28,7 +28,6 @@ loop-preserved g c = record {
 pub returns-clause-asks : goal.returns-clause-asks
 returns-clause-asks g c = elim c.match-next.branch [
   | in-None w ↦ let never = w.in-None.ensures.steps in absurd cc
-  | in-Some+in-Ok w ↦
-      subst (λ (s : SeatState _). AsksFor (record { range = c.args.range; mode = c.args.mode }) c.args.seat.now.trace.asked s.trace.asked) (sym w.seat-is)
-      (for_then c.loop.invariant.asks w.in-Ok.ensures.gets)
+  | in-Some+in-Ok w ↦ subst (λ (s : SeatState _). AsksFor (record { range = c.args.range; mode = c.args.mode }) c.args.seat.now.trace.asked s.trace.asked)
+      (sym w.seat-is) (for_then c.loop.invariant.asks w.in-Ok.ensures.gets)
 ]

@@ -15,9 +15,8 @@ invariant_of-seat g c = scan_seated c.open_epoch.new.hand.part c.open_epoch.ensu
 
 -- the call is one of a scan
 pub returns-clause-call : goal.returns-clause-call
-returns-clause-call g c = subst (λ (s : SeatState _). IsScanCall s (seat_state_of c.open_epoch.new.hand)) c.seat.view_is
-    (scan_call c.seat.inside.hand.table c.open_epoch.new.hand.table c.seat.inside.hand.part c.open_epoch.new.hand.part c.open_epoch.ensures.table
-    c.open_epoch.ensures.inside.later)
+returns-clause-call g c = subst (λ (s : SeatState _). IsScanCall s (seat_state_of c.open_epoch.new.hand)) c.seat.view_is (scan_call c.seat.inside.hand.table
+    c.open_epoch.new.hand.table c.seat.inside.hand.part c.open_epoch.new.hand.part c.open_epoch.ensures.table c.open_epoch.ensures.inside.later)
 
 -- and the scan a fresh one, in list 0
 pub returns-clause-begun : goal.returns-clause-begun

@@ -15,9 +15,8 @@ invariant_of-seat g c = scan_seated c.close_epoch.new.hand.part c.close_epoch.en
 
 -- the call is one of a scan
 pub returns-clause-call : goal.returns-clause-call
-returns-clause-call g c = subst (λ (s : SeatState _). IsScanCall s (seat_state_of c.close_epoch.new.hand)) c.seat.view_is
-    (scan_call c.seat.inside.hand.table c.close_epoch.new.hand.table c.seat.inside.hand.part c.close_epoch.new.hand.part c.close_epoch.ensures.table
-    c.close_epoch.ensures.outside.later)
+returns-clause-call g c = subst (λ (s : SeatState _). IsScanCall s (seat_state_of c.close_epoch.new.hand)) c.seat.view_is (scan_call c.seat.inside.hand.table
+    c.close_epoch.new.hand.table c.seat.inside.hand.part c.close_epoch.new.hand.part c.close_epoch.ensures.table c.close_epoch.ensures.outside.later)
 
 -- and no scan is open
 pub returns-clause-ended : goal.returns-clause-ended

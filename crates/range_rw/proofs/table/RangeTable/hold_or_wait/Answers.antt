@@ -33,63 +33,50 @@ hold_or_try-held-requires-clause-free g c = seated_free c.seat.inside.hand.part 
     (seated_none c.seat.inside.hand.part c.seat.invariant (ap (λ (s : SeatState _). s.held) c.seat.view_is ∙ c.requires.free))
     c.leave_and_count-lists.ensures.later.pass c.leave_and_count-lists.ensures.free c.leave_and_count-lists.ensures.rests
 
--- the call is one on the seat
-pub returns-in-Ok-clause-call : goal.returns-in-Ok-clause-call
-returns-in-Ok-clause-call g c = (called g (goal.at.returns-in-Ok-clause-call g c).After-list).call
-
--- it asks for the range alone
-pub returns-in-Ok-clause-asks : goal.returns-in-Ok-clause-asks
-returns-in-Ok-clause-asks g c = (called g (goal.at.returns-in-Ok-clause-asks g c).After-list).asks
-
--- it asked for the range
-pub returns-in-Ok-clause-gets : goal.returns-in-Ok-clause-gets
-returns-in-Ok-clause-gets g c =
-    let now = c.hold_or_try-held.new.hand.part.trace.asked in
-    subst (λ (s : SeatState _). AsksFor (record { range = c.args.range; mode = c.args.mode }) s.trace.asked now) c.seat.view_is
-    (for_from c.leave_and_count-lists.ensures.asked c.in-Ok.ensures.gets)
-
--- the seat is outside its epoch
-pub returns-in-Ok-clause-outside : goal.returns-in-Ok-clause-outside
-returns-in-Ok-clause-outside g c = rests_closed c.hold_or_try-held.new.hand.part c.in-Ok.ensures.held.rests
+-- the range is held
+pub returns-in-Ok : goal.returns-in-Ok
+returns-in-Ok g c =
+    let call = called g (goal.at.returns-in-Ok g c).After-list in let now = c.hold_or_try-held.new.hand.part in record {
+      -- the call is one on the seat, which asks for the range alone
+      call = call.call;
+      asks = call.asks;
+      -- it asked for the range
+      gets = subst (λ (s : SeatState _). AsksFor (record { range = c.args.range; mode = c.args.mode }) s.trace.asked now.trace.asked) c.seat.view_is
+          (for_from c.leave_and_count-lists.ensures.asked c.in-Ok.ensures.gets);
+      -- the seat is outside its epoch
+      outside = rests_closed now c.in-Ok.ensures.held.rests;
+      -- and holds the range
+      held = alone_grant (is_there c.list.ensures.list c.list.ensures.there) c.in-Ok.ensures.held c.in-Ok.ensures.counts c.in-Ok.ensures.one;
+      -- in the list that it takes alone, or in list 0
+      stands = subst (λ (t : TableShape). StandsIn t.cut c.args.range (counted_in now.pass.standing)) c.self.view_is c.in-Ok.ensures.stands;
+      free = tt;
+      -- each list in which it doesn't work is as it was, where no scan was open
+      only = call.only;
+    }
 
 -- it is between two calls
 pub invariant_of-seat : goal.invariant_of-seat
 invariant_of-seat g c = alone_seated c.hold_or_try-held.new.hand.part.pass.list (record { range = c.args.range; mode = c.args.mode })
     c.hold_or_try-held.new.hand.part (is_there c.list.ensures.list c.list.ensures.there) c.in-Ok.ensures.held c.in-Ok.ensures.counts c.in-Ok.ensures.one
 
--- and holds the range
-pub returns-in-Ok-clause-held : goal.returns-in-Ok-clause-held
-returns-in-Ok-clause-held g c = alone_grant (is_there c.list.ensures.list c.list.ensures.there) c.in-Ok.ensures.held c.in-Ok.ensures.counts c.in-Ok.ensures.one
-
--- it is held in the list that it takes alone, or in list 0
-pub returns-in-Ok-clause-stands : goal.returns-in-Ok-clause-stands
-returns-in-Ok-clause-stands g c =
-    subst (λ (t : TableShape). StandsIn t.cut c.args.range (counted_in c.hold_or_try-held.new.hand.part.pass.standing)) c.self.view_is c.in-Ok.ensures.stands
-
--- each list in which it doesn't work is as it was, where no scan was open
-pub returns-in-Ok-clause-only : goal.returns-in-Ok-clause-only
-returns-in-Ok-clause-only g c = (called g (goal.at.returns-in-Ok-clause-only g c).After-list).only
-
--- the call is one on the seat
-pub returns-clause-call : goal.returns-clause-call
-returns-clause-call g c = (called g (goal.at.returns-clause-call g c).After-list).call
-
--- it asks for the range alone
-pub returns-clause-asks : goal.returns-clause-asks
-returns-clause-asks g c = (called g (goal.at.returns-clause-asks g c).After-list).asks
-
--- the seat is outside its epoch
-pub returns-clause-outside : goal.returns-clause-outside
-returns-clause-outside g c = rests_closed c.hold_or_try-held.new.hand.part c.in-Err.ensures.free.rests
+-- the call has to begin anew
+pub returns : goal.returns
+returns g c =
+    let call = called g (goal.at.returns g c).After-list in record {
+      -- the call is one on the seat, which asks for the range alone
+      call = call.call;
+      asks = call.asks;
+      gets = tt;
+      -- the seat is outside its epoch
+      outside = rests_closed c.hold_or_try-held.new.hand.part c.in-Err.ensures.free.rests;
+      -- and holds nothing
+      held = tt;
+      stands = tt;
+      free = free_grant (is_there c.list.ensures.list c.list.ensures.there) c.in-Err.ensures.free;
+      -- each list in which it doesn't work is as it was, where no scan was open
+      only = call.only;
+    }
 
 -- it is between two calls
 pub invariant_of-seat-in-Err : goal.invariant_of-seat-in-Err
 invariant_of-seat-in-Err g c = free_seated c.hold_or_try-held.new.hand.part (is_there c.list.ensures.list c.list.ensures.there) c.in-Err.ensures.free
-
--- and holds nothing
-pub returns-clause-free : goal.returns-clause-free
-returns-clause-free g c = free_grant (is_there c.list.ensures.list c.list.ensures.there) c.in-Err.ensures.free
-
--- each list in which it doesn't work is as it was, where no scan was open
-pub returns-clause-only : goal.returns-clause-only
-returns-clause-only g c = (called g (goal.at.returns-clause-only g c).After-list).only

@@ -10,8 +10,7 @@ client_load-requires-clause-allowed g c = seat_allowed g.G.Guard.holds g.G.Guard
 -- it is made of the seat at the moment at which it is made of the hand
 pub returns-clause-made : goal.returns-clause-made
 returns-clause-made g c = seat_made g.G.Guard.holds g.G.Guard.allows g.M.Means.note c.seat.inside.hand c.args.seat.now c.seat.view_is (loads c.args.i)
-    c.client_load.result c.client_load.new.hand.part.pass.pass
-    c.client_load.ensures.made
+    c.client_load.result c.client_load.new.hand.part.pass.pass c.client_load.ensures.made
 
 -- the hand is between two calls, as before
 pub invariant_of-seat : goal.invariant_of-seat

@@ -1,4 +1,4 @@
-use Rattle.std.proofs.Common.{◌+◌, ◌*◌, sym, ap, ◌∙◌, subst, arith}
+use Rattle.std.proofs.Common.{◌+◌, ◌*◌, sym, ap, ◌∙◌, subst}
 use Rattle.std.specs.Prelude.{IsSome}
 use Rattle.list_cuts.specs.Cut.{list_count}
 use Rattle.epoch_pools.specs.Hands.{HandState}
@@ -16,61 +16,33 @@ pass_on-requires-clause-seat g c = subst (λ (h : HandState _). IsScanSeat h.par
 
 -- and its hand is inside its epoch
 pub pass_on-requires-clause-inside : goal.pass_on-requires-clause-inside
-pass_on-requires-clause-inside g c = subst (λ (h : HandState _). IsInside h.part.core) (sym c.lists_of-lists.ensures.hand)
-    (opened_in c.seat.inside.hand.part
-    (scan_seat c.seat.inside.hand.part c.seat.invariant (ap (λ (s : SeatState _). s.held) c.seat.view_is ∙ c.requires.free))
-    (subst (λ (s : SeatState _). IsSome s.scan) (sym c.seat.view_is) c.requires.inside))
+pass_on-requires-clause-inside g c = subst (λ (h : HandState _). IsInside h.part.core) (sym c.lists_of-lists.ensures.hand) (opened_in c.seat.inside.hand.part
+    (scan_seat c.seat.inside.hand.part c.seat.invariant (ap (λ (s : SeatState _). s.held) c.seat.view_is ∙ c.requires.free)) (subst
+    (λ (s : SeatState _). IsSome s.scan) (sym c.seat.view_is) c.requires.inside))
 
 -- it is between two calls still
 pub invariant_of-seat : goal.invariant_of-seat
 invariant_of-seat g c = scan_seated c.pass_on.new.hand.part c.pass_on.ensures.later.seat
 
 -- the call is one of a scan
-pub returns-clause-call : goal.returns-clause-call
-returns-clause-call g c =
-    let h = c.lists_of-lists.new.hand in
-    subst (λ (s : SeatState _). IsScanCall s (seat_state_of c.pass_on.new.hand)) (ap seat_state_of c.lists_of-lists.ensures.hand ∙ c.seat.view_is)
-    (scan_call h.table c.pass_on.new.hand.table h.part c.pass_on.new.hand.part c.pass_on.ensures.table c.pass_on.ensures.later)
-
--- with its answer and cause
-pub returns-clause-next : goal.returns-clause-next
-returns-clause-next g c = λ was opened.
-    let same = ap seat_state_of c.lists_of-lists.ensures.hand ∙ c.seat.view_is in
-    subst (λ (s : SeatState _). IsNext s (seat_state_of c.pass_on.new.hand) was c.answer_of.result) same
-    (subst (λ answer. IsNext (seat_state_of c.lists_of-lists.new.hand) (seat_state_of c.pass_on.new.hand) was answer) (sym c.answer_of.ensures)
-    (c.pass_on.ensures.next was (ap (λ (s : SeatState _). s.scan) same ∙ opened)))
-
--- at the end of the last list it stays
-pub returns-clause-ended : goal.returns-clause-ended
-returns-clause-ended g c = λ was opened ended.
-    let h = c.lists_of-lists.new.hand in
-    let same = ap seat_state_of c.lists_of-lists.ensures.hand ∙ c.seat.view_is in
-    let s = c.pass_on.ensures.ended was (ap (λ (s : SeatState _). s.scan) same ∙ opened) ended in (
-      seat_stays h.table c.pass_on.new.hand.table h.part c.pass_on.new.hand.part c.pass_on.ensures.table s.0 ∙ same,
-      c.answer_of.ensures ∙ ap scanned_as s.1,
-    )
-
--- and where it has looked at as many nodes as it may
-pub returns-clause-spent : goal.returns-clause-spent
-returns-clause-spent g c = λ was opened spent.
-    let h = c.lists_of-lists.new.hand in
-    let same = ap seat_state_of c.lists_of-lists.ensures.hand ∙ c.seat.view_is in
-    let s = c.pass_on.ensures.spent was (ap (λ (s : SeatState _). s.scan) same ∙ opened) spent in (
-      seat_stays h.table c.pass_on.new.hand.table h.part c.pass_on.new.hand.part c.pass_on.ensures.table s.0 ∙ same,
-      c.answer_of.ensures ∙ ap scanned_as s.1,
-    )
-
--- its steps are those of the lists that are left
-pub returns-clause-bound : goal.returns-clause-bound
-returns-clause-bound g c = λ was opened.
-    let h = c.lists_of-lists.new.hand in
-    let same = ap seat_state_of c.lists_of-lists.ensures.hand ∙ c.seat.view_is in
-    let shown = ap (λ (s : SeatState _). s.scan) same ∙ opened in
-    let inside = subst (λ (x : HandState _). IsInside x.part.core) (sym c.lists_of-lists.ensures.hand)
-    (opened_in c.seat.inside.hand.part
-    (scan_seat c.seat.inside.hand.part c.seat.invariant (ap (λ (s : SeatState _). s.held) c.seat.view_is ∙ c.requires.free))
-    (subst (λ (s : SeatState _). IsSome s.scan) (sym c.seat.view_is) c.requires.inside)) in
-    let list = opened_list h.part was inside shown in let most = opened_most h.part was inside shown in
-    let cut = ap (λ (t : TableShape). list_count t.cut) c.self.view_is in
-    scan_bound (list_count c.self.inside.list.cut) c.args.self.now was h.part.pass.list (16 * h.part.seats + 1) h.part.trace.taken
-    c.pass_on.new.hand.part.trace.taken c.args.seat.now.trace.taken cut list most (ap (λ (s : SeatState _). s.trace.taken) same) c.pass_on.ensures.bound
+pub returns : goal.returns
+returns g c =
+    let h = c.lists_of-lists.new.hand in let q = c.pass_on.new.hand in let done = c.pass_on.ensures in
+    let same = ap seat_state_of c.lists_of-lists.ensures.hand ∙ c.seat.view_is in record {
+      call = subst (λ (s : SeatState _). IsScanCall s (seat_state_of q)) same (scan_call h.table q.table h.part q.part done.table done.later);
+      -- with its answer and cause
+      next = λ was opened. subst (λ (s : SeatState _). IsNext s (seat_state_of q) was c.answer_of.result) same (subst (λ answer. IsNext (seat_state_of h)
+          (seat_state_of q) was answer) (sym c.answer_of.ensures) (done.next was (ap (λ (s : SeatState _). s.scan) same ∙ opened)));
+      -- at the end of the last list it stays, and where it has looked at as many nodes as it may
+      ended = λ was opened ended. let s = done.ended was (ap (λ (s : SeatState _). s.scan) same ∙ opened) ended in
+          (seat_stays h.table q.table h.part q.part done.table s.0 ∙ same, c.answer_of.ensures ∙ ap scanned_as s.1);
+      spent = λ was opened spent. let s = done.spent was (ap (λ (s : SeatState _). s.scan) same ∙ opened) spent in
+          (seat_stays h.table q.table h.part q.part done.table s.0 ∙ same, c.answer_of.ensures ∙ ap scanned_as s.1);
+      -- its steps are those of the lists that are left
+      bound = λ was opened. let shown = ap (λ (s : SeatState _). s.scan) same ∙ opened in let inside = subst (λ (x : HandState _). IsInside x.part.core)
+          (sym c.lists_of-lists.ensures.hand) (opened_in c.seat.inside.hand.part (scan_seat c.seat.inside.hand.part c.seat.invariant (ap
+          (λ (s : SeatState _). s.held) c.seat.view_is ∙ c.requires.free)) (subst (λ (s : SeatState _). IsSome s.scan) (sym c.seat.view_is)
+          c.requires.inside)) in scan_bound (list_count c.self.inside.list.cut) c.args.self.now was h.part.pass.list (16 * h.part.seats + 1) h.part.trace.taken
+          q.part.trace.taken c.args.seat.now.trace.taken (ap (λ (t : TableShape). list_count t.cut) c.self.view_is) (opened_list h.part was inside shown)
+          (opened_most h.part was inside shown) (ap (λ (s : SeatState _). s.trace.taken) same) done.bound;
+    }

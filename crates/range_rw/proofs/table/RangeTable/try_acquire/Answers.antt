@@ -32,30 +32,23 @@ left g c = record {
 
 -- each list's ready nodes are as before or without the first
 ready : (g : Over) (c : After-list g) (j : ℕ) → IsReadyLeft (pools_at c.args.seat.now j).ready (pools_at (seat_state_of c.try_hold-tried.new.hand) j).ready
-ready g c j =
-    let p = c.seat.inside.hand.part in let l = left g c in
-    subst (λ (s : SeatState _). IsReadyLeft (pools_at s j).ready (pools_at (seat_state_of c.try_hold-tried.new.hand) j).ready) c.seat.view_is
-    (ready_at c.seat.inside.hand.table c.try_hold-tried.new.hand.table p c.try_hold-tried.new.hand.part
-    (l.lists ∙ (try_lists p c.leave_and_count-lists.new.hand.part l.later).lists)
-    (λ i. ready_from (l.ready i) (c.try_hold-tried.ensures.ready i)) j)
+ready g c j = let p = c.seat.inside.hand.part in let l = left g c in subst (λ (s : SeatState _). IsReadyLeft (pools_at s j).ready (pools_at
+    (seat_state_of c.try_hold-tried.new.hand) j).ready) c.seat.view_is (ready_at c.seat.inside.hand.table c.try_hold-tried.new.hand.table p
+    c.try_hold-tried.new.hand.part (l.lists ∙ (try_lists p c.leave_and_count-lists.new.hand.part l.later).lists) (λ i. ready_from (l.ready i)
+    (c.try_hold-tried.ensures.ready i)) j)
 
 -- so many lists have so many steps
 each : (g : Over) (c : After-list g) (k : ℕ) → TakesMany c.args.self.now.cut c.args.range k
     → c.try_hold-tried.new.hand.part.trace.taken ≤ c.args.seat.now.trace.taken + try_steps c.args.self.now.seats k
-each g c k takes =
-    let b = c.try_hold-tried.ensures.each k (subst (λ (t : TableShape). TakesMany t.cut c.args.range k) (sym c.self.view_is) takes) in
+each g c k takes = let b = c.try_hold-tried.ensures.each k (subst (λ (t : TableShape). TakesMany t.cut c.args.range k) (sym c.self.view_is) takes) in
     let all = ap (λ n. try_steps n k) (c.try_hold-tried.ensures.seats ∙ ap (λ (t : TableShape). t.seats) c.self.view_is) in
-    let l = c.leave_and_count-lists.ensures.bound in
-    let w = ap (λ (s : SeatState _). s.trace.taken) c.seat.view_is in omega arith
+    let l = c.leave_and_count-lists.ensures.bound in let w = ap (λ (s : SeatState _). s.trace.taken) c.seat.view_is in omega arith
 
 -- and one list those of one
 bound : (g : Over) (c : After-list g) → TakesAlone c.args.self.now.cut c.args.range
     → c.try_hold-tried.new.hand.part.trace.taken ≤ c.args.seat.now.trace.taken + (64 + 386 * c.args.self.now.seats)
-bound g c alone =
-    let n = c.try_hold-tried.ensures.narrow (subst (λ (t : TableShape). TakesAlone t.cut c.args.range) (sym c.self.view_is) alone) in
-    let s = c.try_hold-tried.ensures.seats in
-    let t = ap (λ (t : TableShape). t.seats) c.self.view_is in
-    let l = c.leave_and_count-lists.ensures.bound in
+bound g c alone = let n = c.try_hold-tried.ensures.narrow (subst (λ (t : TableShape). TakesAlone t.cut c.args.range) (sym c.self.view_is) alone) in
+    let s = c.try_hold-tried.ensures.seats in let t = ap (λ (t : TableShape). t.seats) c.self.view_is in let l = c.leave_and_count-lists.ensures.bound in
     let w = ap (λ (s : SeatState _). s.trace.taken) c.seat.view_is in omega arith
 
 -- whichever lists it takes, no more than those of one for each
@@ -79,131 +72,83 @@ try_hold-tried-requires-clause-free g c = seated_free c.seat.inside.hand.part c.
     (seated_none c.seat.inside.hand.part c.seat.invariant (ap (λ (s : SeatState _). s.held) c.seat.view_is ∙ c.requires.free))
     c.leave_and_count-lists.ensures.later.pass c.leave_and_count-lists.ensures.free c.leave_and_count-lists.ensures.rests
 
--- the call is one on the seat
-pub returns-in-Ok-clause-call : goal.returns-in-Ok-clause-call
-returns-in-Ok-clause-call g c = (called g (goal.at.returns-in-Ok-clause-call g c).After-list).call
-
--- it asks for the range alone
-pub returns-in-Ok-clause-asks : goal.returns-in-Ok-clause-asks
-returns-in-Ok-clause-asks g c = (called g (goal.at.returns-in-Ok-clause-asks g c).After-list).asks
-
--- the seat is outside its epoch
-pub returns-in-Ok-clause-outside : goal.returns-in-Ok-clause-outside
-returns-in-Ok-clause-outside g c = rests_closed c.try_hold-tried.new.hand.part c.in-Ok.ensures.held.rests
+-- the range is held
+pub returns-in-Ok : goal.returns-in-Ok
+returns-in-Ok g c =
+    let h = (goal.at.returns-in-Ok g c).After-list in let call = called g h in record {
+      -- the call is one on the seat, which asks for the range alone
+      call = call.call;
+      asks = call.asks;
+      -- the seat is outside its epoch
+      outside = rests_closed c.try_hold-tried.new.hand.part c.in-Ok.ensures.held.rests;
+      -- and holds the range
+      held = alone_grant (is_there c.list.ensures.list c.list.ensures.there) c.in-Ok.ensures.held c.in-Ok.ensures.counts c.in-Ok.ensures.one;
+      -- in the list that it takes alone, or in list 0
+      stands = subst (λ (t : TableShape). StandsIn t.cut c.args.range (counted_in c.try_hold-tried.new.hand.part.pass.standing)) c.self.view_is
+          c.in-Ok.ensures.stands;
+      free = tt;
+      cause = tt;
+      told = tt;
+      long = tt;
+      -- the ready nodes of list 0, and those of every list
+      ready = ready g h 0;
+      further = ready g h;
+      -- each list in which it doesn't work is as it was, where no scan was open
+      only = call.only;
+      -- the steps of a range that takes one list, of any by the number of all lists, and by how many it takes
+      bound = bound g h;
+      wide = wide g h;
+      each = each g h;
+      -- which are counted
+      counted = let a = c.leave_and_count-lists.ensures.counted in let b = c.try_hold-tried.ensures.counted in
+          let w = ap (λ (s : SeatState _). s.trace.taken) c.seat.view_is in omega arith;
+    }
 
 -- it is between two calls
 pub invariant_of-seat : goal.invariant_of-seat
 invariant_of-seat g c = alone_seated c.try_hold-tried.new.hand.part.pass.list (record { range = c.args.range; mode = c.args.mode })
     c.try_hold-tried.new.hand.part (is_there c.list.ensures.list c.list.ensures.there) c.in-Ok.ensures.held c.in-Ok.ensures.counts c.in-Ok.ensures.one
 
--- and holds the range
-pub returns-in-Ok-clause-held : goal.returns-in-Ok-clause-held
-returns-in-Ok-clause-held g c = alone_grant (is_there c.list.ensures.list c.list.ensures.there) c.in-Ok.ensures.held c.in-Ok.ensures.counts c.in-Ok.ensures.one
-
--- in the list that it takes alone, or in list 0
-pub returns-in-Ok-clause-stands : goal.returns-in-Ok-clause-stands
-returns-in-Ok-clause-stands g c =
-    subst (λ (t : TableShape). StandsIn t.cut c.args.range (counted_in c.try_hold-tried.new.hand.part.pass.standing)) c.self.view_is c.in-Ok.ensures.stands
-
--- the ready nodes of list 0
-pub returns-in-Ok-clause-ready : goal.returns-in-Ok-clause-ready
-returns-in-Ok-clause-ready g c = ready g (goal.at.returns-in-Ok-clause-ready g c).After-list 0
-
--- and those of every list
-pub returns-in-Ok-clause-further : goal.returns-in-Ok-clause-further
-returns-in-Ok-clause-further g c = ready g (goal.at.returns-in-Ok-clause-further g c).After-list
-
--- each list in which it doesn't work is as it was, where no scan was open
-pub returns-in-Ok-clause-only : goal.returns-in-Ok-clause-only
-returns-in-Ok-clause-only g c = (called g (goal.at.returns-in-Ok-clause-only g c).After-list).only
-
--- the steps of a range that takes one list
-pub returns-in-Ok-clause-bound : goal.returns-in-Ok-clause-bound
-returns-in-Ok-clause-bound g c = bound g (goal.at.returns-in-Ok-clause-bound g c).After-list
-
--- of any, by the number of all lists
-pub returns-in-Ok-clause-wide : goal.returns-in-Ok-clause-wide
-returns-in-Ok-clause-wide g c = wide g (goal.at.returns-in-Ok-clause-wide g c).After-list
-
--- and by how many it takes
-pub returns-in-Ok-clause-each : goal.returns-in-Ok-clause-each
-returns-in-Ok-clause-each g c = each g (goal.at.returns-in-Ok-clause-each g c).After-list
-
--- which are counted
-pub returns-in-Ok-clause-counted : goal.returns-in-Ok-clause-counted
-returns-in-Ok-clause-counted g c =
-    let a = c.leave_and_count-lists.ensures.counted in let b = c.try_hold-tried.ensures.counted in
-    let w = ap (λ (s : SeatState _). s.trace.taken) c.seat.view_is in omega arith
-
--- the call is one on the seat
-pub returns-in-Err-clause-call : goal.returns-in-Err-clause-call
-returns-in-Err-clause-call g c = (called g (goal.at.returns-in-Err-clause-call g c).After-list).call
-
--- it asks for the range alone
-pub returns-in-Err-clause-asks : goal.returns-in-Err-clause-asks
-returns-in-Err-clause-asks g c = (called g (goal.at.returns-in-Err-clause-asks g c).After-list).asks
-
--- the seat is outside its epoch
-pub returns-in-Err-clause-outside : goal.returns-in-Err-clause-outside
-returns-in-Err-clause-outside g c = rests_closed c.try_hold-tried.new.hand.part c.in-Err.ensures.free.rests
+-- the range is refused
+pub returns-in-Err : goal.returns-in-Err
+returns-in-Err g c =
+    let h = (goal.at.returns-in-Err g c).After-list in let call = called g h in
+    let none = free_grant (is_there c.list.ensures.list c.list.ensures.there) c.in-Err.ensures.free in record {
+      -- the call is one on the seat, which asks for the range alone
+      call = call.call;
+      asks = call.asks;
+      -- the seat is outside its epoch
+      outside = rests_closed c.try_hold-tried.new.hand.part c.in-Err.ensures.free.rests;
+      -- and holds nothing
+      held = tt;
+      stands = tt;
+      free = none;
+      -- the cause of the refusal, in the words of the seat
+      cause = subst (λ (s : SeatState _). IsCause s (seat_state_of c.try_hold-tried.new.hand) (record { range = c.args.range; mode = c.args.mode })
+          c.in-Err.why) c.seat.view_is (seat_cause_in (left g h) c.self.inside.list.cut (record { range = c.args.range; mode = c.args.mode }) c.in-Err.why
+          c.in-Err.ensures.cause);
+      -- the list that it tells is one in which the call works
+      told = subst (λ (t : TableShape). TellsList t.cut c.args.range c.in-Err.why) c.self.view_is
+          (seat_told_in (left g h) c.self.inside.list.cut (record { range = c.args.range; mode = c.args.mode }) c.in-Err.why c.in-Err.ensures.cause);
+      -- Long comes exactly where a walk of the call is spent
+      long = subst (λ (s : SeatState _). IsLongRefusal c.in-Err.why ↔ IsSpentIn c.args.self.now.seats s (seat_state_of c.try_hold-tried.new.hand))
+          c.seat.view_is (seat_long_in (left g h) c.self.inside.list.cut c.args.self.now.seats (c.try_hold-tried.ensures.later.seats ∙
+          (c.try_hold-tried.ensures.seats ∙ ap (λ (t : TableShape). t.seats) c.self.view_is)) (record { range = c.args.range; mode = c.args.mode }) c.in-Err.why
+          c.in-Err.ensures.cause none (none_here c.try_hold-tried.new.hand.part c.in-Err.ensures.free) c.in-Err.ensures.long);
+      -- the ready nodes of list 0, and those of every list
+      ready = ready g h 0;
+      further = ready g h;
+      -- each list in which it doesn't work is as it was, where no scan was open
+      only = call.only;
+      -- the steps of a range that takes one list, of any by the number of all lists, and by how many it takes
+      bound = bound g h;
+      wide = wide g h;
+      each = each g h;
+      -- which are counted
+      counted = let a = c.leave_and_count-lists.ensures.counted in let b = c.try_hold-tried.ensures.counted in
+          let w = ap (λ (s : SeatState _). s.trace.taken) c.seat.view_is in omega arith;
+    }
 
 -- it is between two calls
 pub invariant_of-seat-in-Err : goal.invariant_of-seat-in-Err
 invariant_of-seat-in-Err g c = free_seated c.try_hold-tried.new.hand.part (is_there c.list.ensures.list c.list.ensures.there) c.in-Err.ensures.free
-
--- and holds nothing
-pub returns-in-Err-clause-free : goal.returns-in-Err-clause-free
-returns-in-Err-clause-free g c = free_grant (is_there c.list.ensures.list c.list.ensures.there) c.in-Err.ensures.free
-
--- the cause of the refusal, in the words of the seat
-pub returns-in-Err-clause-cause : goal.returns-in-Err-clause-cause
-returns-in-Err-clause-cause g c =
-    subst (λ (s : SeatState _). IsCause s (seat_state_of c.try_hold-tried.new.hand) (record { range = c.args.range; mode = c.args.mode }) c.in-Err.why)
-    c.seat.view_is (seat_cause_in (left g (goal.at.returns-in-Err-clause-cause g c).After-list) c.self.inside.list.cut
-    (record { range = c.args.range; mode = c.args.mode }) c.in-Err.why c.in-Err.ensures.cause)
-
--- the list that it tells is one in which the call works
-pub returns-in-Err-clause-told : goal.returns-in-Err-clause-told
-returns-in-Err-clause-told g c = subst (λ (t : TableShape). TellsList t.cut c.args.range c.in-Err.why) c.self.view_is
-    (seat_told_in (left g (goal.at.returns-in-Err-clause-told g c).After-list) c.self.inside.list.cut
-    (record { range = c.args.range; mode = c.args.mode }) c.in-Err.why c.in-Err.ensures.cause)
-
--- Long comes exactly where a walk of the call is spent
-pub returns-in-Err-clause-long : goal.returns-in-Err-clause-long
-returns-in-Err-clause-long g c =
-    subst (λ (s : SeatState _). IsLongRefusal c.in-Err.why ↔ IsSpentIn c.args.self.now.seats s (seat_state_of c.try_hold-tried.new.hand)) c.seat.view_is
-    (seat_long_in (left g (goal.at.returns-in-Err-clause-long g c).After-list) c.self.inside.list.cut c.args.self.now.seats
-    (c.try_hold-tried.ensures.later.seats ∙ (c.try_hold-tried.ensures.seats ∙ ap (λ (t : TableShape). t.seats) c.self.view_is))
-    (record { range = c.args.range; mode = c.args.mode }) c.in-Err.why c.in-Err.ensures.cause
-    (free_grant (is_there c.list.ensures.list c.list.ensures.there) c.in-Err.ensures.free)
-    (none_here c.try_hold-tried.new.hand.part c.in-Err.ensures.free) c.in-Err.ensures.long)
-
--- the ready nodes of list 0
-pub returns-in-Err-clause-ready : goal.returns-in-Err-clause-ready
-returns-in-Err-clause-ready g c = ready g (goal.at.returns-in-Err-clause-ready g c).After-list 0
-
--- and those of every list
-pub returns-in-Err-clause-further : goal.returns-in-Err-clause-further
-returns-in-Err-clause-further g c = ready g (goal.at.returns-in-Err-clause-further g c).After-list
-
--- each list in which it doesn't work is as it was, where no scan was open
-pub returns-in-Err-clause-only : goal.returns-in-Err-clause-only
-returns-in-Err-clause-only g c = (called g (goal.at.returns-in-Err-clause-only g c).After-list).only
-
--- the steps of a range that takes one list
-pub returns-in-Err-clause-bound : goal.returns-in-Err-clause-bound
-returns-in-Err-clause-bound g c = bound g (goal.at.returns-in-Err-clause-bound g c).After-list
-
--- of any, by the number of all lists
-pub returns-in-Err-clause-wide : goal.returns-in-Err-clause-wide
-returns-in-Err-clause-wide g c = wide g (goal.at.returns-in-Err-clause-wide g c).After-list
-
--- and by how many it takes
-pub returns-in-Err-clause-each : goal.returns-in-Err-clause-each
-returns-in-Err-clause-each g c = each g (goal.at.returns-in-Err-clause-each g c).After-list
-
--- which are counted
-pub returns-in-Err-clause-counted : goal.returns-in-Err-clause-counted
-returns-in-Err-clause-counted g c =
-    let a = c.leave_and_count-lists.ensures.counted in let b = c.try_hold-tried.ensures.counted in
-    let w = ap (λ (s : SeatState _). s.trace.taken) c.seat.view_is in omega arith
