@@ -18,8 +18,7 @@ module _ {P : Type 0} (rows : List ℕ) (number : P → ℕ) where
   pub come_first : (kinds : ℕ → Option Kind) (first : P) (page : ℕ) → ShowFrom 0 rows kinds → number first ≡ 0 → page ≡ 0
       → IsCome rows number page (record { at = first; gone = 0; kind = None; next = Some first; end = 0 })
   come_first kinds first page show zero none =
-      let f = first_row rows kinds show in
-      let some = f.0 in
+      let f = first_row rows kinds show in let some = f.0 in
       let at : number first + 0 ≡ 0 = omega arith in
       record {
         before = record { there = omega arith; ahead = omega arith; behind = λ l. absurd (omega arith) };
@@ -63,8 +62,7 @@ module _ {P : Type 0} (rows : List ℕ) (number : P → ℕ) where
       let one : number next.at ≡ number come.at = ap number same in
       let e : i + 1 ≡ come_to number next = omega arith in
       let back : i ≡ come_to number next - 1 = omega arith in
-      let own = row_pages rows kinds i (get_or rows i 0) (row_start (get_or rows i 0)) (rows_start (drop (i + 1) rows)) (row_kind (get_or rows i 0)) show there
-      refl refl refl refl in
+      let own = row_pages rows kinds i show there refl refl refl in
       let some = own.some in
       let from : at ≡ min (rows_start (drop i rows)) hi = starts ∙ ap (λ x. min x hi) is.end in
       let until : to ≡ min (rows_start (drop (i + 1) rows)) hi = ends ∙ ap (λ x. min x hi) end_is in
@@ -81,12 +79,8 @@ module _ {P : Type 0} (rows : List ℕ) (number : P → ℕ) where
       → (p : ℕ) → page ≤ p → p < come.end → kinds p ≡ come.kind
   come_kind kinds page come show is p low high = elim (cases_lt 0 (come_to number come)) [
     | inl more ↦
-        let before = is.before in
-        let there = before.there in
-        let behind = before.behind more in
-        let end = is.end in
-        let r = last_pages rows kinds (come_to number come) (row_start (get_or rows (come_to number come - 1) 0)) (rows_start (drop (come_to number come) rows))
-        come.kind show more there refl (is.kind more) refl in
+        let before = is.before in let there = before.there in let behind = before.behind more in let end = is.end in
+        let r = last_pages rows kinds (come_to number come) show more there refl (is.kind more) refl in
         let b = r.begins in
         r.all p (omega arith) (omega arith)
     | inr ge ↦ let end = is.end in absurd (none_from rows kinds (come_to number come) p show (omega arith) (omega arith))

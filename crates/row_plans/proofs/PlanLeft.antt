@@ -1,17 +1,18 @@
 -- The rows that a call leaves stand for the area list with the changed kinds: so the plan of a call is the model's
 -- answer.
-use Rattle.std.proofs.Common.{◌≡◌, ◌≢◌, ℕ, suc, ◌+◌, ◌/◌, ◌%◌, ◌<◌, ◌≤◌, List, [], ◌∷◌, length}
-use Rattle.std.proofs.Common.{Bool, true, false, cond, eqb, sym, refl, ap, ◌∙◌, ◌⊎◌, subst, arith, inl, inr}
+use Rattle.std.proofs.Common.{◌≡◌, ◌≢◌, ℕ, suc, ◌+◌, ◌/◌, ◌%◌, ◌<◌, ◌≤◌, List, [], ◌∷◌, length, Bool, true, false, cond, eqb, sym, refl, ap, ◌∙◌, ◌⊎◌, subst}
+use Rattle.std.proofs.Common.{arith, inl, inr}
 use Rattle.std.proofs.lemmas.Bool.{cases_lt, lt-ltb, le-ltb}
 use Rattle.std.proofs.lemmas.List.Elements.{All-nil, All-cons}
 use Rattle.std.specs.Prelude.{All, Option, Some, None}
+use Rattle.std.specs.List.{splice}
 use Rattle.page_types.specs.declared.TheConstants.{LIMIT, ROWS}
 use Rattle.page_types.specs.declared.calls.Kind.{Kind}
 use Rattle.page_types.specs.declared.calls.Call.{Call}
 use Rattle.page_types.specs.declared.calls.Reply.{Reply}
 use Rattle.page_types.specs.declared.calls.Reply.TheVariants.{Refused}
 use Rattle.page_types.specs.declared.calls.Why.{Why}
-use Rattle.page_types.specs.Named.{IsNamedKind, IsNamedOption, IsNamedCall}
+use Rattle.page_types.specs.Named.{IsNamedKind, IsNamedOption}
 use Rattle.page_types.specs.PlainReply.{plain_reply}
 use Rattle.space_model.specs.declared.areas.Area.{Area}
 use Rattle.space_model.specs.declared.judged.Change.{Change}
@@ -21,13 +22,12 @@ use Rattle.space_model.specs.Effect.{patched, AreRising}
 use Rattle.space_model.specs.Answers.{full_reply, Answers, IsEffect}
 use Rattle.space_model.specs.Answers.Effect.{changes}
 use Rattle.space_model.specs.Answers.Answers.{by_arguments, refused, kept}
-use Rattle.space_model.specs.Judges.{IsJudged, IsNamedChange, patches_of}
+use Rattle.space_model.specs.Judges.{IsJudged, patches_of}
 use Rattle.space_model.specs.Judges.Makes.{within, beyond}
 use Rattle.space_model.proofs.Changing.{kind_at-limit, rising_end, patched-behind}
 use Rattle.space_model.proofs.Effects.{Says, says}
 use Rattle.space_model.proofs.Effects.Says.{says_at, says_done}
 use Rattle.space_model.proofs.Judgements.{made_answers}
-use Rattle.space_model.proofs.Stepping.{patches_few, judged-named}
 use Rattle.space_model.proofs.SomeAnswer.{leaves_areas}
 use Rattle.row_plans.specs.RowWords.{row_start, row_kind}
 use Rattle.row_plans.specs.RowLists.{rows_start, DiffersFrom, ShowFrom, IsBareGap, with_row, areas_from}
@@ -36,7 +36,6 @@ use Rattle.row_plans.specs.declared.planning.Cut.{Cut}
 use Rattle.row_plans.specs.Plans.{PlanShows, IsRowList, spliced, IsPlan, ChangesPages, LeavesRows}
 use Rattle.row_plans.proofs.RowLists.{AreNext, are_next, areas_back}
 use Rattle.row_plans.proofs.Splices.{some_shown}
-use Rattle.std.specs.List.{splice}
 
 -- the rows are as many as the model counts of their areas
 gap_one : (lo hi : ℕ) → lo < hi → gap_between lo hi ≡ 1
@@ -87,7 +86,7 @@ pub as_they_were : {P : Type 0} (number : P → ℕ) (old more : List ℕ) (cut 
 as_they_were number old more cut first end none = λ i. splice old (first i) (first i + end i) (none i)
 
 -- a call that changes nothing plans the rows as they are
-module _ (old plan : List ℕ) (c : Call) (reply : Reply) (count : ℕ) (is : IsRowList old) (same : plan ≡ old) (counts : count ≡ length old) where
+module _ {old plan : List ℕ} (c : Call) {reply : Reply} {count : ℕ} (is : IsRowList old) (same : plan ≡ old) (counts : count ≡ length old) where
   plan_same : Answers (areas_from old) c reply (areas_from old) → IsPlan c reply count plan (areas_from old)
   plan_same answers = record {
     left = areas_from old;
@@ -111,11 +110,7 @@ module _ (old plan : List ℕ) (c : Call) (reply : Reply) (count : ℕ) (is : Is
   plan_kept said open_still keeps says =
       plan_same (kept open_still (subst (λ r. IsJudged (kind_at (areas_from old)) c (Keeps r)) (sym says) keeps) refl)
 
--- a change that was judged rightly has two patches at most
-pub judged_few : (kinds : ℕ → Option Kind) (c : Call) (change : Change) → IsJudged kinds c (Changes change) → length (patches_of change) ≤ 2
-judged_few kinds c change judged = patches_few change
-
--- it isn't answered by a refusal
+-- a change that was judged rightly isn't answered by a refusal
 says_unrefused : (reply : Reply) (why : Why) → Says reply → reply ≢ Refused why
 says_unrefused reply why (says_at n says) refusal = cc
 says_unrefused reply why (says_done says) refusal = cc
@@ -158,16 +153,11 @@ areas_named [] = All-nil (λ x. IsNamedKind x.kind)
 areas_named (word ∷ rest) =
     with_named (row_start word) (row_kind word) (rows_start rest) (areas_from rest) (word_named word) (areas_named rest)
 
--- and a change of them by a call with named bits
-pub judged_named : (rows : List ℕ) (c : Call) (change : Change) → IsNamedCall c → IsJudged (kind_at (areas_from rows)) c (Changes change)
-    → IsNamedChange change
-judged_named rows c change named judged = judged-named (areas_from rows) c change (areas_named rows) named judged
-
 -- a change that was judged rightly, as it is made, is the plan
-pub plan_made : (old plan : List ℕ) (c : Call) (change : Change) (reply : Reply) (count : ℕ) → plain_reply c ≡ None
+pub plan_made : (old : List ℕ) {plan : List ℕ} (c : Call) {change : Change} {reply : Reply} {count : ℕ} → plain_reply c ≡ None
     → IsJudged (kind_at (areas_from old)) c (Changes change) → IsMade change reply count plan (areas_from old)
     → IsPlan c reply count plan (areas_from old)
-plan_made old plan c change reply count open_still judged m = record {
+plan_made old c {change} {reply} open_still judged m = record {
   left = m.left;
   answers = made_answers (areas_from old) c change reply m.left open_still judged m.made;
   counted = m.counted;
@@ -175,7 +165,7 @@ plan_made old plan c change reply count open_still judged m = record {
 }
 
 -- rows that show the kinds of a change are those of the area list that it leaves
-module _ (old rows : List ℕ) (change : Change) (is : IsRowList old) (rising : AreRising 0 (patches_of change))
+module _ {old : List ℕ} (rows : List ℕ) (change : Change) (is : IsRowList old) (rising : AreRising 0 (patches_of change))
     (shown : ShowFrom 0 rows (patched (patches_of change) (kind_at (areas_from old)))) where
   left_kinds : HasKinds (patched (patches_of change) (kind_at (areas_from old))) (areas_from rows)
   left_kinds =
@@ -197,9 +187,9 @@ module _ (old rows : List ℕ) (change : Change) (is : IsRowList old) (rising : 
   left_count = rows_counted 0 rows (patched (patches_of change) (kind_at (areas_from old))) shown
 
   -- where the changed rows are at most ROWS, the change is made with its reply and these rows
-  pub made_done : (reply : Reply) (count : ℕ) → length rows ≤ ROWS → All IsBareGap rows
+  pub made_done : {reply : Reply} {count : ℕ} → length rows ≤ ROWS → All IsBareGap rows
       → reply ≡ change.reply → count ≡ length rows → IsMade change reply count rows (areas_from old)
-  made_done reply count few gaps says counts = record {
+  made_done few gaps says counts = record {
     left = areas_from rows;
     made = within left_kinds (subst (λ (n : ℕ). n ≤ ROWS) left_count few) says;
     counted = counts ∙ left_count;
@@ -212,9 +202,9 @@ module _ (old rows : List ℕ) (change : Change) (is : IsRowList old) (rising : 
   }
 
   -- where they are more than ROWS, it has the full reply, and the rows are as they were
-  pub made_full : (plan : List ℕ) (reply : Reply) (count : ℕ) → ROWS < length rows → plan ≡ old
+  pub made_full : {plan : List ℕ} {reply : Reply} {count : ℕ} → ROWS < length rows → plan ≡ old
       → reply ≡ full_reply change.full (length rows) → count ≡ length old → IsMade change reply count plan (areas_from old)
-  made_full plan reply count many same says counts = record {
+  made_full many same says counts = record {
     left = areas_from old;
     made = beyond (areas_from rows) left_kinds (subst (λ (n : ℕ). ROWS < n) left_count many)
         (says ∙ ap (full_reply change.full) left_count) refl;

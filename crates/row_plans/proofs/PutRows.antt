@@ -1,9 +1,9 @@
 -- Rows that are put together show what was put: a stretch at the end, and rows cut out of others.
-use Rattle.std.proofs.Common.{◌≡◌, ◌≢◌, ℕ, zero, suc, ◌+◌, ◌<◌, ◌≤◌, List, [], ◌∷◌, ◌++◌, ◌-◌, min, get_or, take, drop, length}
-use Rattle.std.proofs.Common.{Bool, true, false, cond, sym, refl, ap, ◌∙◌, subst, arith, inl, inr}
-use Rattle.std.proofs.lemmas.Bool.{cases_lt}
-use Rattle.std.proofs.Math.Seq.{drop-nil}
+use Rattle.std.proofs.Common.{◌≡◌, ◌≢◌, ℕ, zero, suc, ◌+◌, ◌<◌, ◌≤◌, List, [], ◌∷◌, ◌++◌, ◌-◌, min, get_or, take, drop, length, Bool, true, false, cond, sym}
+use Rattle.std.proofs.Common.{refl, ap, ◌∙◌, subst, arith, inl, inr}
+use Rattle.std.proofs.lemmas.Bool.{cases_lt, true≢false}
 use Rattle.std.proofs.lemmas.List.{length-drop}
+use Rattle.std.proofs.Math.Seq.{drop-nil}
 use Rattle.std.specs.Prelude.{Option}
 use Rattle.page_types.specs.declared.calls.Kind.{Kind}
 use Rattle.page_types.specs.Named.{IsNamedOption}
@@ -13,9 +13,6 @@ use Rattle.row_plans.specs.RowWords.{row_start, row_kind, row_word}
 use Rattle.row_plans.specs.RowLists.{rows_start, DiffersFrom, ShowFrom}
 use Rattle.row_plans.specs.Planning.{start_or, ShowTo, ends_with, put, GoesOn, StartBefore}
 use Rattle.row_plans.proofs.ReadBack.{start_back, kind_back}
-
-true_false : true ≡ false → ⊥
-true_false e = cc
 
 -- what is put leaves the first row's start and kind
 module _ (page end : ℕ) (kind : Option Kind) where
@@ -68,7 +65,7 @@ module _ (page end : ℕ) (kind : Option Kind) (kinds : ℕ → Option Kind) (na
   pub put_shows : (from : ℕ) (rows : List ℕ) → ShowTo from rows page kinds → ShowTo from (put rows page kind) end kinds
   put_shows from [] show = subst (λ (x : ℕ). ShowTo x (row_word page kind ∷ []) end kinds) (sym show) put_new
   put_shows from (word ∷ []) show = put_last from word (same_option (row_kind word) kind) (same_option-true (row_kind word) kind)
-      (λ e same. true_false (sym (same_option-same (row_kind word)) ∙ (ap (same_option (row_kind word)) same ∙ e))) show
+      (λ e same. true≢false (sym (same_option-same (row_kind word)) ∙ (ap (same_option (row_kind word)) same ∙ e))) show
   put_shows from (word ∷ next ∷ rest) show =
       let start : start_or (put (next ∷ rest) page kind) end ≡ row_start next = put_start page end kind next rest in (
         show.0,
@@ -139,7 +136,7 @@ no_part first rows from to kinds le none show = let e : from ≡ to = omega arit
 
 -- a row whose kind is the last one's isn't of another kind
 pub ends_other : (rows : List ℕ) (kind other : Option Kind) → ends_with rows kind ≡ true → kind ≢ other → ends_with rows other ≡ false
-ends_other [] kind other e differs = absurd (true_false (sym e))
+ends_other [] kind other e differs = absurd (true≢false (sym e))
 ends_other (word ∷ []) kind other e differs = same_option-false (row_kind word) other (λ same. differs (sym (same_option-true (row_kind word) kind e) ∙ same))
 ends_other (word ∷ next ∷ rest) kind other e differs = ends_other (next ∷ rest) kind other e differs
 
@@ -159,7 +156,7 @@ append_shows from (word ∷ []) (next ∷ rest) page end kinds some show differs
     let start : row_start next ≡ page = then.0 in (
       show.0,
       subst (λ (x : ℕ). from < x) (sym start) show.1,
-      (λ e. true_false (sym (same_option-same (row_kind word)) ∙ (ap (same_option (row_kind word)) e ∙ differs next rest refl))),
+      (λ e. true≢false (sym (same_option-same (row_kind word)) ∙ (ap (same_option (row_kind word)) e ∙ differs next rest refl))),
       (λ p low high. show.3 p low (subst (λ (x : ℕ). p < x) start high)),
       subst (λ (x : ℕ). ShowTo x (next ∷ rest) end kinds) (sym start) then,
     )

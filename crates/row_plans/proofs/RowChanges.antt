@@ -1,12 +1,11 @@
 -- What a change makes of rows, step by step: the row before it, the rows that come, and the rows that stay behind.
-use Rattle.std.proofs.Common.{◌≡◌, ℕ, zero, suc, ◌+◌, ◌-◌, ◌<◌, ◌≤◌, List, [], ◌∷◌, ◌++◌, length, take, drop, get_or, min, sym, refl, subst, arith, inl, inr}
+use Rattle.std.proofs.Common.{◌≡◌, ℕ, zero, suc, ◌+◌, ◌-◌, ◌<◌, ◌≤◌, List, [], ◌∷◌, ◌++◌, length, take, drop, min, sym, refl, subst, arith, inl, inr}
 use Rattle.std.proofs.lemmas.Bool.{cases_lt}
 use Rattle.std.proofs.lemmas.List.Elements.{All-append, All-take, All-drop}
 use Rattle.std.specs.List.{splice}
 use Rattle.std.specs.Prelude.{All, Option}
 use Rattle.page_types.specs.declared.TheConstants.{LIMIT}
 use Rattle.page_types.specs.declared.calls.Kind.{Kind}
-use Rattle.row_plans.specs.RowWords.{row_start, row_kind}
 use Rattle.row_plans.specs.RowLists.{rows_start, ShowFrom, IsBareGap}
 use Rattle.row_plans.specs.Planning.{ShowTo, StartBefore, GoesOn}
 use Rattle.row_plans.proofs.RowPages.{row_pages, first_row}
@@ -53,10 +52,8 @@ module _ (rows : List ℕ) (kinds : ℕ → Option Kind) (show : ShowFrom 0 rows
     behind = λ some.
         let there = come.there in
         let lt : begin - 1 < length rows = omega arith in
-        let r = row_pages rows kinds (begin - 1) (get_or rows (begin - 1) 0) (row_start (get_or rows (begin - 1) 0)) (rows_start (drop (begin - 1 + 1) rows))
-        (row_kind (get_or rows (begin - 1) 0)) show lt refl refl refl refl in
-        let starts = r.begins in
-        let some_page = r.some in
+        let r = row_pages rows kinds (begin - 1) show lt refl refl refl in
+        let starts = r.begins in let some_page = r.some in
         let next : begin - 1 + 1 ≡ begin = omega arith in
         let up : rows_start (drop (begin - 1) rows) < rows_start (drop (begin - 1 + 1) rows) = omega arith in
         subst (λ (n : ℕ). rows_start (drop (begin - 1) rows) < rows_start (drop n rows)) next up;
@@ -79,8 +76,7 @@ module _ (rows : List ℕ) (kinds : ℕ → Option Kind) (show : ShowFrom 0 rows
       → last ≤ rows_start (drop end rows) → ((p : ℕ) → last ≤ p → p < LIMIT → after p ≡ kinds p)
       → ShowFrom 0 (splice rows begin end more) after
   made_shows more end last after limit below come_shows differs ahead behind =
-      let there = come.there in
-      let low = begins_low in
+      let there = come.there in let low = begins_low in
       splice_shows rows more begin end kinds after show (omega arith) (λ p lt. below p (omega arith))
       (λ some in_space. below (rows_start (drop begin rows)) (begins_below some))
       come_shows differs (λ p from high. behind p (omega arith) high)

@@ -1,7 +1,7 @@
 -- Row words and area lists: the rows of an area list show its kinds, and rows that show kinds are those of one area
 -- list.
-use Rattle.std.proofs.Common.{◌≡◌, ◌≢◌, ℕ, zero, suc, ◌+◌, ◌<◌, ◌≤◌, List, [], ◌∷◌, ◌++◌, length, get_or, true, false}
-use Rattle.std.proofs.Common.{cond, sym, refl, ap, ◌∙◌, subst, arith, inl, inr, length-append}
+use Rattle.std.proofs.Common.{◌≡◌, ◌≢◌, ℕ, zero, suc, ◌+◌, ◌<◌, ◌≤◌, List, [], ◌∷◌, ◌++◌, length, get_or, true, false, cond, sym, refl, ap, ◌∙◌, subst, arith}
+use Rattle.std.proofs.Common.{inl, inr, length-append}
 use Rattle.std.proofs.lemmas.Bool.{cases_lt, lt-ltb, le-ltb}
 use Rattle.std.proofs.lemmas.List.Elements.{All-nil, All-cons, All-append, All-head, All-tail}
 use Rattle.std.specs.Prelude.{All, Option, Some, None, nat_lt}
@@ -181,8 +181,7 @@ one_more page word rest kinds A None is show next = let l = show.1 in record {
   ];
 }
 one_more page word rest kinds A (Some k) is show next =
-    let l = show.1 in
-    let s = show.0 in
+    let l = show.1 in let s = show.0 in
     let low = starts_low (rows_start rest) rest kinds show.4 in
     let a : Area = record { lo = row_start word; hi = rows_start rest; kind = k } in
     record {

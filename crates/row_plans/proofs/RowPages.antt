@@ -1,9 +1,9 @@
 -- What one row of those that show kinds says of its pages, and what a search over the rows knows when it has come to
 -- it.
-use Rattle.std.proofs.Common.{◌≡◌, ◌≢◌, ℕ, zero, suc, ◌+◌, ◌<◌, ◌≤◌, List, [], ◌∷◌, ◌-◌, min, max, get_or, drop, length}
-use Rattle.std.proofs.Common.{true, false, sym, refl, ap, ◌∙◌, subst, arith, inl, inr}
-use Rattle.std.specs.List.Sorted.{IsNonDecreasingBy}
+use Rattle.std.proofs.Common.{◌≡◌, ◌≢◌, ℕ, zero, suc, ◌+◌, ◌<◌, ◌≤◌, List, [], ◌∷◌, ◌-◌, min, max, get_or, drop, length, true, false, sym, refl, ap, ◌∙◌, subst}
+use Rattle.std.proofs.Common.{arith, inl, inr}
 use Rattle.std.proofs.lemmas.Bool.{cases_lt}
+use Rattle.std.specs.List.Sorted.{IsNonDecreasingBy}
 use Rattle.std.specs.Prelude.{Option, None}
 use Rattle.page_types.specs.declared.TheConstants.{LIMIT, LOWEST}
 use Rattle.page_types.specs.declared.calls.Kind.{Kind}
@@ -46,12 +46,10 @@ row_pages_at page (w ∷ rest) kinds (suc i) show lt =
     (record { begins = r.begins; ends = ap (λ n. rows_start (drop n (w ∷ rest))) (sym e); some = r.some; low = r.low; all = r.all })
 
 -- a row whose word was read has its pages from its start up to where the next row starts
-pub row_pages : (rows : List ℕ) (kinds : ℕ → Option Kind) (i word start end : ℕ) (kind : Option Kind) → ShowFrom 0 rows kinds
-    → i < length rows → word ≡ get_or rows i 0 → start ≡ row_start word → kind ≡ row_kind word
+pub row_pages : (rows : List ℕ) (kinds : ℕ → Option Kind) (i : ℕ) {start end : ℕ} {kind : Option Kind} → ShowFrom 0 rows kinds
+    → i < length rows → start ≡ row_start (get_or rows i 0) → kind ≡ row_kind (get_or rows i 0)
     → end ≡ rows_start (drop (i + 1) rows) → RowPages rows kinds i start end kind
-row_pages rows kinds i word start end kind show lt w s k e =
-    subst (λ (z : ℕ × ℕ × Option Kind). RowPages rows kinds i z.0 z.1 z.2)
-    (λ j. (sym (s ∙ ap row_start w) j, sym e j, sym (k ∙ ap row_kind w) j)) (row_pages_at 0 rows kinds i show lt)
+row_pages rows kinds i show lt s k e = rw (s, k, e) (row_pages_at 0 rows kinds i show lt)
 
 -- behind the last row the next one starts at LIMIT
 pub ends_all : (rows : List ℕ) (i : ℕ) → length rows ≤ i → rows_start (drop i rows) ≡ LIMIT
@@ -76,8 +74,7 @@ pub end_here : (rows : List ℕ) (kinds : ℕ → Option Kind) (sort : Sort) (lo
     → RowPages rows kinds i start end kind → lo ≤ hi → lo < end → is_sort sort kind ≡ true
     → NoneOf kinds sort lo (rows_start (drop i rows)) → page ≡ max start lo → result ≡ min page hi → IsEnd kinds sort lo hi result
 end_here rows kinds sort lo hi i start end page result kind r ordered some such none is low =
-    let b = r.begins in
-    let s = r.some in
+    let b = r.begins in let s = r.some in
     record {
       from = omega arith;
       within = omega arith;
@@ -118,12 +115,9 @@ row_before_by rows kinds zero show lt more = let z = first_at_zero rows kinds sh
 row_before_by rows kinds (suc i) show lt more = row_before_at 0 rows kinds i show lt
 
 -- the page before a row isn't of its kind
-pub row_before : (rows : List ℕ) (kinds : ℕ → Option Kind) (i word start : ℕ) (kind : Option Kind) → ShowFrom 0 rows kinds
-    → i < length rows → word ≡ get_or rows i 0 → start ≡ row_start word → kind ≡ row_kind word → 0 < start
-    → kinds (start - 1) ≢ kind
-row_before rows kinds i word start kind show lt w s k =
-    subst (λ (z : ℕ × Option Kind). 0 < z.0 → kinds (z.0 - 1) ≢ z.1)
-    (λ j. (sym (s ∙ ap row_start w) j, sym (k ∙ ap row_kind w) j)) (row_before_by rows kinds i show lt)
+pub row_before : (rows : List ℕ) (kinds : ℕ → Option Kind) (i : ℕ) {start : ℕ} {kind : Option Kind} → ShowFrom 0 rows kinds
+    → i < length rows → start ≡ row_start (get_or rows i 0) → kind ≡ row_kind (get_or rows i 0) → 0 < start → kinds (start - 1) ≢ kind
+row_before rows kinds i show lt s k = rw (s, k) (row_before_by rows kinds i show lt)
 
 -- a place that ends in a row lies in it, and the row is free: where none fits in the row and the window each place ends
 -- before it, and otherwise the row's end, or the window's, has the highest one
@@ -189,12 +183,11 @@ next_start rows kinds i show = elim (cases_lt i (length rows)) [
 ]
 
 -- the pages of the last of the rows that are left
-pub last_pages : (rows : List ℕ) (kinds : ℕ → Option Kind) (i start end : ℕ) (kind : Option Kind) → ShowFrom 0 rows kinds → 0 < i
+pub last_pages : (rows : List ℕ) (kinds : ℕ → Option Kind) (i : ℕ) {start end : ℕ} {kind : Option Kind} → ShowFrom 0 rows kinds → 0 < i
     → i ≤ length rows → start ≡ row_start (get_or rows (i - 1) 0) → kind ≡ row_kind (get_or rows (i - 1) 0)
     → end ≡ rows_start (drop i rows) → RowPages rows kinds (i - 1) start end kind
-last_pages rows kinds i start end kind show more there s k e =
-    let n : i ≡ i - 1 + 1 = omega arith in
-    row_pages rows kinds (i - 1) (get_or rows (i - 1) 0) start end kind show (omega arith) refl s k (e ∙ ap (λ j. rows_start (drop j rows)) n)
+last_pages rows kinds i show more there s k e =
+    let n : i ≡ i - 1 + 1 = omega arith in row_pages rows kinds (i - 1) show (omega arith) s k (e ∙ ap (λ j. rows_start (drop j rows)) n)
 
 -- the row that has a page has its kind
 pub kind_there : (rows : List ℕ) (kinds : ℕ → Option Kind) (i page : ℕ) (kind : Option Kind) → ShowFrom 0 rows kinds → i < length rows
@@ -240,8 +233,7 @@ pub rows_apart : (rows : List ℕ) (kinds : ℕ → Option Kind) (a b : ℕ) →
 rows_apart rows kinds a b show lt there =
     let low = row_pages_at 0 rows kinds a show (omega arith) in
     let high = row_pages_at 0 rows kinds b show there in
-    let some = low.some in
-    let begins = high.begins in
+    let some = low.some in let begins = high.begins in
     let at : a + 1 + (b - (a + 1)) ≡ b = omega arith in
     let up : rows_start (drop (a + 1) rows) ≤ rows_start (drop b rows) =
     subst (λ (n : ℕ). rows_start (drop (a + 1) rows) ≤ rows_start (drop n rows)) at (starts_up rows kinds (a + 1) (b - (a + 1)) show) in

@@ -3,7 +3,7 @@ use Rattle.std.proofs.Common.{ℕ, zero, suc, ◌≡◌, ◌+◌, ◌-◌, ◌<�
 use Rattle.std.proofs.lemmas.Bool.{cases_lt}
 use Rattle.std.specs.Prelude.{Option}
 use Rattle.page_types.specs.declared.calls.Kind.{Kind}
-use Rattle.row_plans.specs.RowWords.{row_start, row_kind}
+use Rattle.row_plans.specs.RowWords.{row_start}
 use Rattle.row_plans.specs.RowLists.{rows_start, ShowFrom}
 use Rattle.row_plans.specs.Planning.{StartBefore}
 use Rattle.row_plans.specs.Loads.{rows_between, between_yes, between_no, between_within}
@@ -42,9 +42,7 @@ more_down rows i start end window there is some up low =
 row_up : (rows : List ℕ) (kinds : ℕ → Option Kind) (i : ℕ) → ShowFrom 0 rows kinds → i < length rows
     → rows_start (drop i rows) < rows_start (drop (i + 1) rows)
 row_up rows kinds i show there =
-    let word = get_or rows i 0 in
-    let r = row_pages rows kinds i word (row_start word) (rows_start (drop (i + 1) rows)) (row_kind word) show there refl refl refl refl in
-    let begins = r.begins in let some = r.some in omega arith
+    let r = row_pages rows kinds i show there refl refl refl in let begins = r.begins in let some = r.some in omega arith
 
 -- rows one behind the other that start between two pages
 run_between : (rows : List ℕ) (kinds : ℕ → Option Kind) (lo hi a n : ℕ) → ShowFrom 0 rows kinds → a + n ≤ length rows
@@ -66,8 +64,7 @@ pub come_between : (rows : List ℕ) (kinds : ℕ → Option Kind) (lo hi begun 
 come_between rows kinds lo hi begun last at show one two is = elim (cases_lt (at + 1) last) [
   | inr few ↦ omega arith
   | inl more ↦
-      let there = two.there in
-      let ahead = one.ahead in
+      let there = two.there in let ahead = one.ahead in
       let up = row_up rows kinds at show (omega arith) in
       let second : begun + (at + 1 - begun) ≡ at + 1 = omega arith in
       let over : rows_start (drop begun rows) ≤ rows_start (drop (at + 1) rows) =

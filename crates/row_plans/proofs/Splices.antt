@@ -1,15 +1,15 @@
 -- A splice of rows shows the changed kinds, where the rows that come show those of the pages that change and the rows
 -- that stay are of pages that don't.
-use Rattle.std.proofs.Common.{◌≡◌, ◌≢◌, ℕ, zero, suc, ◌+◌, ◌-◌, ◌<◌, ◌≤◌, List, [], ◌∷◌, ◌++◌, length, get_or, take, drop}
-use Rattle.std.proofs.Common.{true, false, sym, refl, ap, ◌∙◌, subst, arith}
+use Rattle.std.proofs.Common.{◌≡◌, ◌≢◌, ℕ, zero, suc, ◌+◌, ◌-◌, ◌<◌, ◌≤◌, List, [], ◌∷◌, ◌++◌, length, get_or, take, drop, true, false, sym, refl, ap, ◌∙◌}
+use Rattle.std.proofs.Common.{subst, arith}
 use Rattle.std.proofs.lemmas.List.{length-append, length-take-le, length-drop}
 use Rattle.std.specs.List.{splice}
 use Rattle.std.specs.Prelude.{Option}
 use Rattle.page_types.specs.declared.TheConstants.{LIMIT}
 use Rattle.page_types.specs.declared.calls.Kind.{Kind}
+use Rattle.page_types.specs.Named.{IsNamedOption}
 use Rattle.row_plans.specs.RowWords.{row_start, row_kind}
 use Rattle.row_plans.specs.RowLists.{rows_start, ShowFrom}
-use Rattle.page_types.specs.Named.{IsNamedOption}
 use Rattle.row_plans.specs.Planning.{ShowTo, ends_with, GoesOn}
 use Rattle.row_plans.proofs.RowLists.{RowSays, starts_low, row_says}
 use Rattle.row_plans.proofs.PutRows.{rows_added, drop_shows, put_kept, put_shows, ends_other}
@@ -118,13 +118,10 @@ splice_shows rows more first end kinds after show there before here come differs
     front_stays first 0 rows (more ++ drop end rows) kinds after show there all (λ p low high. before p high) here
     (λ none. starts_at_zero rows kinds show)
 
-some_none : (rest : List ℕ) → 0 ≡ suc (length rest) → ⊥
-some_none rest e = omega arith
-
 -- the first of the rows from one on
 head_of : (rows : List ℕ) (i next : ℕ) (rest : List ℕ) → drop i rows ≡ next ∷ rest → (i < length rows) × (get_or rows i 0 ≡ next)
-head_of [] zero next rest e = absurd (some_none rest (ap length e))
-head_of [] (suc i) next rest e = absurd (some_none rest (ap length e))
+head_of [] zero next rest e = absurd (omega (arith, ap length e))
+head_of [] (suc i) next rest e = absurd (omega (arith, ap length e))
 head_of (word ∷ more) zero next rest e = (omega arith, ap (λ l. get_or l 0 0) e)
 head_of (word ∷ more) (suc i) next rest e = let r = (head_of more i next rest e).0 in (omega arith, (head_of more i next rest e).1)
 

@@ -1,8 +1,8 @@
 -- The kinds of an area list, page by page, and that they give back the list.
 use Rattle.std.proofs.Common.{◌≡◌, ◌≢◌, ℕ, ◌<◌, ◌≤◌, inl, inr, List, [], ◌∷◌, Some, None, sym, ◌∙◌, ap, refl, arith}
-use Rattle.std.specs.Prelude.{IfSome, slice_get}
-use Rattle.std.proofs.lemmas.Bool.{cases_lt, cases_order}
+use Rattle.std.proofs.lemmas.Bool.{cases_lt}
 use Rattle.std.proofs.lemmas.Bool.Decides.{nat_tests}
+use Rattle.std.specs.Prelude.{IfSome, slice_get}
 use Rattle.page_types.specs.declared.calls.Kind.{Kind}
 use Rattle.space_model.specs.declared.areas.Area.{Area}
 use Rattle.space_model.specs.Areas.{MayFollow, IsAreaList, kind_at, OnlyOneHasKinds}
@@ -18,6 +18,10 @@ kind_at-before a rest p l = grind (arith, nat_tests)
 -- so has a page behind it
 pub kind_at-after : (a : Area) (rest : List Area) (p : ℕ) → a.hi ≤ p → kind_at (a ∷ rest) p ≡ kind_at rest p
 kind_at-after a rest p l = grind (arith, nat_tests)
+
+-- two numbers of which neither is less are equal
+pub neither_less : (m n : ℕ) → (m < n → ⊥) → (n < m → ⊥) → m ≡ n
+neither_less m n a b = grind arith
 
 -- a page lies before an area, in it or after it
 pub data Side (lo hi p : ℕ) : Type 0 where
@@ -113,24 +117,13 @@ only_one (a ∷ A) (b ∷ B) w v e =
     let n : a.lo < a.hi = w.0.has_page in
     let m : b.lo < b.hi = v.0.has_page in
     let back : (p : ℕ) → kind_at (b ∷ B) p ≡ kind_at (a ∷ A) p = λ p. sym (e p) in
-    let lows : a.lo ≡ b.lo =
-    elim (cases_order a.lo b.lo) [
-      | inl s ↦ s
-      | inr o ↦ elim o [ inl l ↦ absurd (first_page a b A B w v e l) | inr l ↦ absurd (first_page b a B A v w back l) ]
-    ] in
+    let lows : a.lo ≡ b.lo = neither_less _ _ (first_page a b A B w v e) (first_page b a B A v w back) in
     let kinds : a.kind ≡ b.kind =
     let x : kind_at (a ∷ A) a.lo ≡ Some a.kind = kind_at-here a A a.lo (omega arith) n in
     let y : kind_at (b ∷ B) a.lo ≡ Some b.kind = kind_at-here b B a.lo (omega arith) (omega arith) in
     let both = e a.lo in cc in
     let ends : a.hi ≡ b.hi =
-    elim (cases_order a.hi b.hi) [
-      | inl s ↦ s
-      | inr o ↦
-          elim o [
-            | inl l ↦ absurd (first_end a b A B w v e lows kinds l)
-            | inr l ↦ absurd (first_end b a B A v w back (sym lows) (sym kinds) l)
-          ]
-    ] in
+    neither_less _ _ (first_end a b A B w v e lows kinds) (first_end b a B A v w back (sym lows) (sym kinds)) in
     let rest : (p : ℕ) → kind_at A p ≡ kind_at B p =
     λ p. elim (cases_lt p a.hi) [
       | inl l ↦

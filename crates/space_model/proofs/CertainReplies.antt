@@ -1,128 +1,68 @@
 -- When a call is refused for its rows, and what a fault answers.
-use Rattle.std.proofs.Common.{◌≡◌, ◌≢◌, ℕ, ◌+◌, ◌*◌, ◌<◌, ◌≤◌, Bool, true, false, if◌then◌else◌, not, ◌&&◌, ◌==◌, nat_lt, List, [], ◌∷◌}
-use Rattle.std.proofs.Common.{Option, Some, None, sym, ◌∙◌, ap, subst, refl, arith, inl, inr}
-use Rattle.std.specs.Prelude.{nat_le}
+use Rattle.std.proofs.Common.{◌≡◌, ◌≢◌, ℕ, ◌+◌, ◌*◌, ◌<◌, ◌≤◌, Bool, true, false, if◌then◌else◌, List, [], ◌∷◌, Option, Some, None, sym, ◌∙◌, ap, subst, refl}
+use Rattle.std.proofs.Common.{arith, inl, inr}
 use Rattle.std.proofs.lemmas.Bool.{cases_lt, lt-leb}
+use Rattle.std.proofs.lemmas.Bool.Decides.{nat_tests}
 use Rattle.page_types.specs.declared.TheConstants.{LIMIT, LOWEST}
 use Rattle.page_types.specs.declared.calls.Kind.{Kind}
 use Rattle.page_types.specs.declared.calls.Call.{Call}
 use Rattle.page_types.specs.declared.calls.Call.TheVariants.{Map, Unmap, Protect, Fault, Seal, Brk, Remap}
 use Rattle.page_types.specs.declared.calls.Reply.{Reply}
-use Rattle.page_types.specs.declared.calls.Reply.TheVariants.{At, Zero, Granted, Refused}
+use Rattle.page_types.specs.declared.calls.Reply.TheVariants.{At, Granted, Refused}
 use Rattle.page_types.specs.declared.calls.Why.{Why}
-use Rattle.page_types.specs.declared.calls.Why.TheVariants.{Einval, Enomem, MapErr}
-use Rattle.page_types.specs.declared.calls.Short.TheVariants.{PastEnd, Rows}
-use Rattle.page_types.specs.declared.pages.Field.TheVariants.{Addr, Len, Flags, End}
+use Rattle.page_types.specs.declared.calls.Why.TheVariants.{Enomem, MapErr}
+use Rattle.page_types.specs.declared.calls.Short.TheVariants.{Rows}
 use Rattle.page_types.specs.declared.sets.Access.{Access}
 use Rattle.page_types.specs.declared.sets.MapFlags.{MapFlags}
 use Rattle.page_types.specs.declared.sets.Prot.{Prot}
-use Rattle.page_types.specs.Pages.{page_of, page_count, end_page, is_aligned}
-use Rattle.page_types.specs.Sets.{is_fixed, has_one_sharing}
-use Rattle.page_types.specs.PlainReply.{first_that_applies, fault_reply, plain_reply}
+use Rattle.page_types.specs.Pages.{page_of, page_count, end_page}
+use Rattle.page_types.specs.Sets.{is_fixed}
+use Rattle.page_types.specs.PlainReply.{plain_reply}
 use Rattle.space_model.specs.declared.areas.Area.{Area}
 use Rattle.space_model.specs.declared.paint.Paint.TheVariants.{Gives}
+use Rattle.space_model.specs.declared.sorts.Sort.{Sort}
 use Rattle.space_model.specs.declared.sorts.Sort.TheVariants.{Mapped, Missing, Sealed, Unlike}
 use Rattle.space_model.specs.Areas.{IsAreaList, kind_at, row_count}
 use Rattle.space_model.specs.Effect.{mapped_kind, patch, patched}
-use Rattle.space_model.specs.Sorts.{Bar, IsBarred}
-use Rattle.space_model.specs.Sorts.Bar.{bar}
+use Rattle.space_model.specs.Sorts.{why_of}
 use Rattle.space_model.specs.Places.{StartsAt, window_of, remap_places}
 use Rattle.space_model.specs.Places.Place.{fixed, free_at, highest_in}
-use Rattle.space_model.specs.Answers.{bars, FindsNoPlace, RefusesByState, AnswersFault, LetsThrough, Does, full_reply, Answers}
+use Rattle.space_model.specs.Answers.{RefusesByState, AnswersFault, LetsThrough, Does, full_reply, Answers}
 use Rattle.space_model.specs.Answers.Effect.{keeps}
 use Rattle.space_model.specs.Answers.Answers.{by_arguments, refused, kept, done, too_many_rows}
 use Rattle.space_model.specs.Laws.{AsksFewRowsMore, GrantsWhatThePageAllows, FaultFindsMapped, EndsInItsWindow}
-use Rattle.space_model.proofs.Changing.{kind_at-limit, within-inside}
-use Rattle.space_model.proofs.Effects.{Says, SaysFull, says, brk_kept, remap_kept}
+use Rattle.space_model.proofs.Changing.{kind_at-limit, patch-inside}
+use Rattle.space_model.proofs.Effects.{patches_in, counted, refusal_by, Says, SaysFull, says, brk_kept, remap_kept}
 use Rattle.space_model.proofs.Effects.Says.{says_at, says_done}
 use Rattle.space_model.proofs.Effects.SaysFull.{counts_rows, full_at}
 use Rattle.space_model.proofs.TwiceOnce.{row_count-does}
 
--- no check of the list has this reply
-unfoldable pub NoCheckHas : Reply → List (Bool × Reply) → Type 0
-NoCheckHas s [] = Unit {0}
-NoCheckHas s (check ∷ checks) = (check.1 ≢ s) × NoCheckHas s checks
-
-past : (s r : Reply) (b : Bool) (y : Option Reply) → r ≢ s → (if b then Some r else y) ≡ Some s → y ≡ Some s
-past s r true y n e = absurd (n cc)
-past s r false y n e = e
-
--- so the list doesn't have it
-pub first_not : (s : Reply) (checks : List (Bool × Reply)) → NoCheckHas s checks → first_that_applies checks ≢ Some s
-unfolding NoCheckHas
-first_not s [] n e = cc
-first_not s (check ∷ checks) n e = first_not s checks n.1 (past s check.1 check.0 (first_that_applies checks) n.0 e)
-
--- a fault's arguments alone are refused or nothing
-fault_not : (s : Reply) (addr : ℕ) → Refused (MapErr (page_of addr)) ≢ s → fault_reply addr ≢ Some s
-unfolding NoCheckHas
-fault_not s addr n = first_not s ((nat_le LIMIT (page_of addr), Refused (MapErr (page_of addr))) ∷ []) (n, tt)
-
 -- no arguments alone are refused for rows
 plain_not_rows : (c : Call) (n : ℕ) → plain_reply c ≢ Some (Refused (Enomem (Rows n)))
-unfolding NoCheckHas
-plain_not_rows (Map addr len prot flags) n =
-    first_not (Refused (Enomem (Rows n)))
-    ((is_fixed flags && not (is_aligned addr), Refused (Einval Addr)) ∷
-    (len == 0, Refused (Einval Len)) ∷
-    (not (has_one_sharing flags), Refused (Einval Flags)) ∷
-    (is_fixed flags && nat_lt LIMIT (end_page addr len), Refused (Enomem (PastEnd (end_page addr len)))) ∷ [])
-    (λ d. cc, (λ d. cc, (λ d. cc, (λ d. cc, tt))))
-plain_not_rows (Unmap addr len) n =
-    first_not (Refused (Enomem (Rows n)))
-    ((not (is_aligned addr), Refused (Einval Addr)) ∷
-    (len == 0, Refused (Einval Len)) ∷
-    (nat_lt LIMIT (end_page addr len), Refused (Einval End)) ∷ [])
-    (λ d. cc, (λ d. cc, (λ d. cc, tt)))
-plain_not_rows (Protect addr len prot) n =
-    first_not (Refused (Enomem (Rows n)))
-    ((not (is_aligned addr), Refused (Einval Addr)) ∷
-    (len == 0, Zero) ∷
-    (nat_lt LIMIT (end_page addr len), Refused (Enomem (PastEnd (end_page addr len)))) ∷ [])
-    (λ d. cc, (λ d. cc, (λ d. cc, tt)))
-plain_not_rows (Fault addr access) n = fault_not (Refused (Enomem (Rows n))) addr (λ d. cc)
-plain_not_rows (Seal addr len flags) n =
-    first_not (Refused (Enomem (Rows n)))
-    ((not (is_aligned addr), Refused (Einval Addr)) ∷
-    (len == 0, Zero) ∷
-    (not (flags == 0), Refused (Einval Flags)) ∷
-    (nat_lt LIMIT (end_page addr len), Refused (Enomem (PastEnd (end_page addr len)))) ∷ [])
-    (λ d. cc, (λ d. cc, (λ d. cc, (λ d. cc, tt))))
-plain_not_rows (Brk base addr) n =
-    first_not (Refused (Enomem (Rows n)))
-    ((base == 0, Refused (Einval Addr)) ∷
-    (not (is_aligned base), Refused (Einval Addr)) ∷
-    (nat_le LIMIT (page_of base), Refused (Einval Addr)) ∷ [])
-    (λ d. cc, (λ d. cc, (λ d. cc, tt)))
-plain_not_rows (Remap addr old new may hint) n =
-    first_not (Refused (Enomem (Rows n)))
-    ((not (is_aligned addr), Refused (Einval Addr)) ∷
-    (old == 0, Refused (Einval Len)) ∷
-    (new == 0, Refused (Einval Len)) ∷
-    (nat_lt LIMIT (end_page addr old), Refused (Einval End)) ∷ [])
-    (λ d. cc, (λ d. cc, (λ d. cc, (λ d. cc, tt))))
+plain_not_rows (Map addr len prot flags) n e = grind (arith, nat_tests)
+plain_not_rows (Unmap addr len) n e = grind (arith, nat_tests)
+plain_not_rows (Protect addr len prot) n e = grind (arith, nat_tests)
+plain_not_rows (Fault addr access) n e = grind (arith, nat_tests)
+plain_not_rows (Seal addr len flags) n e = grind (arith, nat_tests)
+plain_not_rows (Brk base addr) n e = grind (arith, nat_tests)
+plain_not_rows (Remap addr old new may hint) n e = grind (arith, nat_tests)
+
+-- or place a Map, or grant a fault
+plain_not_at : (addr len place : ℕ) (prot : Prot) (flags : MapFlags) → plain_reply (Map addr len prot flags) ≢ Some (At place)
+plain_not_at addr len place prot flags e = grind (arith, nat_tests)
+
+plain_not_granted : (addr : ℕ) (access : Access) (kind : Kind) → plain_reply (Fault addr access) ≢ Some (Granted kind)
+plain_not_granted addr access kind e = grind (arith, nat_tests)
 
 -- nor is a refusal by the state
 state_not_rows : (kinds : ℕ → Option Kind) (c : Call) (why : Why) (n : ℕ) → RefusesByState kinds c why → why ≢ Enomem (Rows n)
-state_not_rows kinds c why n (inl r) d = barred (bars kinds c) r
+state_not_rows kinds c why n r = refusal_by (λ w. w ≢ Enomem (Rows n)) kinds c why other (λ m e. cc) r
   where
-    barred : (list : List Bar) → IsBarred kinds list why → ⊥
-    barred [] r = r
-    barred (bar Mapped lo hi ∷ rest) (inl (p, l, e)) = cc
-    barred (bar Missing lo hi ∷ rest) (inl (p, l, e)) = cc
-    barred (bar Sealed lo hi ∷ rest) (inl (p, l, e)) = cc
-    barred (bar (Unlike first) lo hi ∷ rest) (inl (p, l, e)) = cc
-    barred (bar sort lo hi ∷ rest) (inr (m, r)) = barred rest r
-state_not_rows kinds c why n (inr (clear, r)) d = unplaced c r
-  where
-    unplaced : (c : Call) → FindsNoPlace kinds c why → ⊥
-    unplaced (Map addr len prot flags) r = let e = r.1 in cc
-    unplaced (Unmap addr len) r = r
-    unplaced (Protect addr len prot) r = r
-    unplaced (Fault addr access) r = r
-    unplaced (Seal addr len flags) r = r
-    unplaced (Brk base addr) r = r
-    unplaced (Remap addr old new may hint) r = let e = r.2 in cc
+    other : (sort : Sort) (page : ℕ) → why_of sort page ≢ Enomem (Rows n)
+    other Mapped page e = cc
+    other Missing page e = cc
+    other Sealed page e = cc
+    other (Unlike first) page e = cc
 
 -- nor a reply that changes nothing
 kept_not_rows : (kinds : ℕ → Option Kind) (c : Call) (n : ℕ) → Does kinds c (keeps (Refused (Enomem (Rows n)))) → ⊥
@@ -162,7 +102,7 @@ few_rows_more A c w n B (done ps f u p k m) =
     absurd (said_not_rows (Refused (Enomem (Rows n))) n (says (kind_at A) c ps (Refused (Enomem (Rows n))) f p.1).0 refl)
 few_rows_more A c w n B (too_many_rows ps t f C u p k m e b) =
     let same : n ≡ row_count C = full_rows f n (row_count C) (says (kind_at A) c ps t f p.1).1 e in
-    (omega (arith, m, same), omega (arith, same, row_count-does A C c ps t f w u p.1 k))
+    (omega (arith, m, same), omega (arith, same, row_count-does A C c ps t f w u p k))
 
 -- what a fault answers that its arguments don't decide: the reply that its page gives
 fault_from : (A : List Area) (addr : ℕ) (access : Access) (r : Reply) (B : List Area) → plain_reply (Fault addr access) ≡ None →
@@ -188,7 +128,7 @@ granted_from : (A : List Area) (addr : ℕ) (access : Access) (kind : Kind) (B :
 granted_from A addr access kind B None v answer =
     let (h, b) = fault_from A addr access (Granted kind) B v answer in
     let (e, t) = granted_by (kind_at A (page_of addr)) (page_of addr) access kind h in (e, t, b)
-granted_from A addr access kind B (Some r) v (by_arguments e b) = absurd (fault_not (Granted kind) addr (λ d. cc) e)
+granted_from A addr access kind B (Some r) v (by_arguments e b) = absurd (plain_not_granted addr access kind e)
 granted_from A addr access kind B (Some r) v (refused why u f e b) = cc
 granted_from A addr access kind B (Some r) v (kept u g b) = cc
 granted_from A addr access kind B (Some r) v (done ps f u p k n) = cc
@@ -214,17 +154,6 @@ grants_allowed A addr access w kind B = (
       kept (undecided A addr access kind w g.0) (tt, (Granted kind, h, refl)) g.2,
 )
 
--- no arguments alone place a Map
-plain_not_at : (addr len place : ℕ) (prot : Prot) (flags : MapFlags) → plain_reply (Map addr len prot flags) ≢ Some (At place)
-unfolding NoCheckHas
-plain_not_at addr len place prot flags =
-    first_not (At place)
-    ((is_fixed flags && not (is_aligned addr), Refused (Einval Addr)) ∷
-    (len == 0, Refused (Einval Len)) ∷
-    (not (has_one_sharing flags), Refused (Einval Flags)) ∷
-    (is_fixed flags && nat_lt LIMIT (end_page addr len), Refused (Enomem (PastEnd (end_page addr len)))) ∷ [])
-    (λ d. cc, (λ d. cc, (λ d. cc, (λ d. cc, tt))))
-
 -- the pages of a Map that was done have its kind, and what it leaves is an area list
 mapped_from : (A : List Area) (addr len place : ℕ) (prot : Prot) (flags : MapFlags) (B : List Area) (p : ℕ) →
     Answers A (Map addr len prot flags) (At place) B → page_of place ≤ p → p < page_of place + page_count len →
@@ -233,18 +162,14 @@ mapped_from A addr len place prot flags B p (by_arguments e b) l h = absurd (pla
 mapped_from A addr len place prot flags B p (refused why u f e b) l h = cc
 mapped_from A addr len place prot flags B p (kept u (clear, (start, s, d)) b) l h = cc
 mapped_from A addr len place prot flags B p (done ps f u (clear, (start, s, d)) k n) l h =
-    let kind = mapped_kind prot flags in
-    let count = page_count len in
-    let same : ps ≡ patch start (start + count) (Gives (Some kind)) ∷ [] = cc in
     let at : At place ≡ At (start * 4096) = cc in
     let there : place ≡ start * 4096 = cc in (
       k.areas,
-      k.kinds_are p ∙ ap (λ l. patched l (kind_at A) p) same ∙
-          within-inside start (start + count) p (Some kind) (kind_at A p) (omega arith) (omega arith),
+      k.kinds_are p ∙ ap (λ e. patched (patches_in e) (kind_at A) p) d ∙
+          patch-inside (patch start (start + page_count len) (Gives (Some (mapped_kind prot flags)))) (kind_at A) p (omega arith) (omega arith),
     )
 mapped_from A addr len place prot flags B p (too_many_rows ps t f C u (clear, (start, s, d)) k n e b) l h =
-    let none : f ≡ None = cc in
-    let says : At place ≡ Refused (Enomem (Rows (row_count C))) = e ∙ ap (λ o. full_reply o (row_count C)) none in cc
+    let says = counted (At place) f (row_count C) cc e in cc
 
 -- a place that isn't bound lies in the hint's window
 starts_within : (kinds : ℕ → Option Kind) (b : Bool) (hint window pages start : ℕ) → b ≡ false →
@@ -266,15 +191,13 @@ ends_in_window A addr len prot flags place B hints (done ps f u (clear, (start, 
     let w = starts_within (kind_at A) (is_fixed flags) (page_of addr) (window_of (page_of addr)) (page_count len) start hints s in
     (omega (arith, w.0, there), omega (arith, w.1, there))
 ends_in_window A addr len prot flags place B hints (too_many_rows ps t f C u (clear, (start, s, d)) k n e b) =
-    let none : f ≡ None = cc in
-    let says : At place ≡ Refused (Enomem (Rows (row_count C))) = e ∙ ap (λ o. full_reply o (row_count C)) none in cc
+    let says = counted (At place) f (row_count C) cc e in cc
 
 -- a fault on a page that a Map has just placed finds the kind that the Map gave
 pub finds_mapped : (A : List Area) (addr len : ℕ) (prot : Prot) (flags : MapFlags) (byte : ℕ) (access : Access) →
     FaultFindsMapped A addr len prot flags byte access
 finds_mapped A addr len prot flags byte access place s B C first low high second =
-    let kind = mapped_kind prot flags in
-    let page = page_of byte in
+    let kind = mapped_kind prot flags in let page = page_of byte in
     let (w, is) = mapped_from A addr len place prot flags B page first low high in
     let (h, b) = fault_from B byte access s C (undecided B byte access kind w is) second in
     elim (subst (λ o. AnswersFault o page access s) is h) [ inl g ↦ inl g.1 | inr g ↦ inr g.1 ]

@@ -1,21 +1,20 @@
 -- The list that the body builds has the kinds after the patches.
 use Rattle.std.proofs.Common.{◌≡◌, ℕ, ◌<◌, ◌≤◌, ◌⊎◌, inl, inr, if◌then◌else◌, List, [], ◌∷◌, Option, Some, None, max, min, sym, ◌∙◌, ap, subst, refl, arith}
-use Rattle.std.specs.Option.{option_map}
 use Rattle.std.proofs.lemmas.Bool.{cases_lt, lt-ltb, le-ltb}
 use Rattle.std.proofs.lemmas.Bool.Decides.{nat_tests}
+use Rattle.std.specs.Option.{option_map}
 use Rattle.page_types.specs.declared.TheConstants.{LIMIT}
 use Rattle.page_types.specs.declared.calls.Kind.{Kind}
 use Rattle.page_types.specs.declared.sets.Prot.{Prot}
 use Rattle.space_model.specs.declared.areas.Area.{Area}
-use Rattle.space_model.specs.Areas.{is_within, IsInRange, IsAreaList, IsInOrder, HasKinds, kind_at}
 use Rattle.space_model.specs.declared.paint.Paint.{Paint}
+use Rattle.space_model.specs.Areas.{is_within, IsInRange, IsAreaList, IsInOrder, HasKinds, kind_at}
 use Rattle.space_model.specs.declared.paint.Paint.TheVariants.{Gives, Protects, Seals}
 use Rattle.space_model.specs.declared.paint.Patch.{Patch}
 use Rattle.space_model.specs.Effect.{painted, with_patch, patched, AreRising}
 use Rattle.space_model.specs.Building.{repainted, part_of, parts, join_all, pieces_at, with_next, changed_from, changed_list}
 use Rattle.space_model.specs.Cutting.{last_end}
-use Rattle.space_model.proofs.AreaKinds.{kind_at-here, kind_at-before, kind_at-after, side_of, IsAbove, above_zero, LeadsTo-above}
-use Rattle.space_model.proofs.AreaKinds.Side.{before, inside, after}
+use Rattle.space_model.proofs.AreaKinds.{kind_at-after, IsAbove, above_zero, LeadsTo-above}
 use Rattle.space_model.proofs.Joining.{first_of, first_of-none, IsFreeFrom, join_all-kinds}
 
 parts-some : (from to : ℕ) (paint : Option Paint) (a : Area) (rest : List Area) → max a.lo from < min a.hi to →
@@ -57,46 +56,27 @@ within-before lo hi p x y l = grind (arith, nat_tests)
 pub within-after : {A : Type 0} (lo hi p : ℕ) (x y : A) → hi ≤ p → (if is_within lo hi p then x else y) ≡ y
 within-after lo hi p x y l = grind (arith, nat_tests)
 
--- a page outside an area's part has the kind that the other parts give it
-parts-skip : (from to : ℕ) (paint : Option Paint) (a : Area) (rest : List Area) (p : ℕ) →
-    (p < max a.lo from) ⊎ (min a.hi to ≤ p) → kind_at (parts from to paint (a ∷ rest)) p ≡ kind_at (parts from to paint rest) p
-parts-skip from to paint a rest p out =
-    elim (cases_lt (max a.lo from) (min a.hi to)) [
-      | inl lt ↦
-          ap (λ list. kind_at list p) (parts-some from to paint a rest lt) ∙
-          elim out [
-            | inl l ↦ kind_at-before (part_of from to paint a) (parts from to paint rest) p l
-            | inr g ↦ kind_at-after (part_of from to paint a) (parts from to paint rest) p g
-          ]
-      | inr ge ↦ ap (λ list. kind_at list p) (parts-none from to paint a rest ge)
-    ]
+-- a page outside of a patch keeps its kind
+pub patch-outside : (p : Patch) (kinds : ℕ → Option Kind) (page : ℕ) → (page < p.lo) ⊎ (p.hi ≤ page) → with_patch p kinds page ≡ kinds page
+patch-outside p kinds page (inl l) = within-before p.lo p.hi page _ _ l
+patch-outside p kinds page (inr h) = within-after p.lo p.hi page _ _ h
+
+-- one of the patch gets its paint
+pub patch-inside : (p : Patch) (kinds : ℕ → Option Kind) (page : ℕ) → p.lo ≤ page → page < p.hi →
+    with_patch p kinds page ≡ painted p.paint (kinds page)
+patch-inside p kinds page l h = within-inside p.lo p.hi page _ _ l h
 
 -- the kinds of the parts are those of the pages, repainted
 pub parts-inside : (from to : ℕ) (paint : Option Paint) (A : List Area) (p : ℕ) → from ≤ p → p < to →
     kind_at (parts from to paint A) p ≡ option_map (repainted paint) (kind_at A p)
 parts-inside from to paint [] p l h = refl
-parts-inside from to paint (a ∷ rest) p l h =
-    let more = parts-inside from to paint rest p l h in
-    elim (side_of a.lo a.hi p) [
-      | before below ↦
-          parts-skip from to paint a rest p (inl (omega arith)) ∙ more ∙
-          ap (option_map (repainted paint)) (sym (kind_at-before a rest p below))
-      | inside low high ↦
-          ap (λ list. kind_at list p) (parts-some from to paint a rest (omega arith)) ∙
-          kind_at-here (part_of from to paint a) (parts from to paint rest) p (omega arith) (omega arith) ∙
-          ap (option_map (repainted paint)) (sym (kind_at-here a rest p low high))
-      | after above ↦
-          parts-skip from to paint a rest p (inr (omega arith)) ∙ more ∙
-          ap (option_map (repainted paint)) (sym (kind_at-after a rest p above))
-    ]
+parts-inside from to paint (a ∷ rest) p l h = grind (arith, nat_tests, parts-inside from to paint rest p l h)
 
 -- outside of the pages from which the parts were taken, no page has a kind
 pub parts-outside : (from to : ℕ) (paint : Option Paint) (A : List Area) (p : ℕ) → (p < from) ⊎ (to ≤ p) →
     kind_at (parts from to paint A) p ≡ None
 parts-outside from to paint [] p out = refl
-parts-outside from to paint (a ∷ rest) p out =
-    let away : (p < max a.lo from) ⊎ (min a.hi to ≤ p) = elim out [ inl l ↦ inl (omega arith) | inr g ↦ inr (omega arith) ] in
-    parts-skip from to paint a rest p away ∙ parts-outside from to paint rest p out
+parts-outside from to paint (a ∷ rest) p out = grind (arith, nat_tests, parts-outside from to paint rest p out)
 
 -- with no paint nothing changes
 option_map-repainted : (o : Option Kind) → option_map (repainted None) o ≡ o
@@ -123,32 +103,24 @@ sealed_painted : (o : Option Kind) → option_map (repainted (Some Seals)) o ≡
 sealed_painted None = refl
 sealed_painted (Some k) = refl
 
-piece_at : (A : List Area) (lo hi : ℕ) (kind : Kind) → lo ≤ hi → hi ≤ LIMIT → PiecesAt A lo hi (Gives (Some kind))
-piece_at A lo hi kind l h =
-    let piece : Area = record { lo = lo; hi = hi; kind = kind } in
-    let some : lo < hi → pieces_at A lo hi (Gives (Some kind)) ≡ piece ∷ [] = λ lt. ap (λ t. if t then piece ∷ [] else []) (lt-ltb lo hi lt) in
-    let none : hi ≤ lo → pieces_at A lo hi (Gives (Some kind)) ≡ [] = λ ge. ap (λ t. if t then piece ∷ [] else []) (le-ltb lo hi ge) in
+piece_inside : (A : List Area) (lo hi : ℕ) (kind : Kind) (p : ℕ) → lo ≤ p → p < hi → kind_at (pieces_at A lo hi (Gives (Some kind))) p ≡ Some kind
+piece_inside A lo hi kind p low high = grind (arith, nat_tests)
+
+piece_outside : (A : List Area) (lo hi : ℕ) (kind : Kind) (p : ℕ) → (p < lo) ⊎ (hi ≤ p) → kind_at (pieces_at A lo hi (Gives (Some kind))) p ≡ None
+piece_outside A lo hi kind p out = grind (arith, nat_tests)
+
+piece_order : (A : List Area) (lo hi : ℕ) (kind : Kind) → hi ≤ LIMIT → IsInOrder lo (pieces_at A lo hi (Gives (Some kind)))
+piece_order A lo hi kind h =
     elim (cases_lt lo hi) [
-      | inl lt ↦
-          record {
-            pieces = subst (IsInOrder lo) (sym (some lt)) (omega arith, record { has_page = lt; below_limit = h }, tt);
-            inside_are = λ p low high. ap (λ list. kind_at list p) (some lt) ∙ kind_at-here piece [] p low high;
-            outside_are = λ p out.
-                ap (λ list. kind_at list p) (some lt) ∙
-                elim out [ inl below ↦ kind_at-before piece [] p below | inr above ↦ kind_at-after piece [] p above ];
-          }
-      | inr ge ↦
-          record {
-            pieces = subst (IsInOrder lo) (sym (none ge)) tt;
-            inside_are = λ p low high. absurd (omega arith);
-            outside_are = λ p out. ap (λ list. kind_at list p) (none ge);
-          }
+      | inl lt ↦ rw (lt-ltb lo hi lt) (omega arith, record { has_page = lt; below_limit = h }, tt)
+      | inr ge ↦ rw (le-ltb lo hi ge) tt
     ]
 
 pieces_at-kinds : (A : List Area) (lo hi : ℕ) (paint : Paint) → IsAreaList A → lo ≤ hi → hi ≤ LIMIT → PiecesAt A lo hi paint
 pieces_at-kinds A lo hi (Gives None) w l h =
     record { pieces = tt; inside_are = λ p low high. refl; outside_are = λ p out. refl }
-pieces_at-kinds A lo hi (Gives (Some kind)) w l h = piece_at A lo hi kind l h
+pieces_at-kinds A lo hi (Gives (Some kind)) w l h =
+    record { pieces = piece_order A lo hi kind h; inside_are = piece_inside A lo hi kind; outside_are = piece_outside A lo hi kind }
 pieces_at-kinds A lo hi (Protects prot) w l h =
     record {
       pieces = parts-pieces lo hi (Some (Protects prot)) A 0 lo w (above_zero A) (omega arith);
@@ -178,29 +150,26 @@ pub patched-before : (from : ℕ) (patches : List Patch) (f : ℕ → Option Kin
     patched patches f page ≡ f page
 patched-before from [] f page r l = refl
 patched-before from (p ∷ rest) f page r l =
-    patched-before p.hi rest (with_patch p f) page r.2 (omega (arith, r.0, r.1)) ∙
-    within-before p.lo p.hi page (painted p.paint (f page)) (f page) (omega (arith, r.0))
+    patched-before p.hi rest (with_patch p f) page r.2 (omega (arith, r.0, r.1)) ∙ patch-outside p f page (inl (omega (arith, r.0)))
 
 -- so does one behind them
 pub patched-behind : (from : ℕ) (patches : List Patch) (f : ℕ → Option Kind) (page : ℕ) → AreRising from patches →
     last_end from patches ≤ page → patched patches f page ≡ f page
 patched-behind from [] f page r l = refl
 patched-behind from (p ∷ rest) f page r l =
-    patched-behind p.hi rest (with_patch p f) page r.2 l ∙
-    within-after p.lo p.hi page (painted p.paint (f page)) (f page) (omega (arith, (rising_end p.hi rest r.2).0))
+    patched-behind p.hi rest (with_patch p f) page r.2 l ∙ patch-outside p f page (inr (omega (arith, (rising_end p.hi rest r.2).0)))
 
 -- a page of the first patch gets its paint
 pub patched-inside : (p : Patch) (rest : List Patch) (f : ℕ → Option Kind) (page : ℕ) → AreRising p.hi rest → p.lo ≤ page → page < p.hi →
     patched (p ∷ rest) f page ≡ painted p.paint (f page)
 patched-inside p rest f page r low high =
-    patched-before p.hi rest (with_patch p f) page r high ∙
-    within-inside p.lo p.hi page (painted p.paint (f page)) (f page) low high
+    patched-before p.hi rest (with_patch p f) page r high ∙ patch-inside p f page low high
 
 -- behind the first patch the others decide
 pub patched-next : (p : Patch) (rest : List Patch) (f : ℕ → Option Kind) (page : ℕ) → p.hi ≤ page →
     patched (p ∷ rest) f page ≡ patched rest f page
 patched-next p rest f page l =
-    patched-same rest (with_patch p f) f page (within-after p.lo p.hi page (painted p.paint (f page)) (f page) l)
+    patched-same rest (with_patch p f) f page (patch-outside p f page (inr l))
 
 -- the list has these kinds below a page, and none from there on
 record GoesTo (kinds : ℕ → Option Kind) (at : ℕ) (list : List Area) : Type 0 where

@@ -1,7 +1,7 @@
 -- Bars refuse with one reason, and where they don't they are clear; pages start at one place, or no place applies; and
 -- a call does one thing.
 use Rattle.std.proofs.Common.{◌≡◌, ℕ, ◌+◌, ◌*◌, ◌<◌, inl, inr, List, [], ◌∷◌, Option, Some, None, sym, ◌∙◌, ap, subst, arith}
-use Rattle.std.proofs.lemmas.Bool.{cases_order, true≢false}
+use Rattle.std.proofs.lemmas.Bool.{true≢false}
 use Rattle.page_types.specs.declared.TheConstants.{LIMIT}
 use Rattle.page_types.specs.declared.calls.Kind.{Kind}
 use Rattle.page_types.specs.declared.calls.Call.{Call}
@@ -22,18 +22,12 @@ use Rattle.space_model.specs.Answers.{bars, FindsNoPlace, RefusesByState, Effect
 use Rattle.space_model.specs.Answers.Effect.{keeps, changes}
 use Rattle.space_model.specs.Answers.Breaks.{below_base, shrinks, grows, no_room}
 use Rattle.space_model.specs.Answers.Remaps.{shorter, stays, moves}
+use Rattle.space_model.proofs.AreaKinds.{neither_less}
 
 module _ (kinds : ℕ → Option Kind) where
   lowest_one : (sort : Sort) (lo hi p q : ℕ) → IsLowest kinds sort lo hi p → IsLowest kinds sort lo hi q → p ≡ q
   lowest_one sort lo hi p q a b =
-      elim (cases_order p q) [
-        | inl e ↦ e
-        | inr o ↦
-            elim o [
-              | inl l ↦ absurd (true≢false (sym a.such ∙ b.none_below p a.from l))
-              | inr l ↦ absurd (true≢false (sym b.such ∙ a.none_below q b.from l))
-            ]
-      ]
+      neither_less p q (λ l. true≢false (sym a.such ∙ b.none_below p a.from l)) (λ l. true≢false (sym b.such ∙ a.none_below q b.from l))
 
   barred_one : (list : List Bar) (why because : Why) → IsBarred kinds list why → IsBarred kinds list because → why ≡ because
   barred_one [] why because r s = absurd r
@@ -113,16 +107,9 @@ module _ (kinds : ℕ → Option Kind) where
   -- a search ends at one page
   pub end_one : (sort : Sort) (lo hi p q : ℕ) → IsEnd kinds sort lo hi p → IsEnd kinds sort lo hi q → p ≡ q
   end_one sort lo hi p q a b =
-      let u = a.within in
-      let v = b.within in
-      elim (cases_order p q) [
-        | inl e ↦ e
-        | inr o ↦
-            elim o [
-              | inl l ↦ absurd (true≢false (sym (a.such (omega arith)) ∙ b.none_below p a.from l))
-              | inr l ↦ absurd (true≢false (sym (b.such (omega arith)) ∙ a.none_below q b.from l))
-            ]
-      ]
+      let u = a.within in let v = b.within in
+      neither_less p q (λ l. true≢false (sym (a.such (omega arith)) ∙ b.none_below p a.from l))
+      (λ l. true≢false (sym (b.such (omega arith)) ∙ a.none_below q b.from l))
 
   breaks_one : (base addr end : ℕ) (e f : Effect) → Breaks kinds base addr end e → Breaks kinds base addr end f → e ≡ f
   breaks_one base addr end e f (below_base l a) (below_base m b) = a ∙ sym b

@@ -1,7 +1,7 @@
 -- The four ways in which a Protect within an area keeps the counts.
 use Rattle.std.proofs.Common.{◌≡◌, ◌≢◌, ℕ, zero, suc, ◌+◌, ◌<◌, ◌≤◌, inl, inr, not, List, [], ◌∷◌, Option, Some, None, sym, ◌∙◌, ap, subst, refl, arith}
-use Rattle.std.specs.List.{Contains}
 use Rattle.std.proofs.lemmas.Bool.{cases_lt, cases_Bool}
+use Rattle.std.specs.List.{Contains}
 use Rattle.page_types.specs.declared.calls.Kind.{Kind}
 use Rattle.page_types.specs.declared.sets.Prot.{Prot}
 use Rattle.page_types.specs.Pages.{page_of, end_page}
@@ -15,7 +15,8 @@ use Rattle.space_model.specs.Starts.{same_option, count_if, border, KeepsRows}
 use Rattle.space_model.specs.Laws.{FourCases, SimpleInFourCases, SimpleKeepsRows}
 use Rattle.space_model.specs.Laws.FourCases.{nothing, whole, first_part, last_part}
 use Rattle.space_model.proofs.AreaKinds.{kind_at-here, kind_at-after, kind_at-below, kind_at-end, LeadsTo-above}
-use Rattle.space_model.proofs.Counting.{same_option-true, same_option-same, same_option-false}
+use Rattle.space_model.proofs.Counting.{same_option-true, same_option-same, same_option-false, one-le}
+use Rattle.space_model.proofs.Remapping.{some_pages}
 use Rattle.space_model.proofs.Simple.{member_in_range, kind_at-member, simple_in, simple_borders}
 
 border-same : (o q : Option Kind) → o ≡ q → border o q ≡ 0
@@ -23,6 +24,9 @@ border-same o q e = ap (border o) (sym e) ∙ ap (λ b. count_if (not b)) (same_
 
 border-differs : (o q : Option Kind) → o ≢ q → border o q ≡ 1
 border-differs o q n = ap (λ b. count_if (not b)) (same_option-false o q n)
+
+border-back : (o q : Option Kind) → q ≢ o → border o q ≡ 1
+border-back o q n = border-differs o q (λ e. n (sym e))
 
 same_from_border : (o q : Option Kind) → border o q ≡ 0 → o ≡ q
 same_from_border o q e =
@@ -35,11 +39,7 @@ differs_from_border : (o q : Option Kind) → border o q ≡ 1 → o ≢ q
 differs_from_border o q e same = let z = border-same o q same in absurd (omega (arith, e, z))
 
 border-le : (o q : Option Kind) → border o q ≤ 1
-border-le o q =
-    elim (cases_Bool (same_option o q)) [
-      | inl t ↦ let z : border o q ≡ 0 = ap (λ b. count_if (not b)) t in omega arith
-      | inr f ↦ let n : border o q ≡ 1 = ap (λ b. count_if (not b)) f in omega arith
-    ]
+border-le o q = one-le (not (same_option o q))
 
 -- an area of a list starts at or after the end of the first
 pub starts_after : (x : Area) (rest : List Area) (a : Area) → IsAreaList (x ∷ rest) → Contains rest a → x.hi ≤ a.lo
@@ -135,12 +135,10 @@ module _ (A : List Area) (a : Area) (lo hi : ℕ) (w : IsAreaList A) (lies : Lie
                   let y : border left (Some kind) ≡ 1 = ap (λ o. border o (Some kind)) (before_inside low) ∙ old_new in
                   elim (cases_lt hi a.hi) [
                     | inl high ↦
-                        let u : border (Some a.kind) right ≡ 0 = border-same (Some a.kind) right (sym (after_inside high)) in
-                        absurd (omega (arith, b, x, y, u))
+                        absurd (omega (arith, b, x, y, border-same _ _ (sym (after_inside high))))
                     | inr end ↦
                         let e : hi ≡ a.hi = omega (arith, lies.within) in
-                        let u : border (Some a.kind) right ≡ 1 = border-differs (Some a.kind) right (λ s. after_end e (sym s)) in
-                        let v : border (Some kind) right ≡ 0 = omega (arith, b, x, y, u) in
+                        let v : border (Some kind) right ≡ 0 = omega (arith, b, x, y, border-back _ _ (after_end e)) in
                         last_part low e (sym (same_from_border (Some kind) right v))
                   ]
               | inr start ↦
@@ -148,13 +146,12 @@ module _ (A : List Area) (a : Area) (lo hi : ℕ) (w : IsAreaList A) (lies : Lie
                   let x : border left (Some a.kind) ≡ 1 = border-differs left (Some a.kind) (before_start d) in
                   elim (cases_lt hi a.hi) [
                     | inl high ↦
-                        let u : border (Some a.kind) right ≡ 0 = border-same (Some a.kind) right (sym (after_inside high)) in
                         let v : border (Some kind) right ≡ 1 = ap (border (Some kind)) (after_inside high) ∙ new_old in
-                        let y : border left (Some kind) ≡ 0 = omega (arith, b, x, u, v) in
+                        let y : border left (Some kind) ≡ 0 = omega (arith, b, x, border-same _ _ (sym (after_inside high)), v) in
                         first_part d high (same_from_border left (Some kind) y)
                     | inr end ↦
                         let e : hi ≡ a.hi = omega (arith, lies.within) in
-                        let u : border (Some a.kind) right ≡ 1 = border-differs (Some a.kind) right (λ s. after_end e (sym s)) in
+                        let u : border (Some a.kind) right ≡ 1 = border-back _ _ (after_end e) in
                         let y : border left (Some kind) ≡ 1 = omega (arith, b, x, u, border-le left (Some kind), border-le (Some kind) right) in
                         let v : border (Some kind) right ≡ 1 = omega (arith, b, x, u, border-le left (Some kind), border-le (Some kind) right) in
                         whole d e (differs_from_border left (Some kind) y) (λ s. differs_from_border (Some kind) right v (sym s))
@@ -166,26 +163,13 @@ module _ (A : List Area) (a : Area) (lo hi : ℕ) (w : IsAreaList A) (lies : Lie
   unfolding Borders
   four_to (nothing e) = ap (λ k. border (kind_before A lo) (Some k) + border (Some k) (kind_at A hi)) (sym e)
   four_to (whole d e m n) =
-      let x = border-differs (kind_before A lo) (Some a.kind) (before_start d) in
-      let u = border-differs (Some a.kind) (kind_at A hi) (λ s. after_end e (sym s)) in
-      let y = border-differs (kind_before A lo) (Some kind) m in
-      let v = border-differs (Some kind) (kind_at A hi) (λ s. n (sym s)) in
-      omega (arith, x, u, y, v)
+      omega (arith, border-differs _ _ (before_start d), border-back _ _ (after_end e), border-differs _ _ m, border-back _ _ n)
   four_to (first_part d h s) =
-      let x = border-differs (kind_before A lo) (Some a.kind) (before_start d) in
-      let u = border-same (Some a.kind) (kind_at A hi) (sym (after_inside h)) in
-      let y = border-same (kind_before A lo) (Some kind) s in
-      let v = border-differs (Some kind) (kind_at A hi) (λ t. before_start d (s ∙ t ∙ after_inside h)) in
-      omega (arith, x, u, y, v)
+      let new = border-differs (Some kind) (kind_at A hi) (λ t. before_start d (s ∙ t ∙ after_inside h)) in
+      omega (arith, border-differs _ _ (before_start d), border-same _ _ (sym (after_inside h)), border-same _ _ s, new)
   four_to (last_part h e s) =
-      let x = border-same (kind_before A lo) (Some a.kind) (before_inside h) in
-      let u = border-differs (Some a.kind) (kind_at A hi) (λ t. after_end e (sym t)) in
-      let y = border-differs (kind_before A lo) (Some kind) (λ t. after_end e (s ∙ sym t ∙ before_inside h)) in
-      let v = border-same (Some kind) (kind_at A hi) (sym s) in
-      omega (arith, x, u, y, v)
-
-has_pages : (addr len : ℕ) → len ≢ 0 → page_of addr < end_page addr len
-has_pages addr len n = omega arith
+      let new = border-differs (kind_before A lo) (Some kind) (λ t. after_end e (s ∙ sym t ∙ before_inside h)) in
+      omega (arith, border-same _ _ (before_inside h), border-back _ _ (after_end e), border-same _ _ (sym s), new)
 
 -- each of the four ways keeps the rows
 pub rows_of_way : (A : List Area) (a : Area) (addr len : ℕ) (prot : Prot) → IsAreaList A → protect_reply addr len ≡ None →
@@ -193,14 +177,14 @@ pub rows_of_way : (A : List Area) (a : Area) (addr len : ℕ) (prot : Prot) → 
     KeepsRows (kind_before A (page_of addr)) a.kind (protected_kind prot a.kind) (kind_at A (end_page addr len))
 unfolding Borders
 rows_of_way A a addr len prot w undecided lies way =
-    four_to A a (page_of addr) (end_page addr len) w lies (has_pages addr len (protect-length addr len undecided))
+    four_to A a (page_of addr) (end_page addr len) w lies (some_pages addr len (protect-length addr len undecided))
     (protected_kind prot a.kind) way
 
 -- a Protect within an area is simple exactly where the area is sealed, and in the four cases
 pub four_ways : (A : List Area) (a : Area) (addr len : ℕ) (prot : Prot) → IsAreaList A → SimpleInFourCases A a addr len prot
 unfolding Borders
 four_ways A a addr len prot w undecided lies =
-    let l = has_pages addr len (protect-length addr len undecided) in
+    let l = some_pages addr len (protect-length addr len undecided) in
     let h = protect-end addr len undecided in
     let kind = protected_kind prot a.kind in (
       λ s.
@@ -220,7 +204,7 @@ four_ways A a addr len prot w undecided lies =
 -- and exactly where the area is sealed or the change of kinds keeps the rows at its ends
 pub keeps_rows : (A : List Area) (a : Area) (addr len : ℕ) (prot : Prot) → IsAreaList A → SimpleKeepsRows A a addr len prot
 keeps_rows A a addr len prot w undecided lies =
-    let l = has_pages addr len (protect-length addr len undecided) in
+    let l = some_pages addr len (protect-length addr len undecided) in
     let h = protect-end addr len undecided in (
       λ s. simple_borders A addr len prot (page_of addr) (end_page addr len) a refl refl w lies l (a, s),
       λ b. simple_in A addr len prot (page_of addr) (end_page addr len) a refl refl w lies l h b,

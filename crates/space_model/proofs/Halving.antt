@@ -1,18 +1,17 @@
 -- An area list cut at a page, and what the first area above the page says of the kinds there.
-use Rattle.std.proofs.Common.{◌≡◌, ℕ, zero, suc, ◌+◌, ◌<◌, ◌≤◌, inl, inr, leb, leb-true, leb-false, true, false, List}
-use Rattle.std.proofs.Common.{[], ◌∷◌, ◌++◌, length, take, drop, get_or, slice_get, Option, Some, None, MatchOption}
-use Rattle.std.proofs.Common.{All, sym, ◌∙◌, ap, subst, refl, arith}
-use Rattle.std.specs.List.{Contains}
-use Rattle.std.specs.List.Sorted.{IsNonDecreasingBy, IsPartitionPoint}
+use Rattle.std.proofs.Common.{◌≡◌, ℕ, zero, suc, ◌+◌, ◌<◌, ◌≤◌, inl, inr, leb, leb-true, leb-false, true, false, List, [], ◌∷◌, ◌++◌, length, take, drop}
+use Rattle.std.proofs.Common.{get_or, slice_get, Option, Some, None, MatchOption, All, sym, ◌∙◌, ap, subst, refl, arith}
 use Rattle.std.proofs.lemmas.Bool.{cases_lt}
 use Rattle.std.proofs.lemmas.List.{append-nil, take-append-drop, length-take-le, length-drop, get_or-take, get_or-drop}
 use Rattle.std.proofs.lemmas.List.Elements.{All-head, All-tail, All-same, All-contains, Contains-get_or, Contains-append_right}
+use Rattle.std.specs.List.{Contains}
+use Rattle.std.specs.List.Sorted.{IsNonDecreasingBy, IsPartitionPoint}
 use Rattle.space_model.specs.declared.areas.Area.{Area}
+use Rattle.space_model.specs.declared.sorts.Sort.{Sort}
 use Rattle.space_model.specs.Areas.{IsAreaList, kind_at}
 use Rattle.space_model.specs.Held.{LiesIn}
 use Rattle.space_model.specs.Cutting.{IsCutBy, IsFirstAbove}
 use Rattle.space_model.proofs.AreaKinds.{kind_at-after}
-use Rattle.space_model.specs.declared.sorts.Sort.{Sort}
 use Rattle.space_model.proofs.Searching.{Remains, remains_all, free_before, mapped_inside, EndsAbove, NoneSoFar}
 use Rattle.space_model.proofs.Simple.{member_in_range, kind_at-member}
 use Rattle.space_model.proofs.FourWays.{starts_after, after_member}
@@ -95,12 +94,8 @@ free_past (a ∷ rest) page p all l =
 -- the first area behind the cut is the first that ends above the page; without one, none ends above it
 pub first_of_rest : (A : List Area) (page : ℕ) (front rest : List Area) (o : Option Area) → IsCutBy (λ a. a.hi) A page front rest →
     o ≡ slice_get rest 0 → MatchOption o (All (λ a. a.hi ≤ page) A) (IsFirstAbove A page)
-first_of_rest A page front [] o cut e =
-    subst (λ x. MatchOption x (All (λ a. a.hi ≤ page) A) (IsFirstAbove A page)) (sym e)
-    (All-same (λ a. a.hi ≤ page) A front (cut.whole ∙ append-nil front) cut.upto)
-first_of_rest A page front (a ∷ rest) o cut e =
-    subst (λ x. MatchOption x (All (λ a. a.hi ≤ page) A) (IsFirstAbove A page)) (sym e)
-    (record { front = front; rest = rest; cut = cut })
+first_of_rest A page front [] o cut e = rw e (All-same (λ a. a.hi ≤ page) A front (cut.whole ∙ append-nil front) cut.upto)
+first_of_rest A page front (a ∷ rest) o cut e = rw e (record { front = front; rest = rest; cut = cut })
 
 module _ (A : List Area) (page : ℕ) (a : Area) (w : IsAreaList A) (first : IsFirstAbove A page a) where
   -- this area and those behind it have the kinds from the page on

@@ -1,29 +1,21 @@
 -- A Brk changes no page outside of its heap, and where its heap ends there is one page.
-use Rattle.std.proofs.Common.{◌≡◌, ℕ, ◌<◌, ◌≤◌, ◌⊎◌, inl, inr, List, [], ◌∷◌, Option, Some, None, ◌∙◌, ap, subst, arith}
+use Rattle.std.proofs.Common.{◌≡◌, ℕ, ◌<◌, ◌≤◌, ◌⊎◌, inl, inr, List, Option, Some, ◌∙◌, ap, subst, arith}
 use Rattle.page_types.specs.declared.TheConstants.{LIMIT}
 use Rattle.page_types.specs.declared.calls.Kind.{Kind}
 use Rattle.page_types.specs.declared.calls.Reply.{Reply}
 use Rattle.page_types.specs.Pages.{page_of, page_count}
 use Rattle.space_model.specs.declared.areas.Area.{Area}
-use Rattle.space_model.specs.declared.paint.Paint.{Paint}
-use Rattle.space_model.specs.declared.paint.Paint.TheVariants.{Gives}
 use Rattle.space_model.specs.declared.paint.Patch.{Patch}
 use Rattle.space_model.specs.declared.sorts.Sort.TheVariants.{Unlike}
 use Rattle.space_model.specs.Areas.{kind_at}
-use Rattle.space_model.specs.Effect.{heap_kind, painted, patch, with_patch, patched}
+use Rattle.space_model.specs.Effect.{heap_kind, patched}
 use Rattle.space_model.specs.Answers.{Breaks}
 use Rattle.space_model.specs.Answers.Effect.{changes}
 use Rattle.space_model.specs.Answers.Breaks.{below_base, shrinks, grows, no_room}
 use Rattle.space_model.specs.Answers.Answers.{by_arguments, refused, kept, done, too_many_rows}
 use Rattle.space_model.specs.Laws.{KeepsToItsHeap}
-use Rattle.space_model.proofs.Changing.{within-before, within-after}
 use Rattle.space_model.proofs.Deciding.{end_one}
-
--- a page outside of a patch keeps its kind
-outside : (kinds : ℕ → Option Kind) (lo hi : ℕ) (paint : Paint) (page : ℕ) → (page < lo) ⊎ (hi ≤ page) →
-    with_patch (patch lo hi paint) kinds page ≡ kinds page
-outside kinds lo hi paint page (inl l) = within-before lo hi page (painted paint (kinds page)) (kinds page) l
-outside kinds lo hi paint page (inr h) = within-after lo hi page (painted paint (kinds page)) (kinds page) h
+use Rattle.space_model.proofs.Effects.{one_outside}
 
 -- what a Brk changes of a heap that ends there
 broken_outside : (kinds : ℕ → Option Kind) (base addr end : ℕ) (ps : List Patch) (r : Reply) (f : Option Reply) (page : ℕ) →
@@ -31,14 +23,9 @@ broken_outside : (kinds : ℕ → Option Kind) (base addr end : ℕ) (ps : List 
     (page < page_of base) ⊎ ((end ≤ page) × (page_count addr ≤ page)) → patched ps kinds page ≡ kinds page
 broken_outside kinds base addr end ps r f page from (below_base l d) out = cc
 broken_outside kinds base addr end ps r f page from (shrinks m l d) out =
-    let only : ps ≡ patch (page_count addr) end (Gives None) ∷ [] = cc in
-    let above : page_of base ≤ page_count addr = omega arith in
-    ap (λ list. patched list kinds page) only ∙
-    outside kinds (page_count addr) end (Gives None) page (elim out [ inl b ↦ inl (omega arith) | inr a ↦ inr a.0 ])
+    one_outside kinds page d (elim out [ inl b ↦ inl (omega arith) | inr a ↦ inr a.0 ])
 broken_outside kinds base addr end ps r f page from (grows m l h d) out =
-    let only : ps ≡ patch end (page_count addr) (Gives (Some heap_kind)) ∷ [] = cc in
-    ap (λ list. patched list kinds page) only ∙
-    outside kinds end (page_count addr) (Gives (Some heap_kind)) page (elim out [ inl b ↦ inl (omega arith) | inr a ↦ inr a.1 ])
+    one_outside kinds page d (elim out [ inl b ↦ inl (omega arith) | inr a ↦ inr a.1 ])
 broken_outside kinds base addr end ps r f page from (no_room m l h d) out = cc
 
 -- so a Brk changes no page outside of its heap

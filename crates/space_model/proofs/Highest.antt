@@ -1,10 +1,10 @@
 -- The highest place of so many free pages in a window, looked for from the last area down.
-use Rattle.std.proofs.Common.{◌≡◌, ℕ, ◌+◌, ◌-◌, ◌<◌, ◌≤◌, inl, inr, List, [], ◌∷◌, ◌++◌, length, take, drop, get_or}
-use Rattle.std.proofs.Common.{Some, None, max, min, sym, ◌∙◌, ap, subst, arith}
-use Rattle.std.specs.List.{Contains}
+use Rattle.std.proofs.Common.{◌≡◌, ℕ, ◌+◌, ◌-◌, ◌<◌, ◌≤◌, inl, inr, List, [], ◌∷◌, ◌++◌, length, take, drop, get_or, Some, None, max, min, sym, ◌∙◌, ap, subst}
+use Rattle.std.proofs.Common.{arith}
 use Rattle.std.proofs.lemmas.Bool.{cases_lt}
 use Rattle.std.proofs.lemmas.List.{take-append-drop, drop_all}
 use Rattle.std.proofs.lemmas.List.Elements.{Contains-get_or, Contains-append_right}
+use Rattle.std.specs.List.{Contains}
 use Rattle.page_types.specs.declared.TheConstants.{LIMIT, LOWEST}
 use Rattle.space_model.specs.declared.areas.Area.{Area}
 use Rattle.space_model.specs.Areas.{IsAreaList, kind_at}
@@ -112,17 +112,14 @@ pub highest_here : (A : List Area) (window pages k i to : ℕ) (a : Area) → k 
     NoneAbove A window pages k to → a ≡ get_or A i no_area → max a.hi LOWEST + pages ≤ to → IsHighestFit (kind_at A) window pages (to - pages)
 unfolding here
 highest_here A window pages k i to a e w within some above is l =
-    found A window pages i to w within some (subst (λ n. NoneAbove A window pages n to) e above)
-    (subst (λ b. max b.hi LOWEST + pages ≤ to) is l)
+    found A window pages i to w within some (rw e at above) (rw is at l)
 
 -- where the gap above an area is too short, each place ends at or below the area's start
 pub none_above_next : (A : List Area) (window pages k i to : ℕ) (a : Area) → k ≡ i + 1 → IsAreaList A → i < length A → 0 < pages →
     NoneAbove A window pages k to → a ≡ get_or A i no_area → to < max a.hi LOWEST + pages → NoneAbove A window pages i (min to a.lo)
 unfolding here
 none_above_next A window pages k i to a e w within some above is l =
-    subst (λ b. NoneAbove A window pages i (min to b.lo)) (sym is)
-    (next A window pages i to w within some (subst (λ n. NoneAbove A window pages n to) e above)
-    (subst (λ b. to < max b.hi LOWEST + pages) is l))
+    rw is (next A window pages i to w within some (rw e at above) (rw is at l))
 
 -- below the first area
 pub highest_below : (A : List Area) (window pages to : ℕ) → IsAreaList A → NoneAbove A window pages 0 to → LOWEST + pages ≤ to →

@@ -7,7 +7,7 @@ use Rattle.space_model.specs.declared.areas.Area.{Area}
 use Rattle.space_model.specs.declared.entries.Entry.{Entry}
 use Rattle.space_model.specs.Areas.{IsAreaList}
 use Rattle.space_model.specs.Answers.{Answers}
-use Rattle.space_model.specs.Laws.{LeavesAreaListAfter}
+use Rattle.space_model.specs.Laws.{LeavesAreaListAfter, SameCallsSameReplies}
 use Rattle.space_model.specs.Held.{FitsUnder}
 use Rattle.space_model.specs.History.{Chains, CallLeaves, HasRightReply, StateAfter, IsNumberedFrom, IsLegal, FitsAndReplies, Runs}
 use Rattle.space_model.proofs.OneAnswer.{one_answer}
@@ -129,9 +129,6 @@ agree_from n A (x ∷ xs) (y ∷ ys) B D (j, l) (k, m) (E, g, s) (F, h, t) e =
     (cc, cc)
 
 -- legal histories from one list with the same calls have the same numbers and replies
-pub agree : (A : List Area) (xs ys : List Entry) → IsLegal A xs → IsLegal A ys →
-    map (λ (e : Entry). e.call) xs ≡ map (λ (e : Entry). e.call) ys →
-    (map (λ (e : Entry). e.number) xs ≡ map (λ (e : Entry). e.number) ys) ×
-    (map (λ (e : Entry). e.reply) xs ≡ map (λ (e : Entry). e.reply) ys)
+pub agree : (A : List Area) (xs ys : List Entry) → SameCallsSameReplies A xs ys
 unfolding Agree
 agree A xs ys (l, (B, s)) (m, (D, t)) e = agree_from 0 A xs ys B D l m s t e

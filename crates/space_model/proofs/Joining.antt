@@ -1,7 +1,6 @@
 -- Lists put together in order have the kinds of their parts.
-use Rattle.std.proofs.Common.{◌≡◌, ℕ, ◌+◌, ◌<◌, ◌≤◌, length, inl, inr, Bool, true, false, if◌then◌else◌, List, [], ◌∷◌}
-use Rattle.std.proofs.Common.{◌++◌, ◌&&◌, Option, Some, None, nat_eq, max, sym, ◌∙◌, ap, subst, refl, arith, get_or, drop}
-use Rattle.std.proofs.Common.{drop-cons, add-one}
+use Rattle.std.proofs.Common.{◌≡◌, ℕ, ◌+◌, ◌<◌, ◌≤◌, length, inl, inr, Bool, true, false, if◌then◌else◌, List, [], ◌∷◌, ◌++◌, ◌&&◌, Option, Some, None, nat_eq}
+use Rattle.std.proofs.Common.{max, sym, ◌∙◌, ap, subst, refl, arith, get_or, drop, drop-cons, add-one}
 use Rattle.std.proofs.lemmas.Bool.{cases_lt, cases_Bool, and_parts, and_from, eqb-true, eq-eqb, true≢false}
 use Rattle.std.proofs.lemmas.Bool.Decides.{nat_tests}
 use Rattle.page_types.specs.declared.calls.Kind.{Kind}
@@ -9,8 +8,7 @@ use Rattle.space_model.specs.declared.areas.Area.{Area}
 use Rattle.space_model.specs.Areas.{IsInRange, MayFollow, IsAreaList, IsInOrder, HasKinds, kind_at}
 use Rattle.space_model.specs.Starts.{same_bool, same_kind}
 use Rattle.space_model.specs.Building.{goes_on, merged, pair_joined, joined, join_all}
-use Rattle.space_model.proofs.AreaKinds.{kind_at-here, kind_at-before, kind_at-after, LeadsTo, side_of}
-use Rattle.space_model.proofs.AreaKinds.Side.{before, inside, after}
+use Rattle.space_model.proofs.AreaKinds.{kind_at-here, kind_at-after, LeadsTo}
 
 -- an area is joined with the last of a list, and those before it stay
 pub joined-append : (list : List Area) (b a : Area) → joined (list ++ b ∷ []) a ≡ list ++ pair_joined b a
@@ -55,27 +53,14 @@ pub first_of-none : (o : Option Kind) → first_of o None ≡ o
 first_of-none (Some k) = refl
 first_of-none None = refl
 
-first_of-assoc : (a b c : Option Kind) → first_of (first_of a b) c ≡ first_of a (first_of b c)
-first_of-assoc (Some k) b c = refl
-first_of-assoc None b c = refl
-
 -- a page has the kind of the first area, or else of the others
 pub kind_at-cons : (a : Area) (rest : List Area) (p : ℕ) → kind_at (a ∷ rest) p ≡ first_of (kind_at (a ∷ []) p) (kind_at rest p)
-kind_at-cons a rest p =
-    elim (side_of a.lo a.hi p) [
-      | before l ↦ rw (kind_at-before a rest p l, kind_at-before a [] p l) refl
-      | inside l h ↦ rw (kind_at-here a rest p l h, kind_at-here a [] p l h) refl
-      | after h ↦ rw (kind_at-after a rest p h, kind_at-after a [] p h) refl
-    ]
+kind_at-cons a rest p = grind (arith, nat_tests)
 
 -- a page has the kind of the first list, or else of the second
 pub kind_at-append : (A B : List Area) (p : ℕ) → kind_at (A ++ B) p ≡ first_of (kind_at A p) (kind_at B p)
 kind_at-append [] B p = refl
-kind_at-append (a ∷ A) B p =
-    kind_at-cons a (A ++ B) p ∙
-    ap (first_of (kind_at (a ∷ []) p)) (kind_at-append A B p) ∙
-    sym (first_of-assoc (kind_at (a ∷ []) p) (kind_at A p) (kind_at B p)) ∙
-    ap (λ k. first_of k (kind_at B p)) (sym (kind_at-cons a A p))
+kind_at-append (a ∷ A) B p = grind (arith, nat_tests, kind_at-append A B p)
 
 -- no page at or above this one has a kind
 abbrev pub IsFreeFrom : List Area → ℕ → Type 0
@@ -115,21 +100,7 @@ goes_on_of b a t k =
 
 merged-kinds : (b a : Area) (p : ℕ) → IsInRange b → IsInRange a → b.hi ≡ a.lo → b.kind ≡ a.kind →
     kind_at (merged b a ∷ []) p ≡ first_of (kind_at (b ∷ []) p) (kind_at (a ∷ []) p)
-merged-kinds b a p w v t k =
-    let n : b.lo < b.hi = w.has_page in
-    let m : a.lo < a.hi = v.has_page in
-    elim (side_of b.lo b.hi p) [
-      | before l ↦
-          rw (kind_at-before (merged b a) [] p l, kind_at-before b [] p l, kind_at-before a [] p (omega arith)) refl
-      | inside l h ↦ rw (kind_at-here (merged b a) [] p l (omega arith), kind_at-here b [] p l h) refl
-      | after h ↦
-          elim (cases_lt p a.hi) [
-            | inl l ↦
-                rw (kind_at-here (merged b a) [] p (omega arith) l, kind_at-after b [] p h, kind_at-here a [] p (omega arith) l)
-                (ap (λ x. Some x) k)
-            | inr g ↦ rw (kind_at-after (merged b a) [] p g, kind_at-after b [] p h, kind_at-after a [] p g) refl
-          ]
-    ]
+merged-kinds b a p w v t k = grind (arith, nat_tests, w.has_page, v.has_page)
 
 pair-kinds : (b a : Area) (p : ℕ) → IsInRange b → IsInRange a → b.hi ≤ a.lo →
     kind_at (pair_joined b a) p ≡ first_of (kind_at (b ∷ []) p) (kind_at (a ∷ []) p)
@@ -170,6 +141,14 @@ joined-leads x b [] a l =
     ]
 joined-leads x b (c ∷ rest) a l = l
 
+first_on : (b : Area) (J A B : List Area) (p : ℕ) → kind_at J p ≡ first_of (kind_at A p) (kind_at B p) →
+    kind_at (b ∷ J) p ≡ first_of (kind_at (b ∷ A) p) (kind_at B p)
+first_on b J A B p e = grind (arith, nat_tests)
+
+then_others : (a : Area) (J A rest : List Area) (p : ℕ) → kind_at J p ≡ first_of (kind_at A p) (kind_at (a ∷ []) p) →
+    first_of (kind_at J p) (kind_at rest p) ≡ first_of (kind_at A p) (kind_at (a ∷ rest) p)
+then_others a J A rest p e = grind (arith, nat_tests, first_of-none (kind_at A p))
+
 -- an area behind all others, joined to an area list, makes one with the kinds of both
 pub joined-kinds : (A : List Area) (a : Area) → IsAreaList A → IsFreeFrom A a.lo → IsInRange a →
     HasKinds (λ p. first_of (kind_at A p) (kind_at (a ∷ []) p)) (joined A a)
@@ -182,11 +161,7 @@ joined-kinds (b ∷ c ∷ rest) a w free r =
     let more = joined-kinds (c ∷ rest) a w.2 (free_tail b (c ∷ rest) a.lo l free) r in
     record {
       areas = (w.0, joined-leads b c rest a w.1, more.areas);
-      kinds_are = λ p.
-          kind_at-cons b (joined (c ∷ rest) a) p ∙
-          ap (first_of (kind_at (b ∷ []) p)) (more.kinds_are p) ∙
-          sym (first_of-assoc (kind_at (b ∷ []) p) (kind_at (c ∷ rest) p) (kind_at (a ∷ []) p)) ∙
-          ap (λ k. first_of k (kind_at (a ∷ []) p)) (sym (kind_at-cons b (c ∷ rest) p));
+      kinds_are = λ p. first_on b (joined (c ∷ rest) a) (c ∷ rest) (a ∷ []) p (more.kinds_are p);
     }
 
 -- pieces in order behind an area list, joined to it, make one with the kinds of both
@@ -204,18 +179,11 @@ join_all-kinds A (a ∷ rest) e w free s =
     let all = join_all-kinds (joined A a) rest a.hi one.areas above s.2 in
     record {
       areas = all.areas;
-      kinds_are = λ p.
-          all.kinds_are p ∙
-          ap (λ k. first_of k (kind_at rest p)) (one.kinds_are p) ∙
-          first_of-assoc (kind_at A p) (kind_at (a ∷ []) p) (kind_at rest p) ∙
-          ap (first_of (kind_at A p)) (sym (kind_at-cons a rest p));
+      kinds_are = λ p. all.kinds_are p ∙ then_others a (joined A a) A rest p (one.kinds_are p);
     }
 
 length-pair : (b a : Area) → length (pair_joined b a) ≤ 2
-length-pair b a = elim (cases_Bool (goes_on b a)) [
-  | inl e ↦ omega (arith, ap length (pair-true b a e))
-  | inr e ↦ omega (arith, ap length (pair-false b a e))
-]
+length-pair b a = grind (arith, nat_tests)
 
 -- a list has at most one area more once one was joined to it
 pub length-joined : (A : List Area) (a : Area) → length (joined A a) ≤ length A + 1

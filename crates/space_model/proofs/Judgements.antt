@@ -1,7 +1,7 @@
 -- What a judged call comes to is an answer: a Map that finds no place is refused, and a change that was judged rightly
 -- gives, with the row limit asked, the reply and the areas of the model.
-use Rattle.std.proofs.Common.{◌≡◌, ℕ, ◌+◌, ◌*◌, ◌≤◌, Bool, true, false, ◌||◌, if◌then◌else◌, IsFalse, inl, inr, List, [], ◌∷◌}
-use Rattle.std.proofs.Common.{Option, Some, None, refl, sym, subst, arith}
+use Rattle.std.proofs.Common.{◌≡◌, ℕ, ◌+◌, ◌*◌, ◌≤◌, Bool, true, false, ◌||◌, if◌then◌else◌, IsFalse, inl, inr, List, [], ◌∷◌, Option, Some, None, refl, sym}
+use Rattle.std.proofs.Common.{ap, subst, arith}
 use Rattle.page_types.specs.declared.TheConstants.{LIMIT}
 use Rattle.page_types.specs.declared.calls.Kind.{Kind}
 use Rattle.page_types.specs.declared.calls.Call.{Call}
@@ -51,22 +51,15 @@ module _ (kinds : ℕ → Option Kind) where
   no_place_if false window pages hint e n = (n hint, (n, tt))
 
   -- a Map whose address is a hint is refused where its pages fit nowhere in the hint's window
-  pub hinted_refused : (addr len : ℕ) (prot : Prot) (flags : MapFlags) (window count : ℕ) → IsFalse (is_fixed flags) →
+  pub hinted_refused : (addr len : ℕ) (prot : Prot) (flags : MapFlags) {window count : ℕ} → IsFalse (is_fixed flags) →
       window ≡ window_of (page_of addr) → count ≡ page_count len → ((s : ℕ) → ¬ FitsAt kinds window count s) →
       RefusesByState kinds (Map addr len prot flags) (Enomem (NoGap count))
-  hinted_refused addr len prot flags window count hints w c none =
+  hinted_refused addr len prot flags hints w c none =
       let hint = page_of addr in
-      let four = has_bits (flag_bits flags) 4 in
-      let eight = has_bits (flag_bits flags) 8 in
-      subst (λ (n : ℕ). RefusesByState kinds (Map addr len prot flags) (Enomem (NoGap n))) (sym c)
-      (inr (
-        clear_if four eight hint _ hints,
-        (
-          no_place_if (is_fixed flags) (window_of hint) (page_count len) hint hints
-              (subst (λ (z : ℕ × ℕ). (s : ℕ) → ¬ FitsAt kinds z.0 z.1 s) (λ i. (w i, c i)) none),
-          refl,
-        ),
-      ))
+      inr (
+        clear_if (has_bits (flag_bits flags) 4) (has_bits (flag_bits flags) 8) hint _ hints,
+        (no_place_if (is_fixed flags) (window_of hint) (page_count len) hint hints (rw (w, c) at none), ap (λ n. Enomem (NoGap n)) c),
+      )
 
   placed_if : (b : Bool) (window pages hint start : ℕ) → b ≡ false → ¬ FitsAt kinds window pages hint →
       IsHighestFit kinds window pages start →
@@ -74,33 +67,19 @@ module _ (kinds : ℕ → Option Kind) where
   placed_if true window pages hint start e n fit = cc
   placed_if false window pages hint start e n fit = inr (n, inl fit)
 
-  placed_judged : (addr len : ℕ) (prot : Prot) (flags : MapFlags) (start : ℕ) → IsFalse (is_fixed flags) →
-      ¬ FitsAt kinds (window_of (page_of addr)) (page_count len) (page_of addr) →
-      IsHighestFit kinds (window_of (page_of addr)) (page_count len) start → start + page_count len ≤ LIMIT →
-      IsJudged kinds (Map addr len prot flags) (Changes (placed start (page_count len) (mapped_kind prot flags)))
-  placed_judged addr len prot flags start hints none fit limit =
-      let hint = page_of addr in
-      let four = has_bits (flag_bits flags) 4 in
-      let eight = has_bits (flag_bits flags) 8 in (
-        (
-          clear_if four eight hint _ hints,
-          (start, placed_if (is_fixed flags) (window_of hint) (page_count len) hint start hints none fit, refl),
-        ),
-        (omega arith, omega arith, limit),
-      )
-
   -- where the hint doesn't fit, its pages are put as high as they fit in the hint's window
-  pub hinted_placed : (addr len : ℕ) (prot : Prot) (flags : MapFlags) (window count start : ℕ) (kind : Kind) (j : Judged) →
+  pub hinted_placed : (addr len : ℕ) (prot : Prot) (flags : MapFlags) {window count start : ℕ} {kind : Kind} {j : Judged} →
       IsFalse (is_fixed flags) → window ≡ window_of (page_of addr) → count ≡ page_count len → kind ≡ mapped_kind prot flags →
       ¬ FitsAt kinds window count (page_of addr) → IsHighestFit kinds window count start → window ≤ LIMIT →
       j ≡ Changes (placed start count kind) → IsJudged kinds (Map addr len prot flags) j
-  hinted_placed addr len prot flags window count start kind j hints w c k none fit low is =
-      let limit : start + count ≤ LIMIT = omega (arith, fit.fits.high, low) in
-      subst (IsJudged kinds (Map addr len prot flags)) (sym is)
-      (subst (λ (z : ℕ × ℕ × Kind).
-      ¬ FitsAt kinds z.0 z.1 (page_of addr) → IsHighestFit kinds z.0 z.1 start → start + z.1 ≤ LIMIT →
-      IsJudged kinds (Map addr len prot flags) (Changes (placed start z.1 z.2))) (λ i. (sym w i, sym c i, sym k i))
-      (placed_judged addr len prot flags start hints) none fit limit)
+  hinted_placed addr len prot flags {start = start} hints w c k none fit low is =
+      let hint = page_of addr in
+      let place = placed_if (is_fixed flags) (window_of hint) (page_count len) hint start hints (rw (w, c) at none) (rw (w, c) at fit) in
+      let limit : start + page_count len ≤ LIMIT = omega (arith, fit.fits.high, low, c) in
+      rw (is, c, k) (
+        (clear_if (has_bits (flag_bits flags) 4) (has_bits (flag_bits flags) 8) hint _ hints, (start, place, refl)),
+        (omega arith, omega arith, limit),
+      )
 
 -- a change that was judged rightly, made as the row limit allows, is the call's answer
 pub made_answers : (A : List Area) (c : Call) (change : Change) (r : Reply) (B : List Area) → plain_reply c ≡ None →

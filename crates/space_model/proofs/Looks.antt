@@ -12,20 +12,42 @@ use Rattle.space_model.specs.declared.judging.Pages.{Ghosts}
 use Rattle.space_model.specs.Places.{FitsAt, IsHighestFit, window_of}
 use Rattle.space_model.specs.Looking.{MayStop, looks_of}
 
--- so many looks were made from one hand up to another
-pub record HasLooked {Pages Hand : Type 0} (P : Ghosts Pages Hand) (pages : Pages) (hand next : Hand) (count : ℕ) : Type 0 where
+-- what looks made from one hand up to another leave
+pub record HasSeen {Pages Hand : Type 0} (P : Ghosts Pages Hand) (pages : Pages) (hand next : Hand) : Type 0 where
   pub may : P.may_look pages next
   pub same : P.kinds pages next ≡ P.kinds pages hand
   pub reach : P.reach pages next ≡ P.reach pages hand
+  pub looked : P.looked pages hand next
+
+-- and so many were made
+pub record HasLooked {Pages Hand : Type 0} (P : Ghosts Pages Hand) (pages : Pages) (hand next : Hand) (count : ℕ) : Type 0 where
+  pub seen : HasSeen P pages hand next
   pub looks : P.looks pages next ≤ P.looks pages hand + count
 
 module _ {Pages Hand : Type 0} where
   -- the first looks
+  pub sees : (P : Ghosts Pages Hand) {pages : Pages} {hand next : Hand} → P.may_look pages hand → P.looked pages hand next →
+      HasSeen P pages hand next
+  sees P {pages} {hand} {next} may looked =
+      let s = P.same_kinds pages hand next may looked in
+      record { may = s.0; same = s.1; reach = P.same_reach pages hand next may looked; looked = looked }
+
+  -- and more
+  pub sees_on : {P : Ghosts Pages Hand} {pages : Pages} {hand mid next : Hand} → HasSeen P pages hand mid → P.looked pages mid next →
+      HasSeen P pages hand next
+  sees_on {P} {pages} {hand} {mid} {next} seen looked =
+      let s = sees P seen.may looked in
+      record {
+        may = s.may;
+        same = s.same ∙ seen.same;
+        reach = s.reach ∙ seen.reach;
+        looked = P.looks_on pages hand mid next seen.looked looked;
+      }
+
+  -- the first looks, counted
   pub looks_first : (P : Ghosts Pages Hand) (pages : Pages) (hand next : Hand) (count : ℕ) → P.may_look pages hand → P.looked pages hand next
       → P.looks pages next ≤ P.looks pages hand + count → HasLooked P pages hand next count
-  looks_first P pages hand next count may looked few =
-      let s = P.same_kinds pages hand next may looked in
-      record { may = s.0; same = s.1; reach = P.same_reach pages hand next may looked; looks = few }
+  looks_first P pages hand next count may looked few = record { seen = sees P may looked; looks = few }
 
   -- looks behind others, as many for the hand before as for the one behind these
   pub looks_then : {P : Ghosts Pages Hand} {pages : Pages} {hand mid : Hand} {count : ℕ} (next : Hand) (more : (ℕ → ℕ → ℕ) → ℕ)
@@ -33,21 +55,14 @@ module _ {Pages Hand : Type 0} where
       → P.looks pages next ≤ P.looks pages hand + (count + more (P.reach pages hand))
   looks_then {P} {pages} {hand} {mid} {count} next more so_far few =
       let same : P.looks pages next ≤ P.looks pages mid + more (P.reach pages hand) =
-      subst (λ (r : ℕ → ℕ → ℕ). P.looks pages next ≤ P.looks pages mid + more r) so_far.reach few in
+      subst (λ (r : ℕ → ℕ → ℕ). P.looks pages next ≤ P.looks pages mid + more r) so_far.seen.reach few in
       let before = so_far.looks in omega arith
 
   -- and one search more
   pub looks_on : {P : Ghosts Pages Hand} {pages : Pages} {hand mid : Hand} {count : ℕ} (next : Hand) (lo hi : ℕ) → HasLooked P pages hand mid count
       → P.looked pages mid next → P.looks pages next ≤ P.looks pages mid + P.reach pages mid lo hi
       → HasLooked P pages hand next (count + P.reach pages hand lo hi)
-  looks_on {P} {pages} {hand} {mid} {count} next lo hi so_far looked few =
-      let s = P.same_kinds pages mid next so_far.may looked in
-      record {
-        may = s.0;
-        same = s.1 ∙ so_far.same;
-        reach = P.same_reach pages mid next so_far.may looked ∙ so_far.reach;
-        looks = looks_then next (λ r. r lo hi) so_far few;
-      }
+  looks_on next lo hi so_far looked few = record { seen = sees_on so_far.seen looked; looks = looks_then next (λ r. r lo hi) so_far few }
 
   -- looks through pages are looks through pages among which these are
   pub looks_within : (P : Ghosts Pages Hand) (pages : Pages) (hand : Hand) (lo hi from to before after : ℕ) → from ≤ lo → hi ≤ to
@@ -78,7 +93,7 @@ module _ {Pages Hand : Type 0} where
   looks_down_then {P} {pages} {hand} {mid} {so_many} next window count at found so_far fit few stop =
       looks_then next (λ r. r at window) so_far
       (looks_down P pages mid window count at (P.looks pages mid) (P.looks pages next) found fit few
-      (subst (λ (k : ℕ → Option Kind). MayStop k window count at) (sym so_far.same) stop))
+      (subst (λ (k : ℕ → Option Kind). MayStop k window count at) (sym so_far.seen.same) stop))
 
   -- a Map whose pages don't fit at its hint looks for a place in the hint's window
   pub looks_hinted : {P : Ghosts Pages Hand} {pages : Pages} {hand mid : Hand} (next : Hand) (addr len : ℕ) (prot : Prot) (flags : MapFlags)

@@ -5,15 +5,15 @@ use Rattle.std.proofs.lemmas.List.Elements.{All-nil, All-cons, All-head, All-tai
 use Rattle.page_types.specs.declared.calls.Kind.{Kind}
 use Rattle.page_types.specs.Named.{IsNamedKind, IsNamedOption}
 use Rattle.space_model.specs.declared.areas.Area.{Area}
-use Rattle.space_model.specs.Areas.{IsAreaList, HasKinds, HasNamedKinds, kind_at}
 use Rattle.space_model.specs.declared.paint.Paint.{Paint}
+use Rattle.space_model.specs.Areas.{IsAreaList, HasKinds, HasNamedKinds, kind_at}
 use Rattle.space_model.specs.declared.paint.Paint.TheVariants.{Gives, Protects, Seals}
 use Rattle.space_model.specs.declared.paint.Patch.{Patch}
 use Rattle.space_model.specs.Effect.{painted, with_patch, patched}
 use Rattle.space_model.specs.Judges.{IsNamedPaint, AreNamedPaints}
 use Rattle.space_model.proofs.AreaKinds.{kind_at-here, kind_at-before, kind_at-after, kind_at-below, LeadsTo-above, side_of}
 use Rattle.space_model.proofs.AreaKinds.Side.{before, inside, after}
-use Rattle.space_model.proofs.Changing.{within-before, within-inside, within-after}
+use Rattle.space_model.proofs.Changing.{patch-outside, patch-inside}
 
 -- the kind of each page has named bits alone where those of the areas have
 pub named_at : (A : List Area) (p : ℕ) → HasNamedKinds A → IsNamedOption (kind_at A p)
@@ -48,13 +48,10 @@ named_new Seals (Some kind) n m = m
 named_change : (kinds : ℕ → Option Kind) (change : Patch) → ((p : ℕ) → IsNamedOption (kinds p)) → IsNamedPaint change.paint →
     (p : ℕ) → IsNamedOption (with_patch change kinds p)
 named_change kinds change n m p =
-    let new = painted change.paint (kinds p) in
     elim (side_of change.lo change.hi p) [
-      | before l ↦ subst IsNamedOption (sym (within-before change.lo change.hi p new (kinds p) l)) (n p)
-      | inside l h ↦
-          subst IsNamedOption (sym (within-inside change.lo change.hi p new (kinds p) l h))
-          (named_new change.paint (kinds p) m (n p))
-      | after h ↦ subst IsNamedOption (sym (within-after change.lo change.hi p new (kinds p) h)) (n p)
+      | before l ↦ subst IsNamedOption (sym (patch-outside change kinds p (inl l))) (n p)
+      | inside l h ↦ subst IsNamedOption (sym (patch-inside change kinds p l h)) (named_new change.paint (kinds p) m (n p))
+      | after h ↦ subst IsNamedOption (sym (patch-outside change kinds p (inr h))) (n p)
     ]
 
 named_patched : (patches : List Patch) (kinds : ℕ → Option Kind) → ((p : ℕ) → IsNamedOption (kinds p)) → AreNamedPaints patches →

@@ -1,46 +1,38 @@
 -- No call changes a sealed page or takes it away: where pages change or are replaced a bar has found none sealed, or
 -- they were free, or of a heap, whose pages aren't sealed; and sealing a sealed page changes nothing.
-use Rattle.std.proofs.Common.{◌≡◌, ℕ, ◌+◌, ◌<◌, ◌≤◌, inl, inr, Bool, true, false, ◌||◌, if◌then◌else◌, IsTrue, List, [], ◌∷◌}
-use Rattle.std.proofs.Common.{Option, Some, None, sym, ◌∙◌, ap, nat_lt, not, ◌&&◌, ◌==◌, arith}
+use Rattle.std.proofs.Common.{◌≡◌, ℕ, ◌+◌, ◌<◌, ◌≤◌, inl, inr, Bool, true, false, ◌||◌, if◌then◌else◌, IsTrue, List, [], ◌∷◌, Option, Some, None, sym, ◌∙◌, ap}
+use Rattle.std.proofs.Common.{nat_lt, arith}
 use Rattle.std.proofs.lemmas.Bool.{cases_lt, true≢false}
+use Rattle.std.proofs.lemmas.Bool.Decides.{nat_tests}
 use Rattle.page_types.specs.declared.calls.Kind.{Kind}
 use Rattle.page_types.specs.declared.calls.Call.{Call}
 use Rattle.page_types.specs.declared.calls.Call.TheVariants.{Map, Unmap, Protect, Fault, Seal, Brk, Remap}
 use Rattle.page_types.specs.declared.calls.Reply.{Reply}
 use Rattle.page_types.specs.Pages.{page_of, page_count, end_page}
-use Rattle.page_types.specs.Sets.{has_bits, flag_bits, prot_bits}
+use Rattle.page_types.specs.Sets.{has_bits, flag_bits}
 use Rattle.space_model.specs.declared.areas.Area.{Area}
 use Rattle.space_model.specs.declared.entries.Entry.{Entry}
-use Rattle.space_model.specs.declared.paint.Paint.{Paint}
-use Rattle.space_model.specs.declared.paint.Paint.TheVariants.{Gives, Protects, Seals}
+use Rattle.space_model.specs.declared.paint.Paint.TheVariants.{Gives, Seals}
 use Rattle.space_model.specs.declared.paint.Patch.{Patch}
 use Rattle.space_model.specs.declared.sorts.Sort.TheVariants.{Mapped, Sealed, Unlike}
 use Rattle.space_model.specs.Areas.{kind_at}
-use Rattle.space_model.specs.Effect.{mapped_kind, sealed_kind, heap_kind, painted, patch, with_patch, patched}
-use Rattle.space_model.specs.Sorts.{is_sort, NoneOf, IsClear}
+use Rattle.space_model.specs.Effect.{sealed_kind, heap_kind, painted, patch, with_patch, patched}
+use Rattle.space_model.specs.Sorts.{is_sort, IsClear}
 use Rattle.space_model.specs.Sorts.Bar.{bar}
-use Rattle.space_model.specs.Places.{StartsAt, remap_places, window_of}
+use Rattle.space_model.specs.Places.{StartsAt, window_of}
 use Rattle.space_model.specs.Places.Place.{fixed, free_at, highest_in}
-use Rattle.space_model.specs.Answers.{Breaks, Remaps, IsHeapEnd, in_order, IsEffect, Answers}
+use Rattle.space_model.specs.Answers.{IsEffect, Answers}
 use Rattle.space_model.specs.Answers.Effect.{changes}
 use Rattle.space_model.specs.Answers.Breaks.{below_base, shrinks, grows, no_room}
 use Rattle.space_model.specs.Answers.Remaps.{shorter, stays, moves}
 use Rattle.space_model.specs.Answers.Answers.{by_arguments, refused, kept, done, too_many_rows}
 use Rattle.space_model.specs.Laws.{SealedPagesStay}
-use Rattle.space_model.proofs.AreaKinds.{side_of}
-use Rattle.space_model.proofs.AreaKinds.Side.{before, inside, after}
-use Rattle.space_model.proofs.Changing.{within-before, within-inside, within-after}
+use Rattle.space_model.proofs.Effects.{patches_by}
 use Rattle.space_model.proofs.Remapping.{placed_free, placed_behind}
 
 -- a sealed kind isn't the heap's
-not_like : (same shared sealed : Bool) → sealed ≡ true → not (same && (not shared && not sealed)) ≡ false → ⊥
-not_like same shared false e f = cc
-not_like true true true e f = cc
-not_like true false true e f = cc
-not_like false shared true e f = cc
-
 heap_open : (k : Kind) → IsTrue k.sealed → is_sort (Unlike (Some heap_kind)) (Some k) ≡ false → ⊥
-heap_open k sealed f = not_like (3 == prot_bits k.prot) k.shared k.sealed sealed f
+heap_open k sealed f = grind (arith, nat_tests)
 
 module _ (kinds : ℕ → Option Kind) (page : ℕ) (kind : Kind) (is : kinds page ≡ Some kind) (sealed : IsTrue kind.sealed) where
   -- the page isn't free
@@ -55,18 +47,9 @@ module _ (kinds : ℕ → Option Kind) (page : ℕ) (kind : Kind) (is : kinds pa
   isnt_open : is_sort Sealed (kinds page) ≡ false → ⊥
   isnt_open f = true≢false (sym sealed ∙ sym (ap (is_sort Sealed) is) ∙ f)
 
-  -- outside of a patch it keeps its kind
-  outside_of : (f : ℕ → Option Kind) → f page ≡ Some kind → (lo hi : ℕ) (paint : Paint) → (lo ≤ page → page < hi → ⊥) →
-      with_patch (patch lo hi paint) f page ≡ Some kind
-  outside_of f at lo hi paint apart =
-      elim (side_of lo hi page) [
-        | before b ↦ within-before lo hi page (painted paint (f page)) (f page) b ∙ at
-        | inside low high ↦ absurd (apart low high)
-        | after b ↦ within-after lo hi page (painted paint (f page)) (f page) b ∙ at
-      ]
-
-  outside : (lo hi : ℕ) (paint : Paint) → (lo ≤ page → page < hi → ⊥) → with_patch (patch lo hi paint) kinds page ≡ Some kind
-  outside lo hi paint apart = outside_of kinds is lo hi paint apart
+  -- a patch that doesn't have it leaves it its kind
+  outside : (q : Patch) (f : ℕ → Option Kind) → f page ≡ Some kind → (q.lo ≤ page → page < q.hi → ⊥) → with_patch q f page ≡ Some kind
+  outside q f at apart = grind (arith, nat_tests)
 
   -- no heap has it
   isnt_heap : is_sort (Unlike (Some heap_kind)) (kinds page) ≡ false → ⊥
@@ -78,13 +61,7 @@ module _ (kinds : ℕ → Option Kind) (page : ℕ) (kind : Kind) (is : kinds pa
 
   -- so a Seal leaves it its kind
   sealed_again : (lo hi : ℕ) → with_patch (patch lo hi Seals) kinds page ≡ Some kind
-  sealed_again lo hi =
-      elim (side_of lo hi page) [
-        | before b ↦ within-before lo hi page (painted Seals (kinds page)) (kinds page) b ∙ is
-        | inside low high ↦
-            within-inside lo hi page (painted Seals (kinds page)) (kinds page) low high ∙ ap (painted Seals) is ∙ ap (λ k. Some k) same_sealed
-        | after b ↦ within-after lo hi page (painted Seals (kinds page)) (kinds page) b ∙ is
-      ]
+  sealed_again lo hi = grind (arith, nat_tests, is, ap (painted Seals) is ∙ ap (λ k. Some k) same_sealed)
 
   -- a Map isn't put over it
   map_apart : (four eight : Bool) (hint window pages start : ℕ) →
@@ -101,84 +78,48 @@ module _ (kinds : ℕ → Option Kind) (page : ℕ) (kind : Kind) (is : kinds pa
   map_apart false false hint window pages start clear (inr (n, inl fit)) low high = isnt_free (fit.fits.free page low high)
   map_apart false false hint window pages start clear (inr (n, inr (m, s))) low high = s
 
-  -- two patches leave it its kind where each does, in either order
-  outside_both : (b : Bool) (p q : Patch) → ((f : ℕ → Option Kind) → f page ≡ Some kind → with_patch p f page ≡ Some kind) →
-      ((f : ℕ → Option Kind) → f page ≡ Some kind → with_patch q f page ≡ Some kind) →
+  -- two patches that don't have it leave it its kind, in either order
+  outside_both : (b : Bool) (p q : Patch) → (p.lo ≤ page → page < p.hi → ⊥) → (q.lo ≤ page → page < q.hi → ⊥) →
       patched (if b then p ∷ q ∷ [] else q ∷ p ∷ []) kinds page ≡ Some kind
-  outside_both true p q one other = other (with_patch p kinds) (one kinds is)
-  outside_both false p q one other = one (with_patch q kinds) (other kinds is)
+  outside_both true p q one other = outside q (with_patch p kinds) (outside p kinds is one) other
+  outside_both false p q one other = outside p (with_patch q kinds) (outside q kinds is other) one
 
-  -- a Brk doesn't change it, since no heap has it and where one grows the pages were free
-  brk_keeps : (base addr end : ℕ) (ps : List Patch) (r : Reply) (f : Option Reply) → IsHeapEnd kinds base end →
-      Breaks kinds base addr end (changes ps r f) → patched ps kinds page ≡ Some kind
-  brk_keeps base addr end ps r f heap (below_base l d) = cc
-  brk_keeps base addr end ps r f heap (shrinks m l d) =
-      let same : ps ≡ patch (page_count addr) end (Gives None) ∷ [] = cc in
-      ap (λ l. patched l kinds page) same ∙
-      outside (page_count addr) end (Gives None) (λ low high. isnt_heap (heap.none_below page (omega arith) high))
-  brk_keeps base addr end ps r f heap (grows m l room d) =
-      let same : ps ≡ patch end (page_count addr) (Gives (Some heap_kind)) ∷ [] = cc in
-      ap (λ l. patched l kinds page) same ∙
-      outside end (page_count addr) (Gives (Some heap_kind)) (λ low high. isnt_free (room.1 page low high))
-  brk_keeps base addr end ps r f heap (no_room m l room d) = cc
+  -- nor does one patch that doesn't have it
+  one_keeps : {ps : List Patch} {r s : Reply} {f g : Option Reply} {q : Patch} → changes ps r f ≡ changes (q ∷ []) s g →
+      (q.lo ≤ page → page < q.hi → ⊥) → patched ps kinds page ≡ Some kind
+  one_keeps {q = q} d apart = patches_by (λ l. patched l kinds page ≡ Some kind) d (outside q kinds is apart)
 
-  -- nor does a Remap, whose old pages aren't sealed and whose place was free
-  remap_keeps : (addr old new : ℕ) (may : Bool) (hint : ℕ) (ps : List Patch) (r : Reply) (f : Option Reply) →
-      NoneOf kinds Sealed (page_of addr) (page_of addr + old) →
-      Remaps kinds addr old new (remap_places (page_of addr) (page_of addr + old) may hint) (changes ps r f) →
-      patched ps kinds page ≡ Some kind
-  remap_keeps addr old new may hint ps r f open_all (shorter l d) =
-      let same : ps ≡ patch (page_of addr + new) (page_of addr + old) (Gives None) ∷ [] = cc in
-      ap (λ l. patched l kinds page) same ∙
-      outside (page_of addr + new) (page_of addr + old) (Gives None) (λ low high. isnt_open (open_all page (omega arith) high))
-  remap_keeps addr old new may hint ps r f open_all (stays l s d) =
-      let lo = page_of addr in
-      let paint : Paint = Gives (kinds lo) in
-      let same : ps ≡ patch lo (lo + new) paint ∷ [] = cc in
-      ap (λ l. patched l kinds page) same ∙
-      outside lo (lo + new) paint
-      (λ low high.
-      elim (cases_lt page (lo + old)) [
-        | inl own ↦ isnt_open (open_all page low own)
-        | inr behind ↦ isnt_free (placed_behind kinds new lo (lo + old) may hint s page low behind high)
-      ])
-  remap_keeps addr old new may hint ps r f open_all (moves start l s n d) =
-      let lo = page_of addr in
-      let p = patch lo (lo + old) (Gives None) in
-      let q = patch start (start + new) (Gives (kinds lo)) in
-      let same : ps ≡ in_order p q = cc in
-      ap (λ l. patched l kinds page) same ∙
-      outside_both (nat_lt lo start) p q
-      (λ g at. outside_of g at lo (lo + old) (Gives None) (λ low high. isnt_open (open_all page low high)))
-      (λ g at.
-      outside_of g at start (start + new) (Gives (kinds lo))
-      (λ low high. isnt_free (placed_free kinds new lo (lo + old) may hint start s n page low high)))
-
-  -- so what a call changes leaves it its kind
+  -- so what a call changes leaves it its kind: most bars find none sealed
   changes_keep : (c : Call) (ps : List Patch) (r : Reply) (f : Option Reply) → IsEffect kinds c (changes ps r f) →
       patched ps kinds page ≡ Some kind
   changes_keep (Map addr len prot flags) ps r f (clear, (start, s, d)) =
-      let count = page_count len in
-      let paint : Paint = Gives (Some (mapped_kind prot flags)) in
-      let same : ps ≡ patch start (start + count) paint ∷ [] = cc in
-      ap (λ l. patched l kinds page) same ∙
-      outside start (start + count) paint
-      (map_apart (has_bits (flag_bits flags) 4) (has_bits (flag_bits flags) 8) (page_of addr) (window_of (page_of addr)) count start clear s)
-  changes_keep (Unmap addr len) ps r f (clear, d) =
-      let same : ps ≡ patch (page_of addr) (end_page addr len) (Gives None) ∷ [] = cc in
-      ap (λ l. patched l kinds page) same ∙
-      outside (page_of addr) (end_page addr len) (Gives None) (λ low high. isnt_open (clear.0 page low high))
-  changes_keep (Protect addr len prot) ps r f (clear, d) =
-      let same : ps ≡ patch (page_of addr) (end_page addr len) (Protects prot) ∷ [] = cc in
-      ap (λ l. patched l kinds page) same ∙
-      outside (page_of addr) (end_page addr len) (Protects prot) (λ low high. isnt_open (clear.1.0 page low high))
+      one_keeps d (map_apart (has_bits (flag_bits flags) 4) (has_bits (flag_bits flags) 8) (page_of addr) (window_of (page_of addr))
+      (page_count len) start clear s)
+  changes_keep (Unmap addr len) ps r f (clear, d) = one_keeps d (λ low high. isnt_open (clear.0 page low high))
+  changes_keep (Protect addr len prot) ps r f (clear, d) = one_keeps d (λ low high. isnt_open (clear.1.0 page low high))
   changes_keep (Fault addr access) ps r f (clear, (s, h, d)) = cc
   changes_keep (Seal addr len flags) ps r f (clear, d) =
-      let same : ps ≡ patch (page_of addr) (end_page addr len) Seals ∷ [] = cc in
-      ap (λ l. patched l kinds page) same ∙ sealed_again (page_of addr) (end_page addr len)
-  changes_keep (Brk base addr) ps r f (clear, (end, heap, d)) = brk_keeps base addr end ps r f heap d
-  changes_keep (Remap addr old new may hint) ps r f (clear, d) =
-      remap_keeps addr (page_count old) (page_count new) may hint ps r f clear.1.0 d
+      patches_by (λ l. patched l kinds page ≡ Some kind) d (sealed_again (page_of addr) (end_page addr len))
+  -- no heap has it, and where one grows the pages were free
+  changes_keep (Brk base addr) ps r f (clear, (end, heap, below_base l d)) = cc
+  changes_keep (Brk base addr) ps r f (clear, (end, heap, shrinks m l d)) =
+      one_keeps d (λ low high. isnt_heap (heap.none_below page (omega arith) high))
+  changes_keep (Brk base addr) ps r f (clear, (end, heap, grows m l room d)) = one_keeps d (λ low high. isnt_free (room.1 page low high))
+  changes_keep (Brk base addr) ps r f (clear, (end, heap, no_room m l room d)) = cc
+  -- the old pages of a Remap aren't sealed, and its place was free
+  changes_keep (Remap addr old new may hint) ps r f (clear, shorter l d) =
+      one_keeps d (λ low high. isnt_open (clear.1.0 page (omega arith) high))
+  changes_keep (Remap addr old new may hint) ps r f (clear, stays l s d) =
+      one_keeps d (λ low high.
+      elim (cases_lt page (end_page addr old)) [
+        | inl own ↦ isnt_open (clear.1.0 page low own)
+        | inr behind ↦ isnt_free (placed_behind kinds (page_count new) (page_of addr) (end_page addr old) may hint s page low behind high)
+      ])
+  changes_keep (Remap addr old new may hint) ps r f (clear, moves start l s n d) =
+      patches_by (λ l. patched l kinds page ≡ Some kind) d
+      (outside_both (nat_lt (page_of addr) start) (patch (page_of addr) (end_page addr old) (Gives None))
+      (patch start (start + page_count new) (Gives (kinds (page_of addr)))) (λ low high. isnt_open (clear.1.0 page low high))
+      (λ low high. isnt_free (placed_free kinds (page_count new) (page_of addr) (end_page addr old) may hint start s n page low high)))
 
 -- one call leaves a sealed page its kind
 pub sealed_stays : (A : List Area) (c : Call) (r : Reply) (B : List Area) (page : ℕ) (kind : Kind) → Answers A c r B →

@@ -1,12 +1,12 @@
 -- What a search over the areas in order knows when it has come to one of them.
-use Rattle.std.proofs.Common.{◌≡◌, ℕ, ◌+◌, ◌<◌, ◌≤◌, inl, inr, true, false, List, [], ◌∷◌, length, drop, get_or, add-one}
-use Rattle.std.proofs.Common.{drop-cons, Some, None, min, max, sym, ◌∙◌, ap, subst, refl, arith}
+use Rattle.std.proofs.Common.{◌≡◌, ℕ, ◌+◌, ◌<◌, ◌≤◌, inl, inr, List, [], ◌∷◌, length, drop, get_or, add-one, drop-cons, Some, None, min, max, sym, ◌∙◌, ap}
+use Rattle.std.proofs.Common.{subst, refl, arith}
 use Rattle.std.proofs.lemmas.Bool.{cases_lt}
 use Rattle.space_model.specs.declared.areas.Area.{Area}
+use Rattle.space_model.specs.declared.sorts.Sort.{Sort}
 use Rattle.space_model.specs.Areas.{IsAreaList, kind_at}
 use Rattle.space_model.specs.Building.{no_area}
 use Rattle.space_model.specs.Cutting.{IsFound}
-use Rattle.space_model.specs.declared.sorts.Sort.{Sort}
 use Rattle.space_model.specs.Sorts.{is_sort, NoneOf, IsEnd}
 use Rattle.space_model.proofs.AreaKinds.{kind_at-here, kind_at-after, kind_at-below}
 

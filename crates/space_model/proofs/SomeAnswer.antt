@@ -1,7 +1,7 @@
 -- Each call has an answer on an area list: of the pages below a bound there is a lowest and a highest of a sort, or
 -- none.
-use Rattle.std.proofs.Common.{◌≡◌, ℕ, zero, suc, ◌+◌, ◌*◌, ◌<◌, ◌≤◌, ◌≢◌, ◌⊎◌, inl, inr, Bool, true, false, if◌then◌else◌}
-use Rattle.std.proofs.Common.{nat_lt, is_some, List, [], ◌∷◌, Option, Some, None, sym, ◌∙◌, subst, refl, arith}
+use Rattle.std.proofs.Common.{◌≡◌, ℕ, zero, suc, ◌+◌, ◌*◌, ◌<◌, ◌≤◌, ◌⊎◌, inl, inr, Bool, true, false, if◌then◌else◌, nat_lt, is_some, List, [], ◌∷◌, Option}
+use Rattle.std.proofs.Common.{Some, None, sym, ◌∙◌, ap, subst, refl, arith}
 use Rattle.std.proofs.lemmas.Bool.{cases_lt, cases_eq, cases_Bool, true≢false}
 use Rattle.page_types.specs.declared.TheConstants.{LIMIT, LOW, LOWEST, ROWS}
 use Rattle.page_types.specs.declared.sets.Access.{Access}
@@ -16,8 +16,7 @@ use Rattle.page_types.specs.declared.calls.Short.TheVariants.{NoGap}
 use Rattle.page_types.specs.Pages.{page_of, page_count, end_page}
 use Rattle.page_types.specs.Sets.{has_bits, prot_bits, access_bit, is_fixed}
 use Rattle.page_types.specs.PlainReply.{plain_reply}
-use Rattle.page_types.proofs.Undecided.{map-length, map-end, unmap-length, unmap-end, protect-length, protect-end, seal-length, seal-end}
-use Rattle.page_types.proofs.Undecided.{brk-base, remap-end}
+use Rattle.page_types.proofs.Undecided.{map-length, map-end, unmap-length, unmap-end, protect-length, protect-end, seal-length, seal-end, brk-base, remap-end}
 use Rattle.space_model.specs.declared.areas.Area.{Area}
 use Rattle.space_model.specs.declared.paint.Paint.TheVariants.{Gives, Protects, Seals}
 use Rattle.space_model.specs.declared.paint.Patch.{Patch}
@@ -37,44 +36,15 @@ use Rattle.space_model.specs.Answers.Answers.{by_arguments, refused, kept, done,
 use Rattle.space_model.specs.Laws.{HasSomeAnswer}
 use Rattle.space_model.specs.Building.{changed_list}
 use Rattle.space_model.proofs.Changing.{changed_list-kinds}
-use Rattle.space_model.proofs.Remapping.{placed_low, move_rises}
-
--- the lowest number of a sort from one bound up to another, or none
-data Lowest (P : ℕ → Type 0) (lo hi : ℕ) : Type 0 where
-  lowest_is : (q : ℕ) → lo ≤ q → q < hi → P q → ((p : ℕ) → lo ≤ p → p < q → ¬ P p) → Lowest P lo hi
-  no_lowest : ((p : ℕ) → lo ≤ p → p < hi → ¬ P p) → Lowest P lo hi
-
-lowest_of : (P : ℕ → Type 0) (test : (p : ℕ) → P p ⊎ (¬ P p)) (lo hi : ℕ) → Lowest P lo hi
-lowest_of P test lo zero = no_lowest (λ p g l. absurd (omega arith))
-lowest_of P test lo (suc hi) =
-    elim (lowest_of P test lo hi) [
-      | lowest_is q g l h below ↦ lowest_is q g (omega arith) h below
-      | no_lowest none ↦
-          elim (cases_lt hi lo) [
-            | inl lt ↦ no_lowest (λ p g l. absurd (omega arith))
-            | inr ge ↦
-                elim (test hi) [
-                  | inl is_one ↦ lowest_is hi ge (omega arith) is_one none
-                  | inr isnt_one ↦
-                      no_lowest (λ p g l.
-                      elim (cases_lt p hi) [
-                        | inl lt ↦ none p g lt
-                        | inr top ↦ let e : hi ≡ p = omega arith in subst (λ x. ¬ P x) e isnt_one
-                      ])
-                ]
-          ]
-    ]
+use Rattle.space_model.proofs.Remapping.{placed_low, some_pages, some_length, move_rises}
 
 -- the highest number of a sort below a bound, or none
-data Highest (P : ℕ → Type 0) (hi : ℕ) : Type 0 where
-  highest_is : (q : ℕ) → q < hi → P q → ((p : ℕ) → p < hi → P p → p ≤ q) → Highest P hi
-  no_highest : ((p : ℕ) → p < hi → ¬ P p) → Highest P hi
-
-highest_of : (P : ℕ → Type 0) (test : (p : ℕ) → P p ⊎ (¬ P p)) (hi : ℕ) → Highest P hi
-highest_of P test zero = no_highest (λ p l. absurd (omega arith))
+highest_of : (P : ℕ → Type 0) (test : (p : ℕ) → P p ⊎ (¬ P p)) (hi : ℕ) →
+    ((p : ℕ) → p < hi → ¬ P p) ⊎ ((q : ℕ) × P q × ((p : ℕ) → p < hi → P p → p ≤ q))
+highest_of P test zero = inl (λ p l. absurd (omega arith))
 highest_of P test (suc hi) =
     elim (test hi) [
-      | inl is_one ↦ highest_is hi (omega arith) is_one (λ p l h. omega arith)
+      | inl is_one ↦ inr (hi, is_one, λ p l h. omega arith)
       | inr isnt_one ↦
           let below : (p : ℕ) → p < suc hi → P p → p < hi =
           λ p l h. elim (cases_lt p hi) [
@@ -82,46 +52,44 @@ highest_of P test (suc hi) =
             | inr top ↦ let e : p ≡ hi = omega arith in absurd (isnt_one (subst P e h))
           ] in
           elim (highest_of P test hi) [
-            | highest_is q l h top ↦ highest_is q (omega arith) h (λ p g i. top p (below p g i) i)
-            | no_highest none ↦ no_highest (λ p l h. none p (below p l h) h)
+            | inl none ↦ inl (λ p l h. none p (below p l h) h)
+            | inr (q, h, top) ↦ inr (q, h, λ p g i. top p (below p g i) i)
           ]
     ]
 
--- a test is passed or not
-pub passed_or_not : (b : Bool) → (b ≡ true) ⊎ (b ≢ true)
-passed_or_not true = inl refl
-passed_or_not false = inr (λ e. true≢false (sym e))
-
--- a test that isn't passed says false
-pub not_passed : (b : Bool) → b ≢ true → b ≡ false
-not_passed true n = absurd (n refl)
-not_passed false n = refl
-
 -- a page that isn't mapped has no kind
-pub unmapped_none : (o : Option Kind) → is_some o ≡ false → o ≡ None
+unmapped_none : (o : Option Kind) → is_some o ≡ false → o ≡ None
 unmapped_none None e = refl
 unmapped_none (Some k) e = cc
 
 -- and one with no kind isn't mapped
-pub none_unmapped : (o : Option Kind) → o ≡ None → is_some o ≡ false
-none_unmapped None e = refl
-none_unmapped (Some k) e = cc
+none_unmapped : (o : Option Kind) → is_some o ≡ true → o ≡ None → ⊥
+none_unmapped None e n = cc
+none_unmapped (Some k) e n = cc
 
 module _ (kinds : ℕ → Option Kind) where
+  -- the lowest page of a sort from one page up to another, or none
   lowest_such : (sort : Sort) (lo hi : ℕ) → NoneOf kinds sort lo hi ⊎ ((page : ℕ) × IsLowest kinds sort lo hi page)
-  lowest_such sort lo hi =
-      elim (lowest_of (λ p. is_sort sort (kinds p) ≡ true) (λ p. passed_or_not (is_sort sort (kinds p))) lo hi) [
-        | lowest_is q g l h below ↦
-            inr (
-              q,
-              record {
-                from = g;
-                within = l;
-                such = h;
-                none_below = λ p low high. not_passed (is_sort sort (kinds p)) (below p low high);
-              },
-            )
-        | no_lowest none ↦ inl (λ p g l. not_passed (is_sort sort (kinds p)) (none p g l))
+  lowest_such sort lo zero = inl (λ p g l. absurd (omega arith))
+  lowest_such sort lo (suc hi) =
+      elim (lowest_such sort lo hi) [
+        | inr (q, first) ↦
+            let l = first.within in
+            inr (q, record { from = first.from; within = omega arith; such = first.such; none_below = first.none_below })
+        | inl none ↦
+            elim (cases_lt hi lo) [
+              | inl lt ↦ inl (λ p g l. absurd (omega arith))
+              | inr ge ↦
+                  elim (cases_Bool (is_sort sort (kinds hi))) [
+                    | inl is_one ↦ inr (hi, record { from = ge; within = omega arith; such = is_one; none_below = none })
+                    | inr isnt_one ↦
+                        inl (λ p g l.
+                        elim (cases_lt p hi) [
+                          | inl lt ↦ none p g lt
+                          | inr top ↦ let e : hi ≡ p = omega arith in ap (λ x. is_sort sort (kinds x)) (sym e) ∙ isnt_one
+                        ])
+                  ]
+            ]
       ]
 
   -- the search for a sort ends somewhere
@@ -160,7 +128,7 @@ module _ (kinds : ℕ → Option Kind) where
                     | inl is_free ↦
                         inl (record { low = low; high = high; free = λ p g l. unmapped_none (kinds p) (is_free p g l) })
                     | inr (q, first) ↦
-                        inr (λ fit. true≢false (sym first.such ∙ none_unmapped (kinds q) (fit.free q first.from first.within)))
+                        inr (λ fit. none_unmapped (kinds q) first.such (fit.free q first.from first.within))
                   ]
             ]
       ]
@@ -173,7 +141,7 @@ module _ (kinds : ℕ → Option Kind) where
             elim (lowest_such Mapped lo hi) [
               | inl is_free ↦ inl (high, λ p g l. unmapped_none (kinds p) (is_free p g l))
               | inr (q, first) ↦
-                  inr (λ room. true≢false (sym first.such ∙ none_unmapped (kinds q) (room.1 q first.from first.within)))
+                  inr (λ room. none_unmapped (kinds q) first.such (room.1 q first.from first.within))
             ]
       ]
 
@@ -185,9 +153,8 @@ module _ (kinds : ℕ → Option Kind) where
       elim (room_or_not end (at + pages)) [ inl room ↦ inr (at, (room, refl)) | inr none ↦ inl none ]
   place_some pages (highest_in window) =
       elim (highest_of (FitsAt kinds window pages) (fits_or_not window pages) (window + 1)) [
-        | highest_is q l fit top ↦
-            inr (q, record { fits = fit; highest = λ other o. top other (omega (arith, o.high)) o })
-        | no_highest none ↦ inl (λ start o. none start (omega (arith, o.high)) o)
+        | inl none ↦ inl (λ start o. none start (omega (arith, o.high)) o)
+        | inr (q, fit, top) ↦ inr (q, record { fits = fit; highest = λ other o. top other (omega (arith, o.high)) o })
       ]
 
   places_some : (pages : ℕ) (list : List Place) → HasNoPlace kinds pages list ⊎ ((start : ℕ) × StartsAt kinds pages list start)
@@ -219,16 +186,10 @@ module _ (kinds : ℕ → Option Kind) where
         | inr f ↦ (Refused (AccErr page k), inr (λ t. true≢false (sym t ∙ f), refl))
       ]
 
-some_pages : (addr len : ℕ) → len ≢ 0 → page_of addr < end_page addr len
-some_pages addr len n = omega arith
-
 -- a window ends at or below LIMIT
 window_low : (b : Bool) → (if b then LOW else LIMIT) ≤ LIMIT
 window_low true = omega arith
 window_low false = omega arith
-
-some_length : (len : ℕ) → len ≢ 0 → 0 < page_count len
-some_length len n = omega arith
 
 module _ (A : List Area) (w : IsAreaList A) where
   -- a change is done, or makes too many rows
@@ -274,10 +235,7 @@ module _ (A : List Area) (w : IsAreaList A) where
       IsClear (kind_at A) (bars (kind_at A) (Remap addr old new may hint)) → HasSomeAnswer A (Remap addr old new may hint)
   remap_some addr old new may hint u clear =
       let c : Call = Remap addr old new may hint in
-      let lo = page_of addr in
-      let end = end_page addr old in
-      let count = page_count new in
-      let kind = kind_at A lo in
+      let lo = page_of addr in let end = end_page addr old in let count = page_count new in let kind = kind_at A lo in
       let limit = remap-end addr old new u in
       elim (cases_lt (page_count old) count) [
         | inr fewer ↦

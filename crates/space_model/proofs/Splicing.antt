@@ -1,22 +1,20 @@
 -- Areas that a change doesn't touch stay: the list with only the middle built anew has the kinds of the change, and its
 -- rows are those before, counted anew between the two cuts.
-use Rattle.std.proofs.Common.{◌≡◌, ◌≢◌, ℕ, zero, suc, ◌+◌, ◌-◌, ◌<◌, ◌≤◌, inl, inr, List, [], ◌∷◌, ◌++◌}
-use Rattle.std.proofs.Common.{length, length-append, append_assoc, take, drop, get_or, slice_get, Option, Some, None}
-use Rattle.std.proofs.Common.{MatchOption, All, sym, ◌∙◌, ap, subst, refl, arith}
-use Rattle.std.specs.List.{splice}
+use Rattle.std.proofs.Common.{◌≡◌, ◌≢◌, ℕ, zero, suc, ◌+◌, ◌-◌, ◌<◌, ◌≤◌, inl, inr, List, [], ◌∷◌, ◌++◌, length, length-append, append_assoc, take, drop}
+use Rattle.std.proofs.Common.{get_or, slice_get, Option, Some, None, MatchOption, All, sym, ◌∙◌, ap, subst, refl, arith, if◌then◌else◌}
 use Rattle.std.proofs.lemmas.Bool.{cases_lt}
 use Rattle.std.proofs.lemmas.List.{append-nil, take_at, drop_at}
-use Rattle.std.proofs.lemmas.Option.{slice_get-get_or}
 use Rattle.std.proofs.lemmas.List.Elements.{All-head, All-tail}
+use Rattle.std.proofs.lemmas.Option.{slice_get-get_or}
+use Rattle.std.specs.List.{splice}
 use Rattle.page_types.specs.declared.TheConstants.{LIMIT}
+use Rattle.space_model.specs.Areas.{is_within, MayFollow, IsAreaList, HasKinds, kind_at, gap_between, gaps_from, row_count}
 use Rattle.space_model.specs.declared.paint.Patch.{Patch}
 use Rattle.space_model.specs.declared.areas.Area.{Area}
-use Rattle.space_model.specs.Areas.{MayFollow, IsAreaList, HasKinds, kind_at, gap_between, gaps_from, row_count}
 use Rattle.space_model.specs.Effect.{patched, AreRising}
 use Rattle.space_model.specs.Building.{no_area, changed_list}
 use Rattle.space_model.specs.Cutting.{IsCutBy, IsPlan, end_of, start_of, gaps_between, rows_between, last_end}
-use Rattle.space_model.proofs.AreaKinds.{kind_at-here, kind_at-before, kind_at-after, kind_at-below, kind_at-end, IsAbove, LeadsTo, LeadsTo-above, side_of}
-use Rattle.space_model.proofs.AreaKinds.Side.{before, inside, after}
+use Rattle.space_model.proofs.AreaKinds.{kind_at-here, kind_at-after, kind_at-below, kind_at-end, IsAbove, LeadsTo, LeadsTo-above}
 use Rattle.space_model.proofs.Joining.{first_of, first_of-none, kind_at-append, IsFreeFrom, ends_below}
 use Rattle.space_model.proofs.Changing.{patched-same, patched-before, patched-behind, changed_list-kinds}
 use Rattle.space_model.proofs.FourWays.{starts_after, before_member}
@@ -131,19 +129,16 @@ front_area : (a : Area) (A N : List Area) (from : ℕ) (patches : List Patch) �
 front_area a A N from patches r w l k =
     let below : (p : ℕ) → p < from → kind_at N p ≡ kind_at A p =
     λ p h. k.kinds_are p ∙ patched-before from patches (kind_at A) p r h in
-    let first : (p : ℕ) → p < a.hi → kind_at (a ∷ N) p ≡ kind_at (a ∷ A) p → kind_at (a ∷ N) p ≡ patched patches (kind_at (a ∷ A)) p =
-    λ p h e. e ∙ sym (patched-before from patches (kind_at (a ∷ A)) p r (omega arith)) in
     record {
       areas = (w.0, leads_still a A N from w l k.areas below, k.areas);
       kinds_are = λ p.
-          elim (side_of a.lo a.hi p) [
-            | before h ↦
-                first p (omega (arith, w.0.has_page))
-                (kind_at-before a N p h ∙ below p (omega (arith, w.0.has_page)) ∙ sym (kind_at-before a A p h))
-            | inside g h ↦ first p h (kind_at-here a N p g h ∙ sym (kind_at-here a A p g h))
-            | after h ↦
-                kind_at-after a N p h ∙ k.kinds_are p ∙
-                patched-same patches (kind_at A) (kind_at (a ∷ A)) p (sym (kind_at-after a A p h))
+          elim (cases_lt p from) [
+            | inl lt ↦
+                ap (λ o. if is_within a.lo a.hi p then Some a.kind else o) (below p lt) ∙
+                sym (patched-before from patches (kind_at (a ∷ A)) p r lt)
+            | inr ge ↦
+                kind_at-after a N p (omega arith) ∙ k.kinds_are p ∙
+                patched-same patches (kind_at A) (kind_at (a ∷ A)) p (sym (kind_at-after a A p (omega arith)))
           ];
     }
 
@@ -172,9 +167,9 @@ spliced A front rest middle back N q more page end e f w r low high is =
     subst (HasKinds (patched patches (kind_at middle))) (sym is)
     (changed_list-kinds middle patches (areas_left middle back parts) r) in
     let upper : HasKinds (patched patches (kind_at rest)) (N ++ back) =
-    subst (λ X. HasKinds (patched patches (kind_at X)) (N ++ back)) (sym high.whole)
+    rw high.whole
     (back_kinds middle N 0 patches r new back parts (subst (λ n. All (λ a. n < a.lo) back) f high.above)) in
-    subst (λ X. HasKinds (patched patches (kind_at X)) (front ++ (N ++ back))) (sym low.whole)
+    rw low.whole
     (front_kinds front rest (N ++ back) q.lo patches (rising_own q more r) whole (subst (λ p. All (λ a. a.hi ≤ p) front) e low.upto) upper)
 
 -- the gaps before, in and behind the middle
@@ -205,30 +200,17 @@ rows_parted : (front A back : List Area) →
     row_count (front ++ (A ++ back)) ≡ rows_outside front back + rows_between (end_of 0 front) A (start_of back)
 unfolding rows_outside
 rows_parted front A back =
-    omega (
-      arith,
-      length-append front (A ++ back),
-      length-append A back,
-      gaps_front 0 front (A ++ back),
-      gaps_back (end_of 0 front) A back,
-    )
+    omega (arith, length-append {A = Area}, gaps_front 0 front (A ++ back), gaps_back (end_of 0 front) A back)
 
 -- the rows between the two cuts are at most all rows of the list
 pub rows_fewer : (front A back : List Area) (from to : ℕ) → from ≡ end_of 0 front → to ≡ start_of back →
     rows_between from A to ≤ row_count (front ++ (A ++ back))
-rows_fewer front A back from to f t =
-    subst (λ x. rows_between x A to ≤ row_count (front ++ (A ++ back))) (sym f)
-    (subst (λ y. rows_between (end_of 0 front) A y ≤ row_count (front ++ (A ++ back))) (sym t)
-    (omega (arith, rows_parted front A back)))
+rows_fewer front A back from to f t = rw (f, t) (omega (arith, rows_parted front A back))
 
 -- with other areas between the cuts, the rows of the list change by as many as those between the cuts
 pub rows_changed : (front A B back : List Area) (from to : ℕ) → from ≡ end_of 0 front → to ≡ start_of back →
     row_count (front ++ (A ++ back)) + rows_between from B to ≡ row_count (front ++ (B ++ back)) + rows_between from A to
-rows_changed front A B back from to f t =
-    let both : ℕ → ℕ → Type 0 =
-    λ x y. row_count (front ++ (A ++ back)) + rows_between x B y ≡ row_count (front ++ (B ++ back)) + rows_between x A y in
-    subst (λ x. both x to) (sym f)
-    (subst (λ y. both (end_of 0 front) y) (sym t) (omega (arith, rows_parted front A back, rows_parted front B back)))
+rows_changed front A B back from to f t = rw (f, t) (omega (arith, rows_parted front A back, rows_parted front B back))
 
 -- the rows of a whole list
 pub rows_all : (page : ℕ) (A : List Area) → gaps_between page A LIMIT ≡ gaps_from page A
@@ -245,12 +227,11 @@ end_of-at page (a ∷ b ∷ rest) (suc i) l = end_of-at a.hi (b ∷ rest) i (ome
 -- where a list ends is where its last area ends
 pub end_of-last : (A : List Area) (o : Option Area) → o ≡ slice_get A (length A - 1) →
     MatchOption o (end_of 0 A ≡ 0) (λ a. end_of 0 A ≡ a.hi)
-end_of-last [] o e = subst (λ x. MatchOption x (end_of 0 [] ≡ 0) (λ a. end_of 0 [] ≡ a.hi)) (sym e) refl
+end_of-last [] o e = rw e refl
 end_of-last (a ∷ rest) o e =
     let i : ℕ = length (a ∷ rest) - 1 in
     let at : slice_get (a ∷ rest) i ≡ Some (get_or (a ∷ rest) i no_area) = slice_get-get_or (a ∷ rest) i no_area (omega arith) in
-    subst (λ x. MatchOption x (end_of 0 (a ∷ rest) ≡ 0) (λ b. end_of 0 (a ∷ rest) ≡ b.hi)) (sym (e ∙ at))
-    (end_of-at 0 (a ∷ rest) i (omega arith))
+    rw (e ∙ at) (end_of-at 0 (a ∷ rest) i (omega arith))
 
 -- the list with the middle built anew is a splice of the old one
 splice_is : (A front touched back N : List Area) (first end : ℕ) → A ≡ front ++ (touched ++ back) → first ≡ length front →

@@ -1,7 +1,7 @@
 -- What a step of the body has found gives the call's answer.
-use Rattle.std.proofs.Common.{◌≡◌, ℕ, ◌+◌, ◌*◌, ◌^◌, ◌<◌, ◌≤◌, List, [], ◌∷◌, length, Option, Some, None, MatchOption}
-use Rattle.std.proofs.Common.{Bool, true, false, nat_lt, if◌then◌else◌, inl, inr, sym, ◌∙◌, ap, subst, arith}
-use Rattle.std.proofs.lemmas.Bool.{cases_lt, lt-ltb, le-ltb}
+use Rattle.std.proofs.Common.{◌≡◌, ℕ, ◌+◌, ◌*◌, ◌^◌, ◌<◌, ◌≤◌, List, [], ◌∷◌, length, Option, Some, None, MatchOption, Bool, true, false, nat_lt, if◌then◌else◌}
+use Rattle.std.proofs.Common.{inl, inr, sym, subst, arith}
+use Rattle.std.proofs.lemmas.Bool.Decides.{nat_tests}
 use Rattle.page_types.specs.declared.TheConstants.{LIMIT, ROWS}
 use Rattle.page_types.specs.Pages.{page_of, page_count, end_page}
 use Rattle.page_types.specs.Named.{IsNamedOption, IsNamedCall, IsNamedReply, IsNamedWhy}
@@ -14,40 +14,26 @@ use Rattle.page_types.specs.declared.sets.Access.{Access}
 use Rattle.space_model.specs.declared.areas.Area.{Area}
 use Rattle.space_model.specs.declared.judged.Change.{Change}
 use Rattle.space_model.specs.declared.judged.Judged.TheVariants.{Changes}
-use Rattle.space_model.specs.declared.paint.Paint.TheVariants.{Gives, Protects, Seals}
 use Rattle.space_model.specs.declared.paint.Patch.{Patch}
+use Rattle.space_model.specs.declared.sorts.Sort.{Sort}
 use Rattle.space_model.specs.declared.sorts.Sort.TheVariants.{Mapped, Missing, Sealed, Unlike}
 use Rattle.space_model.specs.Areas.{IsAreaList, HasKinds, HasNamedKinds, kind_at, gaps_from, gap_between, row_count}
-use Rattle.space_model.specs.Effect.{mapped_kind, heap_kind, patch, with_patch, patched, AreRising}
-use Rattle.space_model.specs.Building.{changed_list}
-use Rattle.space_model.specs.Sorts.{Bar, IsBarred}
-use Rattle.space_model.specs.Sorts.Bar.{bar}
-use Rattle.space_model.specs.Places.{Place, remap_places}
-use Rattle.space_model.specs.Answers.{AnswersFault, FindsNoPlace, RefusesByState, Breaks, Remaps, in_order, IsEffect, bars, full_reply}
+use Rattle.space_model.specs.Effect.{patched, AreRising}
+use Rattle.space_model.specs.Sorts.{why_of}
+use Rattle.space_model.specs.Places.{remap_places}
+use Rattle.space_model.specs.Answers.{AnswersFault, RefusesByState, IsEffect, full_reply}
 use Rattle.space_model.specs.Answers.Effect.{keeps, changes}
 use Rattle.space_model.specs.Answers.Breaks.{below_base, shrinks, grows, no_room}
 use Rattle.space_model.specs.Answers.Remaps.{shorter, stays, moves}
 use Rattle.space_model.specs.Judges.{IsNamedPaint, AreNamedPaints, IsNamedChange, IsJudged, second_of, patches_of}
-use Rattle.space_model.proofs.AreaKinds.{only_one}
-use Rattle.space_model.proofs.Changing.{patched-same, rising_end, changed_list-kinds}
-use Rattle.space_model.proofs.Counting.{row_count-after}
-use Rattle.space_model.proofs.Effects.{Says, SaysFull, says, brk_kept, remap_kept}
+use Rattle.space_model.proofs.Effects.{patches_by, refusal_by, Says, SaysFull, says, brk_kept, remap_kept}
 use Rattle.space_model.proofs.Effects.Says.{says_at, says_done}
 use Rattle.space_model.proofs.Effects.SaysFull.{counts_rows, full_at}
 use Rattle.space_model.proofs.NamedKinds.{named_at}
-
-gap_between-one : (lo hi : ℕ) → lo < hi → gap_between lo hi ≡ 1
-gap_between-one lo hi l = ap (λ b. if b then 1 else 0) (lt-ltb lo hi l)
-
-gap_between-none : (lo hi : ℕ) → hi ≤ lo → gap_between lo hi ≡ 0
-gap_between-none lo hi l = ap (λ b. if b then 1 else 0) (le-ltb lo hi l)
+use Rattle.space_model.proofs.TwiceOnce.{row_count-patched}
 
 gap_between-le : (lo hi : ℕ) → gap_between lo hi ≤ 1
-gap_between-le lo hi =
-    elim (cases_lt lo hi) [
-      | inl lt ↦ omega (arith, gap_between-one lo hi lt)
-      | inr ge ↦ omega (arith, gap_between-none lo hi ge)
-    ]
+gap_between-le lo hi = grind (arith, nat_tests)
 
 gaps_from-le : (e : ℕ) (A : List Area) → gaps_from e A ≤ length A + 1
 gaps_from-le e [] = omega (arith, gap_between-le e LIMIT)
@@ -56,23 +42,6 @@ gaps_from-le e (a ∷ rest) = omega (arith, gap_between-le e a.lo, gaps_from-le 
 -- a list has at most twice as many rows as areas, and one more
 pub row_count-le : (A : List Area) → row_count A ≤ 2 * length A + 1
 row_count-le A = omega (arith, gaps_from-le 0 A)
-
--- patches make at most two rows more each
-pub row_count-patched : (A B : List Area) (from : ℕ) (patches : List Patch) → IsAreaList A → AreRising from patches →
-    HasKinds (patched patches (kind_at A)) B → row_count B ≤ row_count A + 2 * length patches
-row_count-patched A B from [] w r k =
-    let same : A ≡ B = only_one A B w k.areas (λ p. sym (k.kinds_are p)) in omega (arith, ap row_count same)
-row_count-patched A B from (q ∷ rest) w r k =
-    let end = rising_end q.hi rest r.2 in
-    let own : AreRising 0 (q ∷ []) = (omega arith, r.1, omega (arith, end.0, end.1)) in
-    let C = changed_list A (q ∷ []) in
-    let one : HasKinds (with_patch q (kind_at A)) C = changed_list-kinds A (q ∷ []) w own in
-    let more : HasKinds (patched rest (kind_at C)) B =
-    record {
-      areas = k.areas;
-      kinds_are = λ p. k.kinds_are p ∙ patched-same rest (with_patch q (kind_at A)) (kind_at C) p (sym (one.kinds_are p));
-    } in
-    omega (arith, row_count-after A C q w one, row_count-patched C B q.hi rest one.areas r.2 more)
 
 second_few : (second : Option Patch) → length (second_of second) ≤ 1
 second_few None = omega arith
@@ -94,25 +63,13 @@ length-fits B l = omega arith
 
 -- the reason of a refusal by the state names no kind
 pub refusal-named : (kinds : ℕ → Option Kind) (c : Call) (why : Why) → RefusesByState kinds c why → IsNamedWhy why
-refusal-named kinds c why (inl r) = barred (bars kinds c) r
+refusal-named kinds c why r = refusal_by IsNamedWhy kinds c why named (λ n. tt) r
   where
-    barred : (list : List Bar) → IsBarred kinds list why → IsNamedWhy why
-    barred [] r = absurd r
-    barred (bar Mapped lo hi ∷ rest) (inl (p, l, e)) = subst IsNamedWhy (sym e) tt
-    barred (bar Missing lo hi ∷ rest) (inl (p, l, e)) = subst IsNamedWhy (sym e) tt
-    barred (bar Sealed lo hi ∷ rest) (inl (p, l, e)) = subst IsNamedWhy (sym e) tt
-    barred (bar (Unlike first) lo hi ∷ rest) (inl (p, l, e)) = subst IsNamedWhy (sym e) tt
-    barred (bar sort lo hi ∷ rest) (inr (n, r)) = barred rest r
-refusal-named kinds c why (inr (clear, r)) = unplaced c r
-  where
-    unplaced : (c : Call) → FindsNoPlace kinds c why → IsNamedWhy why
-    unplaced (Map addr len prot flags) r = subst IsNamedWhy (sym r.1) tt
-    unplaced (Unmap addr len) r = absurd r
-    unplaced (Protect addr len prot) r = absurd r
-    unplaced (Fault addr access) r = absurd r
-    unplaced (Seal addr len flags) r = absurd r
-    unplaced (Brk base addr) r = absurd r
-    unplaced (Remap addr old new may hint) r = subst IsNamedWhy (sym r.2) tt
+    named : (sort : Sort) (page : ℕ) → IsNamedWhy (why_of sort page)
+    named Mapped page = tt
+    named Missing page = tt
+    named Sealed page = tt
+    named (Unlike first) page = tt
 
 -- the reply of a change, and the one where there are too many rows, have named bits alone
 abbrev pub IsSaid : Reply → Option Reply → Type 0
@@ -156,46 +113,22 @@ order_named : (b : Bool) (p q : Patch) → IsNamedPaint p.paint → IsNamedPaint
 order_named true p q n m = (n, (m, tt))
 order_named false p q n m = (m, (n, tt))
 
--- what a Remap paints is none or the kind of its first page
-remap_named : (kinds : ℕ → Option Kind) (addr old new : ℕ) (places : List Place) (ps : List Patch) (r : Reply) (f : Option Reply) →
-    IsNamedOption (kinds (page_of addr)) → Remaps kinds addr old new places (changes ps r f) → AreNamedPaints ps
-remap_named kinds addr old new places ps r f n (shorter l d) =
-    let same : patch (page_of addr + new) (page_of addr + old) (Gives None) ∷ [] ≡ ps = cc in subst AreNamedPaints same (tt, tt)
-remap_named kinds addr old new places ps r f n (stays l s d) =
-    let same : patch (page_of addr) (page_of addr + new) (Gives (kinds (page_of addr))) ∷ [] ≡ ps = cc in
-    subst AreNamedPaints same (n, tt)
-remap_named kinds addr old new places ps r f n (moves start l s m d) =
-    let p = patch (page_of addr) (page_of addr + old) (Gives None) in
-    let q = patch start (start + new) (Gives (kinds (page_of addr))) in
-    let same : in_order p q ≡ ps = cc in subst AreNamedPaints same (order_named (nat_lt (page_of addr) start) p q tt n)
-
--- what a Brk paints is none or the heap's kind
-brk_named : (kinds : ℕ → Option Kind) (base addr end : ℕ) (ps : List Patch) (r : Reply) (f : Option Reply) →
-    Breaks kinds base addr end (changes ps r f) → AreNamedPaints ps
-brk_named kinds base addr end ps r f (below_base l d) = cc
-brk_named kinds base addr end ps r f (shrinks m l d) =
-    let same : patch (page_count addr) end (Gives None) ∷ [] ≡ ps = cc in subst AreNamedPaints same (tt, tt)
-brk_named kinds base addr end ps r f (grows m l h d) =
-    let same : patch end (page_count addr) (Gives (Some heap_kind)) ∷ [] ≡ ps = cc in subst AreNamedPaints same (omega arith, tt)
-brk_named kinds base addr end ps r f (no_room m l h d) = cc
-
 -- and its paints, where the call and the kinds of the pages have
 pub paints-named : (kinds : ℕ → Option Kind) (c : Call) (ps : List Patch) (r : Reply) (f : Option Reply) →
     ((p : ℕ) → IsNamedOption (kinds p)) → IsNamedCall c → IsEffect kinds c (changes ps r f) → AreNamedPaints ps
-paints-named kinds (Map addr len prot flags) ps r f n m (clear, (start, s, d)) =
-    let same : patch start (start + page_count len) (Gives (Some (mapped_kind prot flags))) ∷ [] ≡ ps = cc in
-    subst AreNamedPaints same (m.0, tt)
-paints-named kinds (Unmap addr len) ps r f n m (clear, d) =
-    let same : patch (page_of addr) (end_page addr len) (Gives None) ∷ [] ≡ ps = cc in subst AreNamedPaints same (tt, tt)
-paints-named kinds (Protect addr len prot) ps r f n m (clear, d) =
-    let same : patch (page_of addr) (end_page addr len) (Protects prot) ∷ [] ≡ ps = cc in subst AreNamedPaints same (m, tt)
+paints-named kinds (Map addr len prot flags) ps r f n m (clear, (start, s, d)) = patches_by AreNamedPaints d (m.0, tt)
+paints-named kinds (Unmap addr len) ps r f n m (clear, d) = patches_by AreNamedPaints d (tt, tt)
+paints-named kinds (Protect addr len prot) ps r f n m (clear, d) = patches_by AreNamedPaints d (m, tt)
 paints-named kinds (Fault addr access) ps r f n m (clear, (s, h, d)) = cc
-paints-named kinds (Seal addr len flags) ps r f n m (clear, d) =
-    let same : patch (page_of addr) (end_page addr len) Seals ∷ [] ≡ ps = cc in subst AreNamedPaints same (tt, tt)
-paints-named kinds (Brk base addr) ps r f n m (clear, (end, is, d)) = brk_named kinds base addr end ps r f d
-paints-named kinds (Remap addr old new may hint) ps r f n m (clear, d) =
-    remap_named kinds addr (page_count old) (page_count new) (remap_places (page_of addr) (end_page addr old) may hint) ps r f
-    (n (page_of addr)) d
+paints-named kinds (Seal addr len flags) ps r f n m (clear, d) = patches_by AreNamedPaints d (tt, tt)
+paints-named kinds (Brk base addr) ps r f n m (clear, (end, is, below_base l d)) = cc
+paints-named kinds (Brk base addr) ps r f n m (clear, (end, is, shrinks k l d)) = patches_by AreNamedPaints d (tt, tt)
+paints-named kinds (Brk base addr) ps r f n m (clear, (end, is, grows k l h d)) = patches_by AreNamedPaints d (omega arith, tt)
+paints-named kinds (Brk base addr) ps r f n m (clear, (end, is, no_room k l h d)) = cc
+paints-named kinds (Remap addr old new may hint) ps r f n m (clear, shorter l d) = patches_by AreNamedPaints d (tt, tt)
+paints-named kinds (Remap addr old new may hint) ps r f n m (clear, stays l s d) = patches_by AreNamedPaints d (n (page_of addr), tt)
+paints-named kinds (Remap addr old new may hint) ps r f n m (clear, moves start l s o d) =
+    patches_by AreNamedPaints d (order_named (nat_lt (page_of addr) start) _ _ tt (n (page_of addr)))
 
 -- a change of a call with named bits has named bits alone, where the areas have
 pub judged-named : (A : List Area) (c : Call) (change : Change) → HasNamedKinds A → IsNamedCall c →

@@ -1,4 +1,4 @@
-use Rattle.std.proofs.Common.{rules, ℕ, ◌≡◌, ◌+◌, ◌*◌, ◌<◌, ◌≤◌, min, drop, length, get_or, refl, sym, ap, subst, ◌∙◌, arith}
+use Rattle.std.proofs.Common.{rules, ℕ, ◌≡◌, ◌+◌, ◌*◌, ◌<◌, ◌≤◌, min, drop, length, refl, sym, ap, subst, ◌∙◌, arith}
 use Rattle.std.specs.Prelude.{Some, slice_index}
 use Rattle.space_model.specs.Areas.{kind_at}
 use Rattle.space_model.specs.Sorts.{NoneOf}
@@ -18,51 +18,39 @@ first : (g : Over) (c : After-read_row-kind g) → let words = g.R.Rows.words c.
     let at = g.R.Rows.number c.args.rows.now c.args.hand.now c.find-row.result.at in
     RowPages words (kind_at (areas_from words)) at (row_start c.find-row.result.word) c.find-row.result.end c.read_row-kind.result.1
 first g c =
-    let rows = c.args.rows.now in
-    let hand = c.args.hand.now in
-    let words = g.R.Rows.words rows hand in
-    let found = c.find-row.ensures in
+    let rows = c.args.rows.now in let hand = c.args.hand.now in let words = g.R.Rows.words rows hand in let found = c.find-row.ensures in
     let at = g.R.Rows.number rows hand c.find-row.result.at in
-    row_pages words (kind_at (areas_from words)) at (get_or words at 0) (row_start c.find-row.result.word) c.find-row.result.end
-    c.read_row-kind.result.1 (g.R.Rows.are_rows rows hand c.requires.may).show found.there refl (ap row_start found.word)
+    row_pages words (kind_at (areas_from words)) at (g.R.Rows.are_rows rows hand c.requires.may).show found.there (ap row_start found.word)
     (c.read_row-kind.ensures.kind ∙ ap row_kind found.word) found.end
 
 -- no page lies before it
 first_none : (g : Over) (c : After-read_row-kind g) → let words = g.R.Rows.words c.args.rows.now c.args.hand.now in
     NoneOf (kind_at (areas_from words)) c.args.sort c.args.lo (rows_start (drop (g.R.Rows.number c.args.rows.now c.args.hand.now c.find-row.result.at) words))
 first_none g c =
-    let words = g.R.Rows.words c.args.rows.now c.args.hand.now in
-    let at = g.R.Rows.number c.args.rows.now c.args.hand.now c.find-row.result.at in
-    let begins = (first g c).begins in
-    let from = c.find-row.ensures.from in
+    let words = g.R.Rows.words c.args.rows.now c.args.hand.now in let at = g.R.Rows.number c.args.rows.now c.args.hand.now c.find-row.result.at in
+    let begins = (first g c).begins in let from = c.find-row.ensures.from in
     none_yet (kind_at (areas_from words)) c.args.sort c.args.lo (rows_start (drop at words)) (omega arith)
 
 -- a row behind it is there, and these are its pages
 row : (g : Over) (c : After-read_row-start g) → let words = g.R.Rows.words c.args.rows.now c.args.hand.now in
-    let number = g.R.Rows.number c.args.rows.now c.args.hand.now in
-    let i = number c.in-Some.next in
+    let number = g.R.Rows.number c.args.rows.now c.args.hand.now in let i = number c.in-Some.next in
     (number c.rows.at + 1 ≡ i) × (i < length words)
     × RowPages words (kind_at (areas_from words)) i c.read_row-start.result.0 (rows_start (drop (i + 1) words)) c.read_row-start.result.1
     × HasLoaded g.R.Rows c.args.rows.now c.args.hand.now c.load.new.hand
 row g c =
-    let rows = c.args.rows.now in
-    let hand = c.args.hand.now in
-    let words = g.R.Rows.words rows hand in
-    let number = g.R.Rows.number rows hand in
+    let rows = c.args.rows.now in let hand = c.args.hand.now in let words = g.R.Rows.words rows hand in let number = g.R.Rows.number rows hand in
     let i = number c.in-Some.next in
     let now = loads_first g.R.Rows _ _ _ c.requires.may c.rows.invariant.loaded in
     let then = loads_on _ now c.next.ensures.loaded in
     let place : IsPlaceOf (g.R.Rows.words rows c.rows.hand) (g.R.Rows.number rows c.rows.hand) (g.R.Rows.number rows c.rows.hand c.rows.at + 1)
     (Some c.in-Some.next) = search rules in
-    let there : (number c.in-Some.next ≡ number c.rows.at + 1) × (number c.rows.at + 1 < length words) =
-    as_before (λ l n. (n c.in-Some.next ≡ n c.rows.at + 1) × (n c.rows.at + 1 < length l)) now place in
-    let same = there.0 in
-    let low = there.1 in
+    let there = as_before (λ l n. (n c.in-Some.next ≡ n c.rows.at + 1) × (n c.rows.at + 1 < length l)) now place in
+    let same = there.0 in let low = there.1 in
     let word = as_before (λ l n. c.load.result ≡ slice_index l (n c.in-Some.next)) then c.load.ensures.word in (
       sym same,
       omega arith,
-      row_pages words (kind_at (areas_from words)) i (get_or words i 0) _ (rows_start (drop (i + 1) words)) _
-          (g.R.Rows.are_rows rows hand c.requires.may).show (omega arith) refl (c.read_row-start.ensures.start ∙ ap row_start word)
+      row_pages words (kind_at (areas_from words)) i
+          (g.R.Rows.are_rows rows hand c.requires.may).show (omega arith) (c.read_row-start.ensures.start ∙ ap row_start word)
           (c.read_row-start.ensures.kind ∙ ap row_kind word) refl,
       loads_on _ then c.load.ensures.loaded,
     )
@@ -70,12 +58,8 @@ row g c =
 -- where it is of the sort, the first page is the lowest one
 pub returns-then-is_sort-clause-end : goal.returns-then-is_sort-clause-end
 returns-then-is_sort-clause-end g c =
-    let h = (goal.at.returns-then-is_sort-clause-end g c).After-read_row-kind in
-    let words = g.R.Rows.words c.args.rows.now c.args.hand.now in
-    let found = c.find-row.ensures in
-    let from = found.from in
-    let until = found.until in
-    let ordered = c.requires.ordered in
+    let h = (goal.at.returns-then-is_sort-clause-end g c).After-read_row-kind in let words = g.R.Rows.words c.args.rows.now c.args.hand.now in
+    let found = c.find-row.ensures in let from = found.from in let until = found.until in let ordered = c.requires.ordered in
     end_here words (kind_at (areas_from words)) c.args.sort c.args.lo c.args.hi (g.R.Rows.number c.args.rows.now c.args.hand.now c.find-row.result.at)
     (row_start c.find-row.result.word) c.find-row.result.end c.args.lo c.args.lo c.read_row-kind.result.1 (first g h) ordered until (search rules)
     (first_none g h) (omega arith) (omega arith)
@@ -83,12 +67,9 @@ returns-then-is_sort-clause-end g c =
 -- where it isn't, and ends at `hi` or behind it, the search ends there
 pub returns-then-row-hi-clause-end : goal.returns-then-row-hi-clause-end
 returns-then-row-hi-clause-end g c =
-    let h = (goal.at.returns-then-row-hi-clause-end g c).After-read_row-kind in
-    let words = g.R.Rows.words c.args.rows.now c.args.hand.now in
+    let h = (goal.at.returns-then-row-hi-clause-end g c).After-read_row-kind in let words = g.R.Rows.words c.args.rows.now c.args.hand.now in
     let kinds = kind_at (areas_from words) in
-    let at = g.R.Rows.number c.args.rows.now c.args.hand.now c.find-row.result.at in
-    let r = first g h in
-    let over = c.if-row-hi.true in
+    let at = g.R.Rows.number c.args.rows.now c.args.hand.now c.find-row.result.at in let r = first g h in let over = c.if-row-hi.true in
     let ends = r.ends in
     end_passed kinds c.args.sort c.args.lo c.args.hi (rows_start (drop (at + 1) words)) c.requires.ordered (omega arith)
     (none_more words kinds c.args.sort c.args.lo at (row_start c.find-row.result.word) c.find-row.result.end c.read_row-kind.result.1 r (search rules)
@@ -97,11 +78,9 @@ returns-then-row-hi-clause-end g c =
 -- otherwise none lies before the row behind, which starts behind the first page
 pub rows-init : goal.rows-init
 rows-init g c =
-    let h = (goal.at.rows-init g c).After-read_row-kind in
-    let words = g.R.Rows.words c.args.rows.now c.args.hand.now in
+    let h = (goal.at.rows-init g c).After-read_row-kind in let words = g.R.Rows.words c.args.rows.now c.args.hand.now in
     let kinds = kind_at (areas_from words) in
-    let at = g.R.Rows.number c.args.rows.now c.args.hand.now c.find-row.result.at in
-    let found = c.find-row.ensures in
+    let at = g.R.Rows.number c.args.rows.now c.args.hand.now c.find-row.result.at in let found = c.find-row.ensures in
     record {
       loaded = found.loaded;
       there = found.there;
@@ -117,8 +96,7 @@ none_here : (g : Over) (c : After-read_row-start g) → let words = g.R.Rows.wor
     let i = g.R.Rows.number c.args.rows.now c.args.hand.now c.in-Some.next in
     NoneOf (kind_at (areas_from words)) c.args.sort c.args.lo (rows_start (drop i words)) × (c.args.lo < rows_start (drop i words))
 none_here g c =
-    let words = g.R.Rows.words c.args.rows.now c.args.hand.now in
-    let e = (row g c).0 in
+    let words = g.R.Rows.words c.args.rows.now c.args.hand.now in let e = (row g c).0 in
     let inv = c.rows.invariant in (
       subst (λ (n : ℕ). NoneOf (kind_at (areas_from words)) c.args.sort c.args.lo (rows_start (drop n words))) e inv.none,
       subst (λ (n : ℕ). c.args.lo < rows_start (drop n words)) e inv.reach,
@@ -130,24 +108,17 @@ loads_here : (g : Over) (c : After-read_row-start g) → let words = g.R.Rows.wo
     g.R.Rows.steps c.args.rows.now c.load.new.hand ≤ g.R.Rows.steps c.args.rows.now c.args.hand.now + 24
     + 4 * rows_between words c.args.lo (min c.args.hi (rows_start (drop i words)))
 loads_here g c =
-    let words = g.R.Rows.words c.args.rows.now c.args.hand.now in
-    let steps = g.R.Rows.steps c.args.rows.now in
-    let so_far : steps c.rows.hand ≤ steps c.args.hand.now + 20
-    + 4 * rows_between words c.args.lo (min c.args.hi (rows_start (drop (g.R.Rows.number c.args.rows.now c.args.hand.now c.in-Some.next) words))) =
-    subst (λ (n : ℕ). steps c.rows.hand ≤ steps c.args.hand.now + 20
+    let words = g.R.Rows.words c.args.rows.now c.args.hand.now in let steps = g.R.Rows.steps c.args.rows.now in
+    let so_far = subst (λ (n : ℕ). steps c.rows.hand ≤ steps c.args.hand.now + 20
     + 4 * rows_between words c.args.lo (min c.args.hi (rows_start (drop n words)))) (row g c).0 c.rows.invariant.few in
-    let next = c.next.ensures.steps in
-    let load = c.load.ensures.steps in
+    let next = c.next.ensures.steps in let load = c.load.ensures.steps in
     omega arith
 
 -- where it starts at `hi` or behind it, the search ends there
 pub returns-then-start-hi-clause-end : goal.returns-then-start-hi-clause-end
 returns-then-start-hi-clause-end g c =
-    let h = (goal.at.returns-then-start-hi-clause-end g c).After-read_row-start in
-    let words = g.R.Rows.words c.args.rows.now c.args.hand.now in
-    let i = g.R.Rows.number c.args.rows.now c.args.hand.now c.in-Some.next in
-    let begins = (row g h).2.begins in
-    let over = c.if-start-hi.true in
+    let h = (goal.at.returns-then-start-hi-clause-end g c).After-read_row-start in let words = g.R.Rows.words c.args.rows.now c.args.hand.now in
+    let i = g.R.Rows.number c.args.rows.now c.args.hand.now c.in-Some.next in let begins = (row g h).2.begins in let over = c.if-start-hi.true in
     end_passed (kind_at (areas_from words)) c.args.sort c.args.lo c.args.hi (rows_start (drop i words)) c.requires.ordered (omega arith) (none_here g h).0
 
 -- by loads that are one
@@ -166,15 +137,9 @@ returns-then-start-hi-clause-steps g c =
 -- where it is of the sort, its first page is the lowest one
 pub returns-then-is_sort-2-clause-end : goal.returns-then-is_sort-2-clause-end
 returns-then-is_sort-2-clause-end g c =
-    let h = (goal.at.returns-then-is_sort-2-clause-end g c).After-read_row-start in
-    let words = g.R.Rows.words c.args.rows.now c.args.hand.now in
-    let i = g.R.Rows.number c.args.rows.now c.args.hand.now c.in-Some.next in
-    let start = c.read_row-start.result.0 in
-    let r = (row g h).2 in
-    let begins = r.begins in
-    let some = r.some in
-    let reach = (none_here g h).1 in
-    let below = c.if-start-hi.false in
+    let h = (goal.at.returns-then-is_sort-2-clause-end g c).After-read_row-start in let words = g.R.Rows.words c.args.rows.now c.args.hand.now in
+    let i = g.R.Rows.number c.args.rows.now c.args.hand.now c.in-Some.next in let start = c.read_row-start.result.0 in let r = (row g h).2 in
+    let begins = r.begins in let some = r.some in let reach = (none_here g h).1 in let below = c.if-start-hi.false in
     end_here words (kind_at (areas_from words)) c.args.sort c.args.lo c.args.hi i start (rows_start (drop (i + 1) words)) start start
     c.read_row-start.result.1 r c.requires.ordered (omega arith) (search rules) (none_here g h).0 (omega arith) (omega arith)
 
@@ -185,24 +150,19 @@ returns-then-is_sort-2-clause-loaded g c = (row g (goal.at.returns-then-is_sort-
 -- no row more starts before it
 pub returns-then-is_sort-2-clause-steps : goal.returns-then-is_sort-2-clause-steps
 returns-then-is_sort-2-clause-steps g c =
-    let h = (goal.at.returns-then-is_sort-2-clause-steps g c).After-read_row-start in
-    let words = g.R.Rows.words c.args.rows.now c.args.hand.now in
+    let h = (goal.at.returns-then-is_sort-2-clause-steps g c).After-read_row-start in let words = g.R.Rows.words c.args.rows.now c.args.hand.now in
     let start = rows_start (drop (g.R.Rows.number c.args.rows.now c.args.hand.now c.in-Some.next) words) in
-    let begins = (row g h).2.begins in
-    let all = loads_here g h in
+    let begins = (row g h).2.begins in let all = loads_here g h in
     let within = between_within words c.args.lo (min c.args.hi start) c.args.lo c.read_row-start.result.0 (omega arith) (omega arith) in
     omega arith
 
 -- where it isn't, none lies before the row behind it
 pub rows-preserved : goal.rows-preserved
 rows-preserved g c =
-    let h = (goal.at.rows-preserved g c).After-read_row-start in
-    let words = g.R.Rows.words c.args.rows.now c.args.hand.now in
+    let h = (goal.at.rows-preserved g c).After-read_row-start in let words = g.R.Rows.words c.args.rows.now c.args.hand.now in
     let kinds = kind_at (areas_from words) in
-    let i = g.R.Rows.number c.args.rows.now c.args.hand.now c.in-Some.next in
-    let r = row g h in
-    let up : rows_start (drop i words) ≤ rows_start (drop (i + 1) words) =
-    next_start words kinds i (g.R.Rows.are_rows c.args.rows.now c.args.hand.now c.requires.may).show in
+    let i = g.R.Rows.number c.args.rows.now c.args.hand.now c.in-Some.next in let r = row g h in
+    let up = next_start words kinds i (g.R.Rows.are_rows c.args.rows.now c.args.hand.now c.requires.may).show in
     let reach = (none_here g h).1 in
     record {
       loaded = r.3.loaded;
@@ -212,9 +172,6 @@ rows-preserved g c =
           (search rules) (none_here g h).0;
       reach = omega arith;
       few =
-          let begins = r.2.begins in
-          let some = r.2.some in
-          let below = c.if-start-hi.false in
-          let all = loads_here g h in
+          let begins = r.2.begins in let some = r.2.some in let below = c.if-start-hi.false in let all = loads_here g h in
           let more = more_up words i c.args.lo c.args.hi r.1 reach (omega arith) (omega arith) in omega arith;
     }

@@ -1,12 +1,12 @@
-use Rattle.std.proofs.Common.{rules, ℕ, ◌≡◌, ◌<◌, ◌≢◌, ◌-◌, ◌+◌, drop, get_or, ap, refl, sym, ◌∙◌, arith}
+use Rattle.std.proofs.Common.{rules, ℕ, ◌≡◌, ◌<◌, ◌≢◌, ◌-◌, ◌+◌, drop, ap, sym, ◌∙◌, arith}
 use Rattle.std.specs.Prelude.{Option, IsTrue, IsFalse, slice_index}
 use Rattle.page_types.specs.declared.calls.Kind.{Kind}
 use Rattle.space_model.specs.Areas.{kind_at}
 use Rattle.row_plans.specs.RowWords.{row_start, row_kind}
 use Rattle.row_plans.specs.RowLists.{rows_start, ShowFrom, areas_from}
+use Rattle.row_plans.specs.Loads.{between_within}
 use Rattle.row_plans.proofs.RowPages.{RowPages, row_pages, row_before, rows_apart, not_first, ends_before, ends_here, no_place}
 use Rattle.row_plans.proofs.RowsBetween.{more_down}
-use Rattle.row_plans.specs.Loads.{between_within}
 use Rattle.row_plans.proofs.Loading.{loads_first, loads_on, as_before, as_behind}
 use Rattle.row_plans.proofs.places.highest_fit.Given.{Over}
 use Rattle.row_plans.proofs.places.highest_fit.Goals.{After-read_row-start}
@@ -17,17 +17,15 @@ row : (g : Over) (c : After-read_row-start g) → let words = g.R.Rows.words c.a
     let kinds = kind_at (areas_from words) in let start = c.read_row-start.result.0 in let kind = c.read_row-start.result.1 in
     RowPages words kinds (g.R.Rows.number c.args.rows.now c.args.hand.now c.rows.at) start c.rows.end kind × (0 < start → kinds (start - 1) ≢ kind)
 row g c =
-    let rows = c.args.rows.now in
-    let hand = c.args.hand.now in
-    let words = g.R.Rows.words rows hand in
+    let rows = c.args.rows.now in let hand = c.args.hand.now in let words = g.R.Rows.words rows hand in
     let kinds : ℕ → Option Kind = kind_at (areas_from words) in
     let show : ShowFrom 0 words kinds = (g.R.Rows.are_rows rows hand c.requires.may).show in
     let inv = c.rows.invariant in
     let i : ℕ = g.R.Rows.number rows hand c.rows.at in
     let start_is = c.read_row-start.ensures.start ∙ ap row_start inv.word_is in
     let kind_is = c.read_row-start.ensures.kind ∙ ap row_kind inv.word_is in (
-      row_pages words kinds i (get_or words i 0) _ c.rows.end _ show inv.there refl start_is kind_is inv.end_is,
-      row_before words kinds i (get_or words i 0) _ _ show inv.there refl start_is kind_is,
+      row_pages words kinds i show inv.there start_is kind_is inv.end_is,
+      row_before words kinds i show inv.there start_is kind_is,
     )
 
 -- in a window of no page there is no place
@@ -38,8 +36,7 @@ returns-then-window-eq0-clause-fit g c = λ start fits.
 -- at the start each place ends at or below the window's end, and so does the row
 pub rows-init : goal.rows-init
 rows-init g c =
-    let found = c.find-row.ensures in
-    let until = found.until in
+    let found = c.find-row.ensures in let until = found.until in
     record {
       loaded = found.loaded;
       there = found.there;
@@ -69,10 +66,7 @@ pub returns-then-fits_in-clause-steps : goal.returns-then-fits_in-clause-steps
 returns-then-fits_in-clause-steps g c =
     let words = g.R.Rows.words c.args.rows.now c.args.hand.now in
     let yes_fit : IsTrue c.fits_in.result = search rules in
-    let fits = (c.fits_in.ensures.fit yes_fit).1 in
-    let top = c.min-top.ensures in
-    let some = c.requires.some in
-    let all = c.rows.invariant.few in
+    let fits = (c.fits_in.ensures.fit yes_fit).1 in let top = c.min-top.ensures in let some = c.requires.some in let all = c.rows.invariant.few in
     let within = between_within words (c.rows.end - 1) c.args.window (c.min-top.result - c.args.pages) c.args.window (omega arith) (omega arith) in
     omega arith
 
@@ -90,20 +84,15 @@ returns-then-start-eq0-clause-fit g c =
 -- and the rows that were passed start behind page 0
 pub returns-then-start-eq0-clause-steps : goal.returns-then-start-eq0-clause-steps
 returns-then-start-eq0-clause-steps g c =
-    let words = g.R.Rows.words c.args.rows.now c.args.hand.now in
-    let all = c.rows.invariant.few in
+    let words = g.R.Rows.words c.args.rows.now c.args.hand.now in let all = c.rows.invariant.few in
     let within = between_within words (c.rows.end - 1) c.args.window 0 c.args.window (omega arith) (omega arith) in
     omega arith
 
 -- a row that starts behind page 0 has one before it
 pub previous-at-requires-clause-less : goal.previous-at-requires-clause-less
 previous-at-requires-clause-less g c =
-    let h = goal.at.previous-at-requires-clause-less g c in
-    let rows = c.args.rows.now in
-    let hand = c.args.hand.now in
-    let words = g.R.Rows.words rows hand in
-    let r = row g h.After-read_row-start in
-    let later = c.if-start-eq0.false in
+    let h = goal.at.previous-at-requires-clause-less g c in let rows = c.args.rows.now in let hand = c.args.hand.now in
+    let words = g.R.Rows.words rows hand in let r = row g h.After-read_row-start in let later = c.if-start-eq0.false in
     let some : 0 < c.read_row-start.result.0 = omega arith in
     as_behind (λ l n. 0 < n c.rows.at) (loads_first g.R.Rows _ _ _ c.requires.may c.rows.invariant.loaded)
     (not_first words (kind_at (areas_from words)) (g.R.Rows.number rows hand c.rows.at) c.read_row-start.result.0
@@ -112,14 +101,8 @@ previous-at-requires-clause-less g c =
 -- where they don't fit, no place ends above the row's start
 pub rows-preserved : goal.rows-preserved
 rows-preserved g c =
-    let h = goal.at.rows-preserved g c in
-    let rows = c.args.rows.now in
-    let hand = c.args.hand.now in
-    let words = g.R.Rows.words rows hand in
-    let number = g.R.Rows.number rows hand in
-    let r = row g h.After-read_row-start in
-    let inv = c.rows.invariant in
-    let low = inv.there in
+    let h = goal.at.rows-preserved g c in let rows = c.args.rows.now in let hand = c.args.hand.now in let words = g.R.Rows.words rows hand in
+    let number = g.R.Rows.number rows hand in let r = row g h.After-read_row-start in let inv = c.rows.invariant in let low = inv.there in
     let now = loads_first g.R.Rows _ _ _ c.requires.may inv.loaded in
     let then = loads_on _ now c.previous-at.ensures.loaded in
     let at : number c.previous-at.result + 1 ≡ number c.rows.at = as_before (λ l n. n c.previous-at.result + 1 ≡ n c.rows.at) now
@@ -137,18 +120,12 @@ rows-preserved g c =
           ends_before (kind_at (areas_from words)) c.args.window c.args.pages c.read_row-start.result.0 c.rows.end c.min-top.result
           c.read_row-start.result.1 r.0.all r.1 c.requires.some r.0.some c.min-top.ensures inv.ended (c.fits_in.ensures.no_fit not_fit);
       low =
-          let own = ap row_start word in
-          let now_low = inv.low in
-          let here = ap row_start inv.word_is in
+          let own = ap row_start word in let now_low = inv.low in let here = ap row_start inv.word_is in
           let apart = rows_apart words (kind_at (areas_from words)) (number c.previous-at.result) (number c.rows.at) show (omega arith) inv.there in
           omega arith;
       few =
-          let later = c.if-start-eq0.false in
-          let up = r.0.some in
-          let now_low = inv.low in
-          let before = inv.few in
-          let previous = c.previous-at.ensures.steps in
-          let load = c.load-word.ensures.steps in
+          let later = c.if-start-eq0.false in let up = r.0.some in let now_low = inv.low in let before = inv.few in
+          let previous = c.previous-at.ensures.steps in let load = c.load-word.ensures.steps in
           let more = more_down words (number c.rows.at) c.read_row-start.result.0 c.rows.end c.args.window inv.there
           (start ∙ ap row_start inv.word_is) (omega arith) up (omega arith) in
           omega arith;

@@ -17,10 +17,7 @@ returns-in_default-clause-end g c =
 -- the row behind starts where its word says
 pub returns-clause-end : goal.returns-clause-end
 returns-clause-end g c =
-    let rows = c.args.rows.now in
-    let hand = c.args.hand.now in
-    let words = g.R.Rows.words rows hand in
-    let number = g.R.Rows.number rows hand in
+    let rows = c.args.rows.now in let hand = c.args.hand.now in let words = g.R.Rows.words rows hand in let number = g.R.Rows.number rows hand in
     let at : ℕ = number c.args.at in
     let there : (number c.in-Some.next ≡ at + 1) × (at + 1 < length words) = search rules in
     let now = loads_first g.R.Rows _ _ _ c.requires.may c.next.ensures.loaded in

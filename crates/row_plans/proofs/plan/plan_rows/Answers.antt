@@ -5,92 +5,71 @@ use Rattle.space_model.specs.declared.judged.Judged.TheVariants.{Refused, Keeps,
 use Rattle.space_model.specs.Areas.{kind_at}
 use Rattle.space_model.specs.Cutting.{last_end}
 use Rattle.space_model.specs.Judges.{patches_of}
+use Rattle.space_model.proofs.Stepping.{patches_few, judged-named}
 use Rattle.row_plans.specs.RowLists.{areas_from}
 use Rattle.row_plans.specs.Plans.{spliced}
 use Rattle.row_plans.specs.Planning.{IsMade}
 use Rattle.row_plans.specs.Loads.{change_loads}
 use Rattle.row_plans.specs.Loads.TakesLoads.{by_arguments, by_pages}
-use Rattle.row_plans.proofs.PlanLeft.{judged_few, judged_named, change_made, change_refused, as_they_were, plan_plain, plan_refused, plan_kept, plan_made}
+use Rattle.row_plans.proofs.PlanLeft.{areas_named, change_made, change_refused, as_they_were, plan_plain, plan_refused, plan_kept, plan_made}
 use Rattle.row_plans.proofs.Loading.{loads_first, as_before}
 use Rattle.row_plans.proofs.plan.plan_rows.Goals as goal
 
 -- what the arguments decide is the plan
 pub returns-in-Some-clause-plan : goal.returns-in-Some-clause-plan
 returns-in-Some-clause-plan g c =
-    let old = c.args.old.now in
-    let hand = c.args.hand.now in
-    let words = g.R.Rows.words old hand in
-    let number = g.R.Rows.number old hand in
+    let old = c.args.old.now in let hand = c.args.hand.now in let words = g.R.Rows.words old hand in let number = g.R.Rows.number old hand in
     let none = c.unchanged.ensures in
     let as_before = as_they_were number words c.unchanged.new.new.items c.unchanged.result.cut
     (ap number none.at ∙ c.first.ensures hand c.requires.may) none.gone none.none in
     let decided : plain_reply c.args.call.now ≡ Some c.unchanged.result.reply = sym c.in-Some.ensures ∙ ap (λ r. Some r) (sym none.reply) in
-    plan_plain words (spliced number words c.unchanged.result.cut c.unchanged.new.new.items) c.args.call.now c.unchanged.result.reply c.unchanged.result.rows
-    (g.R.Rows.are_rows old hand c.requires.may) as_before (none.rows ∙ c.count.ensures hand c.requires.may) decided
+    plan_plain c.args.call.now (g.R.Rows.are_rows old hand c.requires.may) as_before (none.rows ∙ c.count.ensures hand c.requires.may) decided
 
 -- what the rows refuse is the plan
 pub returns-in-Refused-clause-plan : goal.returns-in-Refused-clause-plan
 returns-in-Refused-clause-plan g c =
-    let old = c.args.old.now in
-    let hand = c.args.hand.now in
-    let words = g.R.Rows.words old hand in
-    let number = g.R.Rows.number old hand in
+    let old = c.args.old.now in let hand = c.args.hand.now in let words = g.R.Rows.words old hand in let number = g.R.Rows.number old hand in
     let none = c.unchanged-in-Refused.ensures in
     let as_before = as_they_were number words c.unchanged-in-Refused.new.new.items c.unchanged-in-Refused.result.cut
     (ap number none.at ∙ c.first-in-Refused.ensures hand c.requires.may) none.gone none.none in
     let undecided : plain_reply c.args.call.now ≡ None = search rules in
-    plan_refused words (spliced number words c.unchanged-in-Refused.result.cut c.unchanged-in-Refused.new.new.items) c.args.call.now
-    c.unchanged-in-Refused.result.reply c.unchanged-in-Refused.result.rows (g.R.Rows.are_rows old hand c.requires.may) as_before
+    plan_refused c.args.call.now (g.R.Rows.are_rows old hand c.requires.may) as_before
     (none.rows ∙ c.count-in-Refused.ensures hand c.requires.may) c.in-Refused.why undecided c.in-Refused.ensures.judged none.reply
 
 -- so is a reply alone, with the rows as they are
 pub returns-in-Keeps-clause-plan : goal.returns-in-Keeps-clause-plan
 returns-in-Keeps-clause-plan g c =
-    let old = c.args.old.now in
-    let hand = c.args.hand.now in
-    let words = g.R.Rows.words old hand in
-    let number = g.R.Rows.number old hand in
+    let old = c.args.old.now in let hand = c.args.hand.now in let words = g.R.Rows.words old hand in let number = g.R.Rows.number old hand in
     let none = c.unchanged-in-Keeps.ensures in
     let as_before = as_they_were number words c.unchanged-in-Keeps.new.new.items c.unchanged-in-Keeps.result.cut
     (ap number none.at ∙ c.first-in-Keeps.ensures hand c.requires.may) none.gone none.none in
     let undecided : plain_reply c.args.call.now ≡ None = search rules in
-    plan_kept words (spliced number words c.unchanged-in-Keeps.result.cut c.unchanged-in-Keeps.new.new.items) c.args.call.now
-    c.unchanged-in-Keeps.result.reply c.unchanged-in-Keeps.result.rows (g.R.Rows.are_rows old hand c.requires.may) as_before
+    plan_kept c.args.call.now (g.R.Rows.are_rows old hand c.requires.may) as_before
     (none.rows ∙ c.count-in-Keeps.ensures hand c.requires.may) c.in-Keeps.reply undecided c.in-Keeps.ensures.judged none.reply
 
 -- the looks leave the rows as they were, so there is room for what comes
 pub changed-requires-clause-room : goal.changed-requires-clause-room
 changed-requires-clause-room g c =
-    let old = c.args.old.now in
-    let hand = c.args.hand.now in
-    let words = g.R.Rows.words old hand in
-    let same = (g.R.Rows.same_words old hand c.judge.new.hand c.requires.may c.in-Changes.ensures.looked).1 in
-    let wide : length (g.R.Rows.words old c.judge.new.hand) ≡ length words = ap (λ (l : List ℕ). length l) same in
-    let two = judged_few (kind_at (areas_from words)) c.args.call.now c.in-Changes.change c.in-Changes.ensures.judged in
+    let old = c.args.old.now in let hand = c.args.hand.now in let words = g.R.Rows.words old hand in
+    let wide = ap (λ (l : List ℕ). length l) (loads_first g.R.Rows _ _ _ c.requires.may c.in-Changes.ensures.looked).same in
+    let two = patches_few c.in-Changes.change in
     let room = c.requires.room in
     omega arith
 
 -- a change has named bits alone
 pub changed-requires-clause-named : goal.changed-requires-clause-named
 changed-requires-clause-named g c =
-    judged_named (g.R.Rows.words c.args.old.now c.args.hand.now) c.args.call.now c.in-Changes.change c.requires.named
-    c.in-Changes.ensures.judged
+    let words = g.R.Rows.words c.args.old.now c.args.hand.now in
+    judged-named (areas_from words) c.args.call.now c.in-Changes.change (areas_named words) c.requires.named c.in-Changes.ensures.judged
 
 -- and is the plan, as it is made after the looks
 pub returns-in-Changes-clause-plan : goal.returns-in-Changes-clause-plan
 returns-in-Changes-clause-plan g c =
-    let old = c.args.old.now in
-    let hand = c.args.hand.now in
-    let words = g.R.Rows.words old hand in
-    let number = g.R.Rows.number old hand in
     let undecided : plain_reply c.args.call.now ≡ None = search rules in
-    let made : IsMade c.in-Changes.change c.changed.result.reply c.changed.result.rows
-    (spliced number words c.changed.result.cut c.changed.new.new.items) (areas_from words) =
-    as_before (λ l n. IsMade c.in-Changes.change c.changed.result.reply c.changed.result.rows
+    plan_made (g.R.Rows.words c.args.old.now c.args.hand.now) c.args.call.now undecided c.in-Changes.ensures.judged
+    (as_before (λ l n. IsMade c.in-Changes.change c.changed.result.reply c.changed.result.rows
     (spliced n l c.changed.result.cut c.changed.new.new.items) (areas_from l))
-    (loads_first g.R.Rows old hand c.judge.new.hand c.requires.may c.in-Changes.ensures.looked) c.changed.ensures.made in
-    plan_made words (spliced number words c.changed.result.cut c.changed.new.new.items) c.args.call.now c.in-Changes.change c.changed.result.reply
-    c.changed.result.rows undecided c.in-Changes.ensures.judged made
+    (loads_first g.R.Rows _ _ _ c.requires.may c.in-Changes.ensures.looked) c.changed.ensures.made)
 
 -- where no row goes, none comes
 pub returns-in-Some-clause-few : goal.returns-in-Some-clause-few
@@ -108,7 +87,7 @@ returns-in-Keeps-clause-few g c = let none = ap (λ (l : List ℕ). length l) c.
 pub returns-in-Changes-clause-few : goal.returns-in-Changes-clause-few
 returns-in-Changes-clause-few g c =
     let words = g.R.Rows.words c.args.old.now c.args.hand.now in
-    let two = judged_few (kind_at (areas_from words)) c.args.call.now c.in-Changes.change c.in-Changes.ensures.judged in
+    let two = patches_few c.in-Changes.change in
     let few = c.changed.ensures.few in
     omega arith
 
@@ -146,13 +125,9 @@ returns-in-Keeps-clause-loads g c =
 -- and a change takes its own beside them
 pub returns-in-Changes-clause-loads : goal.returns-in-Changes-clause-loads
 returns-in-Changes-clause-loads g c =
-    let old = c.args.old.now in
-    let hand = c.args.hand.now in
-    let change = c.in-Changes.change in
-    let steps = g.R.Rows.steps old in
+    let old = c.args.old.now in let hand = c.args.hand.now in let change = c.in-Changes.change in let steps = g.R.Rows.steps old in
     let undecided : plain_reply c.args.call.now ≡ None = search rules in
-    let own : steps c.changed.new.hand ≤ steps c.judge.new.hand + change_loads (g.R.Rows.words old hand) change.first.lo (last_end 0 (patches_of change)) =
-    as_before (λ l n. steps c.changed.new.hand ≤ steps c.judge.new.hand + change_loads l change.first.lo (last_end 0 (patches_of change)))
-    (loads_first g.R.Rows old hand c.judge.new.hand c.requires.may c.in-Changes.ensures.looked) c.changed.ensures.steps in
+    let own = as_before (λ l n. steps c.changed.new.hand ≤ steps c.judge.new.hand + change_loads l change.first.lo (last_end 0 (patches_of change)))
+    (loads_first g.R.Rows _ _ _ c.requires.may c.in-Changes.ensures.looked) c.changed.ensures.steps in
     by_pages (Changes change) undecided c.in-Changes.ensures.judged
     (λ at stop. let looks = c.in-Changes.ensures.looks at stop in omega arith)

@@ -57,21 +57,14 @@ put_to-next-requires-clause-come g c =
 -- there is room for the rows of the first patch
 pub put_to-next-requires-clause-room : goal.put_to-next-requires-clause-room
 put_to-next-requires-clause-room g c =
-    let h = goal.at.put_to-next-requires-clause-room g c in
-    omega (
-      arith,
-      c.begin-begun.ensures.room,
-      c.clear.ensures.capacity,
-      c.requires.room,
-      ap (λ (l : List ℕ). length l) (begun g h.After-begin-begun).same,
-      first_few g h.After-begin-begun,
-    )
+    let h = (goal.at.put_to-next-requires-clause-room g c).After-begin-begun in
+    let same = ap (λ (l : List ℕ). length l) (begun g h).same in
+    omega (arith, c.begin-begun.ensures.room, c.clear.ensures.capacity, c.requires.room, first_few g h)
 
 -- the row before is one of the old ones
 pub put_to-next-requires-clause-gaps : goal.put_to-next-requires-clause-gaps
 put_to-next-requires-clause-gaps g c =
-    let words = g.R.Rows.words c.args.old.now c.args.hand.now in
-    let at = g.R.Rows.number c.args.old.now c.args.hand.now c.begin-begun.result.at in
+    let words = g.R.Rows.words c.args.old.now c.args.hand.now in let at = g.R.Rows.number c.args.old.now c.args.hand.now c.begin-begun.result.at in
     subst (All IsBareGap) (sym c.begin-begun.ensures.items)
     (All-take IsBareGap c.begin-begun.result.gone (drop at words)
     (All-drop IsBareGap at words (g.R.Rows.are_rows c.args.old.now c.args.hand.now c.requires.may).gaps))
@@ -103,16 +96,9 @@ pub put_to-again-requires-clause-room : goal.put_to-again-requires-clause-room
 put_to-again-requires-clause-room g c =
     let h = goal.at.put_to-again-requires-clause-room g c in
     let two_patches : length (second_of c.args.change.second) ≡ 1 = ap (λ (o : Option Patch). length (second_of o)) c.in-Some.is in
-    omega (
-      arith,
-      c.put_to-next.ensures.few,
-      c.put_to-next.ensures.room,
-      c.begin-begun.ensures.room,
-      c.clear.ensures.capacity,
-      c.requires.room,
-      ap (λ (l : List ℕ). length l) (next g h.After-put_to-next).same,
-      first_few g h.After-begin-begun,
-    )
+    let same = ap (λ (l : List ℕ). length l) (next g h.After-put_to-next).same in
+    let few = first_few g h.After-begin-begun in
+    omega (arith, c.put_to-next.ensures.few, c.put_to-next.ensures.room, c.begin-begun.ensures.room, c.clear.ensures.capacity, c.requires.room)
 
 -- the hand may load again
 pub put_to-last-requires-clause-may : goal.put_to-last-requires-clause-may
@@ -130,18 +116,10 @@ pub put_to-last-requires-clause-room : goal.put_to-last-requires-clause-room
 put_to-last-requires-clause-room g c =
     let h = goal.at.put_to-last-requires-clause-room g c in
     let two_patches : length (second_of c.args.change.second) ≡ 1 = ap (λ (o : Option Patch). length (second_of o)) c.in-Some.is in
-    omega (
-      arith,
-      c.put_to-again.ensures.few,
-      c.put_to-again.ensures.room,
-      c.put_to-next.ensures.few,
-      c.put_to-next.ensures.room,
-      c.begin-begun.ensures.room,
-      c.clear.ensures.capacity,
-      c.requires.room,
-      ap (λ (l : List ℕ). length l) (again g h.After-put_to-again).same,
-      first_few g h.After-begin-begun,
-    )
+    let same = ap (λ (l : List ℕ). length l) (again g h.After-put_to-again).same in
+    let few = first_few g h.After-begin-begun in
+    let more = c.put_to-again.ensures.few in let room = c.put_to-again.ensures.room in
+    omega (arith, c.put_to-next.ensures.few, c.put_to-next.ensures.room, c.begin-begun.ensures.room, c.clear.ensures.capacity, c.requires.room)
 
 -- and may load once more
 pub join_on-requires-in-Some-clause-may : goal.join_on-requires-in-Some-clause-may
@@ -159,28 +137,16 @@ pub join_on-requires-in-Some-clause-room : goal.join_on-requires-in-Some-clause-
 join_on-requires-in-Some-clause-room g c =
     let h = goal.at.join_on-requires-in-Some-clause-room g c in
     let two_patches : length (second_of c.args.change.second) ≡ 1 = ap (λ (o : Option Patch). length (second_of o)) c.in-Some.is in
-    let last = c.put_to-last.ensures.come.before in
-    omega (
-      arith,
-      last.there,
-      c.put_to-last.ensures.few,
-      c.put_to-last.ensures.room,
-      c.put_to-again.ensures.few,
-      c.put_to-again.ensures.room,
-      c.put_to-next.ensures.few,
-      c.put_to-next.ensures.room,
-      c.begin-begun.ensures.room,
-      c.clear.ensures.capacity,
-      c.requires.room,
-      ap (λ (l : List ℕ). length l) (again g h.After-put_to-again).same,
-      first_few g h.After-begin-begun,
-    )
+    let same = ap (λ (l : List ℕ). length l) (again g h.After-put_to-again).same in
+    let few = first_few g h.After-begin-begun in let there = c.put_to-last.ensures.come.before.there in
+    let last = c.put_to-last.ensures.few in let last_room = c.put_to-last.ensures.room in
+    let more = c.put_to-again.ensures.few in let room = c.put_to-again.ensures.room in
+    omega (arith, c.put_to-next.ensures.few, c.put_to-next.ensures.room, c.begin-begun.ensures.room, c.clear.ensures.capacity, c.requires.room)
 
 -- one patch: as many rows go as there are
 pub returns-in-None-clause-there : goal.returns-in-None-clause-there
 returns-in-None-clause-there g c =
-    let h = goal.at.returns-in-None-clause-there g c in
-    let number = g.R.Rows.number c.args.old.now c.args.hand.now in
+    let h = goal.at.returns-in-None-clause-there g c in let number = g.R.Rows.number c.args.old.now c.args.hand.now in
     let low = as_before (λ l n. n c.put_to-next.result.at + c.join_on.result ≤ length l) (next g h.After-put_to-next) c.join_on.ensures.there in
     let at = ap number c.put_to-next.ensures.at in
     omega arith
@@ -188,26 +154,21 @@ returns-in-None-clause-there g c =
 -- all gaps are bare
 pub returns-in-None-clause-gaps : goal.returns-in-None-clause-gaps
 returns-in-None-clause-gaps g c =
-    let words = g.R.Rows.words c.args.old.now c.args.hand.now in
-    let at = g.R.Rows.number c.args.old.now c.args.hand.now c.begin-begun.result.at in
+    let words = g.R.Rows.words c.args.old.now c.args.hand.now in let at = g.R.Rows.number c.args.old.now c.args.hand.now c.begin-begun.result.at in
     splice_gaps words c.join_on.new.rows.items at (at + c.join_on.result)
     (g.R.Rows.are_rows c.args.old.now c.args.hand.now c.requires.may).gaps c.join_on.ensures.gaps
 
 -- the row before the patch, its pages, and what is behind it
 pub returns-in-None-clause-shows : goal.returns-in-None-clause-shows
 returns-in-None-clause-shows g c = λ kinds show.
-    let h = goal.at.returns-in-None-clause-shows g c in
-    let words = g.R.Rows.words c.args.old.now c.args.hand.now in
-    let number = g.R.Rows.number c.args.old.now c.args.hand.now in
-    let loads_two = begun g h.After-begin-begun in
-    let loads_three = next g h.After-put_to-next in
-    let first = c.args.change.first in
+    let h = goal.at.returns-in-None-clause-shows g c in let words = g.R.Rows.words c.args.old.now c.args.hand.now in
+    let number = g.R.Rows.number c.args.old.now c.args.hand.now in let loads_two = begun g h.After-begin-begun in
+    let loads_three = next g h.After-put_to-next in let first = c.args.change.first in
     let begin : ℕ = number c.begin-begun.result.at in
     let start : ℕ = begin + c.begin-begun.result.gone in
     let before : begin ≡ start - 1 = c.begin-begun.ensures.before in
     let gone : c.begin-begun.result.gone ≡ start - begin = omega arith in
-    let items : c.begin-begun.new.rows.items ≡ take (start - begin) (drop begin words) =
-    c.begin-begun.ensures.items ∙ ap (λ n. take n (drop begin words)) gone in
+    let items = c.begin-begun.ensures.items ∙ ap (λ n. take n (drop begin words)) gone in
     let come : StartBefore words first.lo start = c.begin-begun.ensures.come.before in
     let alone : c.args.change.second ≡ None = c.in-None.is in
     let rising : AreRising 0 (first ∷ []) = subst (λ (o : Option Patch). AreRising 0 (first ∷ second_of o)) alone c.requires.rising in
@@ -216,20 +177,15 @@ returns-in-None-clause-shows g c = λ kinds show.
     let end : ℕ = begin + c.join_on.result in
     let at : number c.put_to-next.result.at + c.join_on.result ≡ end = ap (λ x. number x + c.join_on.result) c.put_to-next.ensures.at in
     let more = c.join_on.new.rows.items in
-    let begun : ShowTo from c.begin-begun.new.rows.items first.lo after =
-    begun_shows words kinds show first.lo start begin come before c.begin-begun.new.rows.items after items
+    let begun = begun_shows words kinds show first.lo start begin come before c.begin-begun.new.rows.items after items
     (λ p low. first_kept kinds first [] rising p (omega arith) low) in
-    let own : ShowTo from c.put_to-next.new.rows.items first.hi after =
-    c.put_to-next.ensures.shows from kinds after (as_behind (λ l n. ShowFrom 0 l kinds) loads_two show) (first_painted kinds first [] rising) begun in
-    let joined : ShowTo from more (rows_start (drop end words)) after =
-    subst (λ (n : ℕ). ShowTo from more (rows_start (drop n words)) after) at
+    let own = c.put_to-next.ensures.shows from kinds after (as_behind (λ l n. ShowFrom 0 l kinds) loads_two show) (first_painted kinds first [] rising) begun in
+    let joined = subst (λ (n : ℕ). ShowTo from more (rows_start (drop n words)) after) at
     (as_before (λ l n. ShowTo from more (rows_start (drop (n c.put_to-next.result.at + c.join_on.result) l)) after) loads_three
     (c.join_on.ensures.shows from kinds after (as_behind (λ l n. ShowFrom 0 l kinds) loads_three show) (last_kept kinds first) own)) in
-    let differs : GoesOn more (drop end words) =
-    subst (λ (n : ℕ). GoesOn more (drop n words)) at
+    let differs = subst (λ (n : ℕ). GoesOn more (drop n words)) at
     (as_before (λ l n. GoesOn more (drop (n c.put_to-next.result.at + c.join_on.result) l)) loads_three c.join_on.ensures.differs) in
-    let ahead : first.hi ≤ rows_start (drop end words) =
-    subst (λ (n : ℕ). first.hi ≤ rows_start (drop n words)) at
+    let ahead = subst (λ (n : ℕ). first.hi ≤ rows_start (drop n words)) at
     (as_before (λ l n. first.hi ≤ rows_start (drop (n c.put_to-next.result.at + c.join_on.result) l)) loads_three c.join_on.ensures.ahead) in
     let ordered = rising.1 in
     let limit : first.hi ≤ LIMIT = rising.2 in
@@ -246,8 +202,7 @@ returns-in-None-clause-loaded g c =
 -- two patches: as many rows go as there are
 pub returns-in-Some-clause-there : goal.returns-in-Some-clause-there
 returns-in-Some-clause-there g c =
-    let h = goal.at.returns-in-Some-clause-there g c in
-    let number = g.R.Rows.number c.args.old.now c.args.hand.now in
+    let h = goal.at.returns-in-Some-clause-there g c in let number = g.R.Rows.number c.args.old.now c.args.hand.now in
     let low = as_before (λ l n. n c.put_to-last.result.at + c.join_on-in-Some.result ≤ length l) (last g h.After-put_to-last)
     c.join_on-in-Some.ensures.there in
     let at = ap number (c.put_to-last.ensures.at ∙ (c.put_to-again.ensures.at ∙ c.put_to-next.ensures.at)) in
@@ -256,28 +211,22 @@ returns-in-Some-clause-there g c =
 -- all gaps are bare
 pub returns-in-Some-clause-gaps : goal.returns-in-Some-clause-gaps
 returns-in-Some-clause-gaps g c =
-    let words = g.R.Rows.words c.args.old.now c.args.hand.now in
-    let at = g.R.Rows.number c.args.old.now c.args.hand.now c.begin-begun.result.at in
+    let words = g.R.Rows.words c.args.old.now c.args.hand.now in let at = g.R.Rows.number c.args.old.now c.args.hand.now c.begin-begun.result.at in
     splice_gaps words c.join_on-in-Some.new.rows.items at (at + c.join_on-in-Some.result)
     (g.R.Rows.are_rows c.args.old.now c.args.hand.now c.requires.may).gaps c.join_on-in-Some.ensures.gaps
 
 -- the row before the first patch, its pages, those between, the pages of the second one, and what is behind it
 pub returns-in-Some-clause-shows : goal.returns-in-Some-clause-shows
 returns-in-Some-clause-shows g c = λ kinds show.
-    let h = goal.at.returns-in-Some-clause-shows g c in
-    let words = g.R.Rows.words c.args.old.now c.args.hand.now in
-    let number = g.R.Rows.number c.args.old.now c.args.hand.now in
-    let loads_two = begun g h.After-begin-begun in
-    let loads_three = next g h.After-put_to-next in
-    let loads_four = again g h.After-put_to-again in
-    let loads_five = last g h.After-put_to-last in
+    let h = goal.at.returns-in-Some-clause-shows g c in let words = g.R.Rows.words c.args.old.now c.args.hand.now in
+    let number = g.R.Rows.number c.args.old.now c.args.hand.now in let loads_two = begun g h.After-begin-begun in
+    let loads_three = next g h.After-put_to-next in let loads_four = again g h.After-put_to-again in let loads_five = last g h.After-put_to-last in
     let first = c.args.change.first in
     let begin : ℕ = number c.begin-begun.result.at in
     let start : ℕ = begin + c.begin-begun.result.gone in
     let before : begin ≡ start - 1 = c.begin-begun.ensures.before in
     let gone : c.begin-begun.result.gone ≡ start - begin = omega arith in
-    let items : c.begin-begun.new.rows.items ≡ take (start - begin) (drop begin words) =
-    c.begin-begun.ensures.items ∙ ap (λ n. take n (drop begin words)) gone in
+    let items = c.begin-begun.ensures.items ∙ ap (λ n. take n (drop begin words)) gone in
     let come : StartBefore words first.lo start = c.begin-begun.ensures.come.before in
     let second = c.in-Some.second in
     let two_of : c.args.change.second ≡ Some second = c.in-Some.is in
@@ -288,8 +237,7 @@ returns-in-Some-clause-shows g c = λ kinds show.
     let at : number c.put_to-last.result.at + c.join_on-in-Some.result ≡ end =
     ap (λ x. number x + c.join_on-in-Some.result) (c.put_to-last.ensures.at ∙ (c.put_to-again.ensures.at ∙ c.put_to-next.ensures.at)) in
     let more = c.join_on-in-Some.new.rows.items in
-    let begun : ShowTo from c.begin-begun.new.rows.items first.lo after =
-    begun_shows words kinds show first.lo start begin come before c.begin-begun.new.rows.items after items
+    let begun = begun_shows words kinds show first.lo start begin come before c.begin-begun.new.rows.items after items
     (λ p low. first_kept kinds first (second ∷ []) rising p (omega arith) low) in
     let own = c.put_to-next.ensures.shows from kinds after (as_behind (λ l n. ShowFrom 0 l kinds) loads_two show)
     (first_painted kinds first (second ∷ []) rising) begun in
@@ -297,20 +245,15 @@ returns-in-Some-clause-shows g c = λ kinds show.
     (second_kept kinds first second rising) own in
     let last = c.put_to-last.ensures.shows from kinds after (as_behind (λ l n. ShowFrom 0 l kinds) loads_four show)
     (second_painted kinds first second rising) again in
-    let joined : ShowTo from more (rows_start (drop end words)) after =
-    subst (λ (n : ℕ). ShowTo from more (rows_start (drop n words)) after) at
+    let joined = subst (λ (n : ℕ). ShowTo from more (rows_start (drop n words)) after) at
     (as_before (λ l n. ShowTo from more (rows_start (drop (n c.put_to-last.result.at + c.join_on-in-Some.result) l)) after) loads_five
     (c.join_on-in-Some.ensures.shows from kinds after (as_behind (λ l n. ShowFrom 0 l kinds) loads_five show) (both_kept kinds first second rising) last)) in
-    let differs : GoesOn more (drop end words) =
-    subst (λ (n : ℕ). GoesOn more (drop n words)) at
+    let differs = subst (λ (n : ℕ). GoesOn more (drop n words)) at
     (as_before (λ l n. GoesOn more (drop (n c.put_to-last.result.at + c.join_on-in-Some.result) l)) loads_five c.join_on-in-Some.ensures.differs) in
-    let ahead : second.hi ≤ rows_start (drop end words) =
-    subst (λ (n : ℕ). second.hi ≤ rows_start (drop n words)) at
+    let ahead = subst (λ (n : ℕ). second.hi ≤ rows_start (drop n words)) at
     (as_before (λ l n. second.hi ≤ rows_start (drop (n c.put_to-last.result.at + c.join_on-in-Some.result) l)) loads_five
     c.join_on-in-Some.ensures.ahead) in
-    let a = rising.1 in
-    let b = rising.2.0 in
-    let d = rising.2.1 in
+    let a = rising.1 in let b = rising.2.0 in let d = rising.2.1 in
     let limit : second.hi ≤ LIMIT = rising.2.2 in
     subst (λ (o : Option Patch). ShowFrom 0 (splice words begin end more) (patched (first ∷ second_of o) kinds)) (sym two_of)
     (made_shows words kinds show first.lo start begin come before more end second.hi after (omega arith)
@@ -324,50 +267,31 @@ returns-in-Some-clause-loaded g c =
 -- one patch: six loads for each row of its pages, and those for the rows on both sides
 pub returns-in-None-clause-steps : goal.returns-in-None-clause-steps
 returns-in-None-clause-steps g c =
-    let h = goal.at.returns-in-None-clause-steps g c in
-    let words = g.R.Rows.words c.args.old.now c.args.hand.now in
-    let number = g.R.Rows.number c.args.old.now c.args.hand.now in
-    let steps = g.R.Rows.steps c.args.old.now in
-    let first = c.args.change.first in
-    let first_come = c.begin-begun.result in
-    let come = c.put_to-next.result in
+    let h = goal.at.returns-in-None-clause-steps g c in let words = g.R.Rows.words c.args.old.now c.args.hand.now in
+    let number = g.R.Rows.number c.args.old.now c.args.hand.now in let steps = g.R.Rows.steps c.args.old.now in let first = c.args.change.first in
+    let first_come = c.begin-begun.result in let come = c.put_to-next.result in
     let gone = as_before (λ l n. IsCome l n first.hi come) (begun g h.After-begin-begun) c.put_to-next.ensures.come in
     let run = come_between words (kind_at (areas_from words)) first.lo first.hi (come_to number first_come) (come_to number come) (number first_come.at)
     (g.R.Rows.are_rows c.args.old.now c.args.hand.now c.requires.may).show c.begin-begun.ensures.come.before gone.before c.begin-begun.ensures.before in
-    let at = ap number c.put_to-next.ensures.at in
-    let before = c.begin-begun.ensures.before in
+    let at = ap number c.put_to-next.ensures.at in let before = c.begin-begun.ensures.before in
     let all : steps c.join_on.new.hand ≤ steps c.args.hand.now + change_loads words first.lo first.hi =
-    omega (arith, run, at, before, c.begin-begun.ensures.steps, c.put_to-next.ensures.steps, c.join_on.ensures.steps) in
+    omega (arith, c.begin-begun.ensures.steps, c.put_to-next.ensures.steps, c.join_on.ensures.steps) in
     subst (λ (o : Option Patch). steps c.join_on.new.hand ≤ steps c.args.hand.now + change_loads words first.lo (last_end 0 (first ∷ second_of o)))
     (sym c.in-None.is) all
 
 -- two patches: six for each row up to the end of the second one
 pub returns-in-Some-clause-steps : goal.returns-in-Some-clause-steps
 returns-in-Some-clause-steps g c =
-    let h = goal.at.returns-in-Some-clause-steps g c in
-    let words = g.R.Rows.words c.args.old.now c.args.hand.now in
-    let number = g.R.Rows.number c.args.old.now c.args.hand.now in
-    let steps = g.R.Rows.steps c.args.old.now in
-    let first = c.args.change.first in
-    let second = c.in-Some.second in
-    let first_come = c.begin-begun.result in
-    let come = c.put_to-last.result in
+    let h = goal.at.returns-in-Some-clause-steps g c in let words = g.R.Rows.words c.args.old.now c.args.hand.now in
+    let number = g.R.Rows.number c.args.old.now c.args.hand.now in let steps = g.R.Rows.steps c.args.old.now in let first = c.args.change.first in
+    let second = c.in-Some.second in let first_come = c.begin-begun.result in let come = c.put_to-last.result in
     let gone = as_before (λ l n. IsCome l n second.hi come) (again g h.After-put_to-again) c.put_to-last.ensures.come in
     let run = come_between words (kind_at (areas_from words)) first.lo second.hi (come_to number first_come) (come_to number come) (number first_come.at)
     (g.R.Rows.are_rows c.args.old.now c.args.hand.now c.requires.may).show c.begin-begun.ensures.come.before gone.before c.begin-begun.ensures.before in
     let at = ap number (c.put_to-last.ensures.at ∙ (c.put_to-again.ensures.at ∙ c.put_to-next.ensures.at)) in
     let before = c.begin-begun.ensures.before in
     let all : steps c.join_on-in-Some.new.hand ≤ steps c.args.hand.now + change_loads words first.lo second.hi =
-    omega (
-      arith,
-      run,
-      at,
-      before,
-      c.begin-begun.ensures.steps,
-      c.put_to-next.ensures.steps,
-      c.put_to-again.ensures.steps,
-      c.put_to-last.ensures.steps,
-      c.join_on-in-Some.ensures.steps,
-    ) in
+    let own = c.begin-begun.ensures.steps in let joined = c.join_on-in-Some.ensures.steps in
+    omega (arith, c.put_to-next.ensures.steps, c.put_to-again.ensures.steps, c.put_to-last.ensures.steps) in
     subst (λ (o : Option Patch). steps c.join_on-in-Some.new.hand ≤ steps c.args.hand.now
     + change_loads words first.lo (last_end 0 (first ∷ second_of o))) (sym c.in-Some.is) all

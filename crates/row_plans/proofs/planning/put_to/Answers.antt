@@ -22,8 +22,7 @@ begun g c = loads_first g.R.Rows _ _ _ c.requires.may c.rows.invariant.loaded
 there : (g : Over) (c : In-rows g) → come_to (g.R.Rows.number c.args.old.now c.args.hand.now) c.rows.now
     < length (g.R.Rows.words c.args.old.now c.args.hand.now)
 there g c =
-    let words = g.R.Rows.words c.args.old.now c.args.hand.now in
-    let number = g.R.Rows.number c.args.old.now c.args.hand.now in
+    let words = g.R.Rows.words c.args.old.now c.args.hand.now in let number = g.R.Rows.number c.args.old.now c.args.hand.now in
     let hi = c.args.pages.to in
     let below : c.rows.at < hi = search rules in
     let starts : c.rows.at ≡ min c.rows.now.end hi = c.rows.invariant.at_is in
@@ -46,51 +45,33 @@ go_on-now-requires-clause-next g c =
 -- each turn has a row more to put, and an old one to load
 pub put_row-requires-clause-room : goal.put_row-requires-clause-room
 put_row-requires-clause-room g c =
-    let h = goal.at.put_row-requires-clause-room g c in
-    let inv = c.rows.invariant in
-    let lt = there g h.In-rows in
-    omega (
-      arith,
-      inv.few,
-      inv.room,
-      ap (g.R.Rows.number c.args.old.now c.args.hand.now) inv.first,
-      c.put_part.ensures.few,
-      c.put_part.ensures.room,
-      c.requires.room,
-    )
+    let h = goal.at.put_row-requires-clause-room g c in let inv = c.rows.invariant in let lt = there g h.In-rows in
+    let first = ap (g.R.Rows.number c.args.old.now c.args.hand.now) inv.first in
+    omega (arith, inv.few, inv.room, c.put_part.ensures.few, c.put_part.ensures.room, c.requires.room)
 
 -- with one old row more, its pages of the stretch are put with their new kind
 pub rows-preserved : goal.rows-preserved
 rows-preserved g c =
-    let h = goal.at.rows-preserved g c in
-    let old = c.args.old.now in
-    let hand = c.args.hand.now in
-    let words = g.R.Rows.words old hand in
-    let number = g.R.Rows.number old hand in
-    let inv = c.rows.invariant in
-    let now = begun g h.In-rows in
-    let come = c.rows.now in
+    let h = goal.at.rows-preserved g c in let old = c.args.old.now in let hand = c.args.hand.now in let words = g.R.Rows.words old hand in
+    let number = g.R.Rows.number old hand in let inv = c.rows.invariant in let now = begun g h.In-rows in let come = c.rows.now in
     let next = c.go_on-now.result in
     let i : ℕ = come_to number come in
-    let at = c.rows.at in
-    let hi = c.args.pages.to in
+    let at = c.rows.at in let hi = c.args.pages.to in
     let below : at < hi = search rules in
     let starts : at ≡ min come.end hi = inv.at_is in
     let lt : i < length words = there g h.In-rows in
     let to = c.min-at.result in
     let ends : to ≡ min next.end hi = c.min-at.ensures in
     let above : c.args.pages.from ≤ at = inv.above in
-    let list = g.R.Rows.are_rows old hand c.requires.may in
-    let on = c.go_on-now.ensures in
+    let list = g.R.Rows.are_rows old hand c.requires.may in let on = c.go_on-now.ensures in
     let kind : next.kind ≡ row_kind (slice_index words i) = as_before (λ l n. next.kind ≡ row_kind (slice_index l (come_to n come))) now on.kind in
     let place : IsPlaceOf words number (i + 1) next.next = as_before (λ l n. IsPlaceOf l n (come_to n come + 1) next.next) now on.next in
     let end : next.end ≡ rows_start (drop (i + 1) words) = as_before (λ l n. next.end ≡ rows_start (drop (come_to n come + 1) l)) now on.end in
     let pages : (kinds : ℕ → Option Kind) → ShowFrom 0 words kinds →
     RowPages words kinds i (row_start (get_or words i 0)) (rows_start (drop (i + 1) words)) next.kind = λ kinds show.
-    row_pages words kinds i (get_or words i 0) (row_start (get_or words i 0)) (rows_start (drop (i + 1) words)) next.kind show lt refl refl kind refl in
+    row_pages words kinds i show lt refl kind refl in
     let own = pages (kind_at (areas_from words)) list.show in
-    let begins = own.begins in
-    let some = own.some in
+    let begins = own.begins in let some = own.some in
     let from : come.end ≡ rows_start (drop i words) = inv.come.end in
     record {
       loaded = (loads_on _ now on.loaded).loaded;
@@ -123,15 +104,9 @@ returns-clause-come g c =
 -- and the rows show the new kinds up to the end of the pages
 pub returns-clause-shows : goal.returns-clause-shows
 returns-clause-shows g c = λ from kinds others show kept before.
-    let words = g.R.Rows.words c.args.old.now c.args.hand.now in
-    let number = g.R.Rows.number c.args.old.now c.args.hand.now in
-    let inv = c.rows.invariant in
-    let at = c.rows.at in
-    let hi = c.args.pages.to in
-    let lo = c.args.pages.from in
-    let come = c.requires.come in
-    let ahead = come.before.ahead in
-    let starts_at = come.end in
+    let words = g.R.Rows.words c.args.old.now c.args.hand.now in let number = g.R.Rows.number c.args.old.now c.args.hand.now in
+    let inv = c.rows.invariant in let at = c.rows.at in let hi = c.args.pages.to in let lo = c.args.pages.from in let come = c.requires.come in
+    let ahead = come.before.ahead in let starts_at = come.end in
     let ordered : lo ≤ hi = c.requires.ordered in
     let end : c.min-end.result ≡ min c.args.come.end hi = c.min-end.ensures in
     let over : hi ≤ at = search rules in

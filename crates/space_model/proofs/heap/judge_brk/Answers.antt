@@ -2,12 +2,8 @@ use Rattle.space_model.proofs.heap.judge_brk.Goals as goal
 
 -- where the heap grows two looks are a look
 pub returns-then-has_room-clause-looked : goal.returns-then-has_room-clause-looked
-returns-then-has_room-clause-looked g c =
-    g.P.Pages.looks_on c.args.pages.now c.args.hand.now c.end_of-end.new.hand c.has_room.new.hand c.end_of-end.ensures.looked
-    c.has_room.ensures.looked
+returns-then-has_room-clause-looked g c = g.P.Pages.looks_on _ _ _ _ c.end_of-end.ensures.looked c.has_room.ensures.looked
 
 -- and where it finds no room
 pub returns-clause-looked : goal.returns-clause-looked
-returns-clause-looked g c =
-    g.P.Pages.looks_on c.args.pages.now c.args.hand.now c.end_of-end.new.hand c.has_room.new.hand c.end_of-end.ensures.looked
-    c.has_room.ensures.looked
+returns-clause-looked g c = g.P.Pages.looks_on _ _ _ _ c.end_of-end.ensures.looked c.has_room.ensures.looked

@@ -14,11 +14,7 @@ one_more list i e within is = take_more list i e within ∙ ap (λ x. take i lis
 -- an entry that isn't right is the first one with which the history isn't legal
 pub returns-then-not-right : goal.returns-then-not-right
 returns-then-not-right c =
-    let A = c.args.start.now in
-    let list = c.args.list.now in
-    let i = c.loop-i.i in
-    let e = c.index-list-i.result in
-    let front = take i list in
+    let A = c.args.start.now in let list = c.args.list.now in let i = c.loop-i.i in let e = c.index-list-i.result in let front = take i list in
     let more = one_more list i e c.loop-i-test.true c.index-list-i.is in
     let count : length front ≡ i = length-take-le i list (omega arith) in
     record {
@@ -34,16 +30,11 @@ returns-then-not-right c =
 -- with a right entry more the history is still legal, and leaves the new space
 pub loop-i-preserved : goal.loop-i-preserved
 loop-i-preserved c =
-    let A = c.args.start.now in
-    let list = c.args.list.now in
-    let i = c.loop-i.i in
-    let e = c.index-list-i.result in
-    let front = take i list in
+    let A = c.args.start.now in let list = c.args.list.now in let i = c.loop-i.i in let e = c.index-list-i.result in let front = take i list in
     let more = one_more list i e c.loop-i-test.true c.index-list-i.is in
     let count : length front ≡ i = length-take-le i list (omega arith) in
     let (reply, answer, right) = c.in_ok-right.ensures in
-    let is_right = right.0 c.if-not-right.false in
-    let next = c.is_next.new.space in
+    let is_right = right.0 c.if-not-right.false in let next = c.is_next.new.space in
     let mine = subst (λ r. Answers c.loop-i.space e.call r next) (sym is_right.1) answer in (
       subst (IsLegal A) (sym more)
           (legal_more A front c.loop-i.space e next c.loop-i.invariant.0 c.loop-i.invariant.1 (is_right.0 ∙ sym count) mine),

@@ -1,66 +1,54 @@
-use Rattle.std.proofs.Common.{ℕ, Option, ◌+◌, ◌∙◌, sym, subst}
+use Rattle.std.proofs.Common.{ℕ, Option, ◌∙◌, sym, subst}
 use Rattle.std.proofs.lemmas.Bool.{true≢false}
 use Rattle.page_types.specs.declared.calls.Kind.{Kind}
-use Rattle.page_types.specs.Pages.{page_of}
-use Rattle.space_model.specs.Places.{FitsAt, IsHighestFit}
+use Rattle.page_types.specs.declared.calls.Call.TheVariants.{Map}
+use Rattle.space_model.specs.Looking.{TakesLooks}
+use Rattle.space_model.specs.Places.{FitsAt}
 use Rattle.space_model.proofs.Judgements.{hinted_refused, hinted_placed}
-use Rattle.space_model.proofs.Looks.{looks_first, looks_hinted}
+use Rattle.space_model.proofs.Looks.{sees, looks_first, looks_hinted}
+use Rattle.space_model.proofs.judging.judge_hinted.Given.{Over}
+use Rattle.space_model.proofs.judging.judge_hinted.Goals.{After-highest_fit}
 use Rattle.space_model.proofs.judging.judge_hinted.Goals as goal
 
 -- where the hint doesn't fit, the pages are put as high as a second look finds that they fit in its window
 pub returns-in-Some-clause-judged : goal.returns-in-Some-clause-judged
 returns-in-Some-clause-judged g c =
-    let p = c.args.pages.now in
-    let same = (g.P.Pages.same_kinds p c.args.hand.now c.fits_at.new.hand c.requires.may c.fits_at.ensures.looked).1 in
-    let high : IsHighestFit (g.P.Pages.kinds p c.args.hand.now) c.window_of-window.result c.page_count-count.result c.in-Some.start =
-    subst (λ (k : ℕ → Option Kind). IsHighestFit k c.window_of-window.result c.page_count-count.result c.in-Some.start) same
-    c.in-Some.ensures.fit in
-    hinted_placed (g.P.Pages.kinds p c.args.hand.now) c.args.addr c.args.len c.args.prot c.args.flags c.window_of-window.result
-    c.page_count-count.result c.in-Some.start c.mapped_kind-in-Some.result c.mapped_at-in-Some.result c.requires.hint
+    let same = (sees g.P.Pages c.requires.may c.fits_at.ensures.looked).same in
+    hinted_placed (g.P.Pages.kinds c.args.pages.now c.args.hand.now) c.args.addr c.args.len c.args.prot c.args.flags c.requires.hint
     c.window_of-window.ensures.window c.page_count-count.ensures c.mapped_kind-in-Some.ensures
-    (λ fit. true≢false (sym (c.fits_at.ensures.fits.1 fit) ∙ c.if-fits_at.false)) high c.window_of-window.ensures.limit
-    c.mapped_at-in-Some.ensures
+    (λ fit. true≢false (sym (c.fits_at.ensures.fits.1 fit) ∙ c.if-fits_at.false)) (rw same at c.in-Some.ensures.fit)
+    c.window_of-window.ensures.limit c.mapped_at-in-Some.ensures
 
 -- two looks are a look
 pub returns-in-Some-clause-looked : goal.returns-in-Some-clause-looked
-returns-in-Some-clause-looked g c =
-    g.P.Pages.looks_on c.args.pages.now c.args.hand.now c.fits_at.new.hand c.highest_fit.new.hand c.fits_at.ensures.looked
-    c.highest_fit.ensures.looked
+returns-in-Some-clause-looked g c = g.P.Pages.looks_on _ _ _ _ c.fits_at.ensures.looked c.highest_fit.ensures.looked
 
 -- where the pages fit nowhere in the window the Map is refused
 pub returns-in-None-clause-judged : goal.returns-in-None-clause-judged
 returns-in-None-clause-judged g c =
-    let p = c.args.pages.now in
-    let same = (g.P.Pages.same_kinds p c.args.hand.now c.fits_at.new.hand c.requires.may c.fits_at.ensures.looked).1 in
-    hinted_refused (g.P.Pages.kinds p c.args.hand.now) c.args.addr c.args.len c.args.prot c.args.flags c.window_of-window.result
-    c.page_count-count.result c.requires.hint c.window_of-window.ensures.window c.page_count-count.ensures
+    let same = (sees g.P.Pages c.requires.may c.fits_at.ensures.looked).same in
+    hinted_refused (g.P.Pages.kinds c.args.pages.now c.args.hand.now) c.args.addr c.args.len c.args.prot c.args.flags c.requires.hint
+    c.window_of-window.ensures.window c.page_count-count.ensures
     (subst (λ (k : ℕ → Option Kind). (start : ℕ) → ¬ FitsAt k c.window_of-window.result c.page_count-count.result start) same
     c.in-None.ensures.fit)
 
 -- by two looks as well
 pub returns-in-None-clause-looked : goal.returns-in-None-clause-looked
-returns-in-None-clause-looked g c =
-    g.P.Pages.looks_on c.args.pages.now c.args.hand.now c.fits_at.new.hand c.highest_fit.new.hand c.fits_at.ensures.looked
-    c.highest_fit.ensures.looked
+returns-in-None-clause-looked g c = g.P.Pages.looks_on _ _ _ _ c.fits_at.ensures.looked c.highest_fit.ensures.looked
 
 -- the looks are those at the hint, and those from the window's end down
-pub returns-in-Some-clause-looks : goal.returns-in-Some-clause-looks
-returns-in-Some-clause-looks g c = λ at stop.
-    let p = c.args.pages.now in
-    let hint = page_of c.args.addr in
+down : (g : Over) (c : After-highest_fit g) → TakesLooks (g.P.Pages.kinds c.args.pages.now c.args.hand.now)
+    (g.P.Pages.reach c.args.pages.now c.args.hand.now) (Map c.args.addr c.args.len c.args.prot c.args.flags)
+    (g.P.Pages.looks c.args.pages.now c.args.hand.now) (g.P.Pages.looks c.args.pages.now c.highest_fit.new.hand)
+down g c at stop =
     looks_hinted c.highest_fit.new.hand c.args.addr c.args.len c.args.prot c.args.flags c.window_of-window.result c.page_count-count.result at
     c.highest_fit.result c.requires.hint c.window_of-window.ensures.window c.page_count-count.ensures
-    (looks_first g.P.Pages p c.args.hand.now c.fits_at.new.hand (g.P.Pages.reach p c.args.hand.now hint (hint + c.page_count-count.result))
-    c.requires.may c.fits_at.ensures.looked c.fits_at.ensures.looks)
+    (looks_first g.P.Pages _ _ _ _ c.requires.may c.fits_at.ensures.looked c.fits_at.ensures.looks)
     c.highest_fit.ensures.fit c.highest_fit.ensures.looks stop
+
+pub returns-in-Some-clause-looks : goal.returns-in-Some-clause-looks
+returns-in-Some-clause-looks g c = down g (goal.at.returns-in-Some-clause-looks g c).After-highest_fit
 
 -- down to page 0 where there is no place
 pub returns-in-None-clause-looks : goal.returns-in-None-clause-looks
-returns-in-None-clause-looks g c = λ at stop.
-    let p = c.args.pages.now in
-    let hint = page_of c.args.addr in
-    looks_hinted c.highest_fit.new.hand c.args.addr c.args.len c.args.prot c.args.flags c.window_of-window.result c.page_count-count.result at
-    c.highest_fit.result c.requires.hint c.window_of-window.ensures.window c.page_count-count.ensures
-    (looks_first g.P.Pages p c.args.hand.now c.fits_at.new.hand (g.P.Pages.reach p c.args.hand.now hint (hint + c.page_count-count.result))
-    c.requires.may c.fits_at.ensures.looked c.fits_at.ensures.looks)
-    c.highest_fit.ensures.fit c.highest_fit.ensures.looks stop
+returns-in-None-clause-looks g c = down g (goal.at.returns-in-None-clause-looks g c).After-highest_fit

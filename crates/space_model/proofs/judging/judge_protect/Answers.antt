@@ -2,10 +2,8 @@ use Rattle.space_model.proofs.judging.judge_protect.Goals as goal
 
 -- two looks are a look
 pub returns-in-Some-lowest-clause-looked : goal.returns-in-Some-lowest-clause-looked
-returns-in-Some-lowest-clause-looked g c =
-    g.P.Pages.looks_on c.args.pages.now c.args.hand.now c.lowest.new.hand c.lowest-2.new.hand c.lowest.ensures.looked c.lowest-2.ensures.looked
+returns-in-Some-lowest-clause-looked g c = g.P.Pages.looks_on _ _ _ _ c.lowest.ensures.looked c.lowest-2.ensures.looked
 
 -- also where nothing bars the Protect
 pub returns-in-None-clause-looked : goal.returns-in-None-clause-looked
-returns-in-None-clause-looked g c =
-    g.P.Pages.looks_on c.args.pages.now c.args.hand.now c.lowest.new.hand c.lowest-2.new.hand c.lowest.ensures.looked c.lowest-2.ensures.looked
+returns-in-None-clause-looked g c = g.P.Pages.looks_on _ _ _ _ c.lowest.ensures.looked c.lowest-2.ensures.looked

@@ -6,125 +6,84 @@ use Rattle.page_types.specs.declared.calls.Kind.{Kind}
 use Rattle.page_types.specs.declared.calls.Call.TheVariants.{Remap}
 use Rattle.page_types.specs.Pages.{page_of, page_count, end_page}
 use Rattle.space_model.specs.Answers.{bars}
-use Rattle.space_model.specs.declared.sorts.Sort.TheVariants.{Unlike}
-use Rattle.space_model.specs.Sorts.{IsClear, IsLowest}
+use Rattle.space_model.specs.Sorts.{IsClear}
 use Rattle.space_model.specs.Looking.{MayStop, longer_looks}
-use Rattle.space_model.proofs.Looks.{looks_first, looks_then, looks_on}
+use Rattle.space_model.proofs.Looks.{sees, sees_on, looks_first, looks_then, looks_on}
 use Rattle.space_model.proofs.Remapping.{fewer_judged, remap_clear, sealed_refuses}
 use Rattle.space_model.proofs.moving.judge_remap.Goals as goal
 
 -- the kind and the first bar: two looks are a look
 pub returns-in-Some-clause-looked : goal.returns-in-Some-clause-looked
-returns-in-Some-clause-looked g c =
-    g.P.Pages.looks_on c.args.pages.now c.args.hand.now c.kind_of-kind.new.hand c.lowest.new.hand c.kind_of-kind.ensures.looked
-    c.lowest.ensures.looked
+returns-in-Some-clause-looked g c = g.P.Pages.looks_on _ _ _ _ c.kind_of-kind.ensures.looked c.lowest.ensures.looked
 
 -- a sealed page of pages of one kind refuses the Remap
 pub returns-in-Some-lowest-clause-judged : goal.returns-in-Some-lowest-clause-judged
 returns-in-Some-lowest-clause-judged g c =
-    let p = c.args.pages.now in
-    let one = g.P.Pages.same_kinds p c.args.hand.now c.kind_of-kind.new.hand c.requires.may c.kind_of-kind.ensures.looked in
-    let two = g.P.Pages.same_kinds p c.kind_of-kind.new.hand c.lowest.new.hand one.0 c.lowest.ensures.looked in
-    sealed_refuses (g.P.Pages.kinds p c.args.hand.now) (g.P.Pages.kinds p c.kind_of-kind.new.hand) (g.P.Pages.kinds p c.lowest.new.hand)
-    c.args.addr c.args.old_len c.args.new_len c.args.may_move c.args.hint c.end_page-end.result c.in-Some-lowest.page
-    c.kind_of-kind.result one.1 (two.1 ∙ one.1) c.kind_of-kind.ensures.kind c.end_page-end.ensures c.in_default.ensures.lowest
-    c.in-Some-lowest.ensures.lowest
+    let one = sees g.P.Pages c.requires.may c.kind_of-kind.ensures.looked in
+    sealed_refuses (g.P.Pages.kinds c.args.pages.now c.args.hand.now) c.args.addr c.args.old_len c.args.new_len c.args.may_move c.args.hint
+    one.same (sees_on one c.lowest.ensures.looked).same c.kind_of-kind.ensures.kind c.end_page-end.ensures
+    c.in_default.ensures.lowest c.in-Some-lowest.ensures.lowest
 
 -- after three looks
 pub returns-in-Some-lowest-clause-looked : goal.returns-in-Some-lowest-clause-looked
 returns-in-Some-lowest-clause-looked g c =
-    let p = c.args.pages.now in
-    g.P.Pages.looks_on p c.args.hand.now c.kind_of-kind.new.hand c.lowest-2.new.hand c.kind_of-kind.ensures.looked
-    (g.P.Pages.looks_on p c.kind_of-kind.new.hand c.lowest.new.hand c.lowest-2.new.hand c.lowest.ensures.looked c.lowest-2.ensures.looked)
+    (sees_on (sees_on (sees g.P.Pages c.requires.may c.kind_of-kind.ensures.looked) c.lowest.ensures.looked) c.lowest-2.ensures.looked).looked
 
 -- pages that nothing bars become fewer
 pub returns-then-count-page_count-clause-judged : goal.returns-then-count-page_count-clause-judged
 returns-then-count-page_count-clause-judged g c =
-    let p = c.args.pages.now in
-    let kinds = g.P.Pages.kinds p c.args.hand.now in
-    let one = g.P.Pages.same_kinds p c.args.hand.now c.kind_of-kind.new.hand c.requires.may c.kind_of-kind.ensures.looked in
-    let two = g.P.Pages.same_kinds p c.kind_of-kind.new.hand c.lowest.new.hand one.0 c.lowest.ensures.looked in
+    let kinds = g.P.Pages.kinds c.args.pages.now c.args.hand.now in let one = sees g.P.Pages c.requires.may c.kind_of-kind.ensures.looked in
     let clear =
-    remap_clear kinds (g.P.Pages.kinds p c.kind_of-kind.new.hand) (g.P.Pages.kinds p c.lowest.new.hand) c.args.addr c.args.old_len
-    c.args.new_len c.args.may_move c.args.hint c.end_page-end.result c.kind_of-kind.result one.1 (two.1 ∙ one.1)
+    remap_clear kinds c.args.addr c.args.old_len c.args.new_len c.args.may_move c.args.hint one.same (sees_on one c.lowest.ensures.looked).same
     c.kind_of-kind.ensures.kind c.end_page-end.ensures c.in_default.ensures.lowest c.in_default-lowest.ensures.lowest in
-    fewer_judged kinds c.args.addr c.args.old_len c.args.new_len c.args.may_move c.args.hint c.end_page-end.result
-    c.page_count-count.result c.changed.result c.requires.undecided clear
+    fewer_judged kinds c.args.addr c.args.old_len c.args.new_len c.args.may_move c.args.hint c.requires.undecided clear
     (omega (arith, c.if-count-page_count.true, c.page_count.ensures)) c.end_page-end.ensures c.page_count-count.ensures c.changed.ensures
 
 -- after three looks as well
 pub returns-then-count-page_count-clause-looked : goal.returns-then-count-page_count-clause-looked
 returns-then-count-page_count-clause-looked g c =
-    let p = c.args.pages.now in
-    g.P.Pages.looks_on p c.args.hand.now c.kind_of-kind.new.hand c.lowest-2.new.hand c.kind_of-kind.ensures.looked
-    (g.P.Pages.looks_on p c.kind_of-kind.new.hand c.lowest.new.hand c.lowest-2.new.hand c.lowest.ensures.looked c.lowest-2.ensures.looked)
+    (sees_on (sees_on (sees g.P.Pages c.requires.may c.kind_of-kind.ensures.looked) c.lowest.ensures.looked) c.lowest-2.ensures.looked).looked
 
 -- pages that are to be more may be looked at
 pub judge_longer-requires-clause-may : goal.judge_longer-requires-clause-may
 judge_longer-requires-clause-may g c =
-    let p = c.args.pages.now in
-    let one = g.P.Pages.same_kinds p c.args.hand.now c.kind_of-kind.new.hand c.requires.may c.kind_of-kind.ensures.looked in
-    let two = g.P.Pages.same_kinds p c.kind_of-kind.new.hand c.lowest.new.hand one.0 c.lowest.ensures.looked in
-    (g.P.Pages.same_kinds p c.lowest.new.hand c.lowest-2.new.hand two.0 c.lowest-2.ensures.looked).0
+    (sees_on (sees_on (sees g.P.Pages c.requires.may c.kind_of-kind.ensures.looked) c.lowest.ensures.looked) c.lowest-2.ensures.looked).may
 
 -- the first of them has the kind that was found
 pub judge_longer-requires-clause-kind : goal.judge_longer-requires-clause-kind
 judge_longer-requires-clause-kind g c =
-    let p = c.args.pages.now in
-    let one = g.P.Pages.same_kinds p c.args.hand.now c.kind_of-kind.new.hand c.requires.may c.kind_of-kind.ensures.looked in
-    let two = g.P.Pages.same_kinds p c.kind_of-kind.new.hand c.lowest.new.hand one.0 c.lowest.ensures.looked in
-    let three = g.P.Pages.same_kinds p c.lowest.new.hand c.lowest-2.new.hand two.0 c.lowest-2.ensures.looked in
-    c.kind_of-kind.ensures.kind ∙ ap (λ (k : ℕ → Option Kind). k (page_of c.args.addr)) (sym (three.1 ∙ two.1 ∙ one.1))
+    let two = sees_on (sees g.P.Pages c.requires.may c.kind_of-kind.ensures.looked) c.lowest.ensures.looked in
+    c.kind_of-kind.ensures.kind ∙ ap (λ (k : ℕ → Option Kind). k (page_of c.args.addr)) (sym (sees_on two c.lowest-2.ensures.looked).same)
 
 -- and nothing bars them
 pub judge_longer-requires-clause-clear : goal.judge_longer-requires-clause-clear
 judge_longer-requires-clause-clear g c =
-    let p = c.args.pages.now in
-    let kinds = g.P.Pages.kinds p c.args.hand.now in
-    let one = g.P.Pages.same_kinds p c.args.hand.now c.kind_of-kind.new.hand c.requires.may c.kind_of-kind.ensures.looked in
-    let two = g.P.Pages.same_kinds p c.kind_of-kind.new.hand c.lowest.new.hand one.0 c.lowest.ensures.looked in
-    let three = g.P.Pages.same_kinds p c.lowest.new.hand c.lowest-2.new.hand two.0 c.lowest-2.ensures.looked in
-    subst (λ (k : ℕ → Option Kind).
-    IsClear k (bars k (Remap c.args.addr c.args.old_len c.args.new_len c.args.may_move c.args.hint))) (sym (three.1 ∙ two.1 ∙ one.1))
-    (remap_clear kinds (g.P.Pages.kinds p c.kind_of-kind.new.hand) (g.P.Pages.kinds p c.lowest.new.hand) c.args.addr c.args.old_len
-    c.args.new_len c.args.may_move c.args.hint c.end_page-end.result c.kind_of-kind.result one.1 (two.1 ∙ one.1)
-    c.kind_of-kind.ensures.kind c.end_page-end.ensures c.in_default.ensures.lowest c.in_default-lowest.ensures.lowest)
+    let one = sees g.P.Pages c.requires.may c.kind_of-kind.ensures.looked in let two = sees_on one c.lowest.ensures.looked in
+    subst (λ (k : ℕ → Option Kind). IsClear k (bars k (Remap c.args.addr c.args.old_len c.args.new_len c.args.may_move c.args.hint)))
+    (sym (sees_on two c.lowest-2.ensures.looked).same)
+    (remap_clear (g.P.Pages.kinds c.args.pages.now c.args.hand.now) c.args.addr c.args.old_len c.args.new_len c.args.may_move c.args.hint
+    one.same two.same c.kind_of-kind.ensures.kind c.end_page-end.ensures c.in_default.ensures.lowest c.in_default-lowest.ensures.lowest)
 
 -- four looks are a look
 pub returns-clause-looked : goal.returns-clause-looked
 returns-clause-looked g c =
-    let p = c.args.pages.now in
-    g.P.Pages.looks_on p c.args.hand.now c.kind_of-kind.new.hand c.judge_longer.new.hand c.kind_of-kind.ensures.looked
-    (g.P.Pages.looks_on p c.kind_of-kind.new.hand c.lowest.new.hand c.judge_longer.new.hand c.lowest.ensures.looked
-    (g.P.Pages.looks_on p c.lowest.new.hand c.lowest-2.new.hand c.judge_longer.new.hand c.lowest-2.ensures.looked
-    c.judge_longer.ensures.looked))
+    let three = sees_on (sees_on (sees g.P.Pages c.requires.may c.kind_of-kind.ensures.looked) c.lowest.ensures.looked) c.lowest-2.ensures.looked in
+    (sees_on three c.judge_longer.ensures.looked).looked
 
 -- a page that isn't of the first one's kind refuses the Remap
 pub returns-in-Some-clause-judged : goal.returns-in-Some-clause-judged
 returns-in-Some-clause-judged g c =
-    let p = c.args.pages.now in
-    let one = g.P.Pages.same_kinds p c.args.hand.now c.kind_of-kind.new.hand c.requires.may c.kind_of-kind.ensures.looked in
-    inl (inl (
-      c.in-Some.page,
-      subst (λ (z : (ℕ → Option Kind) × Option Kind × ℕ). IsLowest z.0 (Unlike z.1) (page_of c.args.addr) z.2 c.in-Some.page)
-          (λ i. (one.1 i, c.kind_of-kind.ensures.kind i, c.end_page-end.ensures i)) c.in-Some.ensures.lowest,
-      refl,
-    ))
+    let one = sees g.P.Pages c.requires.may c.kind_of-kind.ensures.looked in
+    inl (inl (c.in-Some.page, rw (one.same, c.kind_of-kind.ensures.kind, c.end_page-end.ensures) at c.in-Some.ensures.lowest, refl))
 
 -- after two looks the hand may look again
 pub lowest-requires-2-clause-may : goal.lowest-requires-2-clause-may
-lowest-requires-2-clause-may g c =
-    let p = c.args.pages.now in
-    let one = g.P.Pages.same_kinds p c.args.hand.now c.kind_of-kind.new.hand c.requires.may c.kind_of-kind.ensures.looked in
-    (g.P.Pages.same_kinds p c.kind_of-kind.new.hand c.lowest.new.hand one.0 c.lowest.ensures.looked).0
+lowest-requires-2-clause-may g c = (sees_on (sees g.P.Pages c.requires.may c.kind_of-kind.ensures.looked) c.lowest.ensures.looked).may
 
 -- the looks are those for the kind, two searches over the old pages, and those for pages that are to be more
 pub returns-clause-looks : goal.returns-clause-looks
 returns-clause-looks g c = λ at stop.
-    let p = c.args.pages.now in
-    let hand = c.args.hand.now in
-    let a = page_of c.args.addr in
-    let reach = g.P.Pages.reach p hand in
+    let p = c.args.pages.now in let hand = c.args.hand.now in let a = page_of c.args.addr in let reach = g.P.Pages.reach p hand in
     let end = c.end_page-end.result in
     let one = looks_first g.P.Pages p hand c.kind_of-kind.new.hand (reach a a) c.requires.may c.kind_of-kind.ensures.looked c.kind_of-kind.ensures.looks in
     let two = looks_on c.lowest.new.hand a end one c.lowest.ensures.looked c.lowest.ensures.looks in
@@ -138,4 +97,4 @@ returns-clause-looks g c = λ at stop.
     g.P.Pages.looks p hand + (reach a a + reach a z.0 + reach a z.0 + (if z.1 then longer reach else 0)))
     (λ i. (c.end_page-end.ensures i, sym (lt-ltb (page_count c.args.old_len) (page_count c.args.new_len) more) i))
     (looks_then c.judge_longer.new.hand longer three
-    (c.judge_longer.ensures.looks at (subst (λ (k : ℕ → Option Kind). MayStop k LOW (page_count c.args.new_len) at) (sym three.same) stop)))
+    (c.judge_longer.ensures.looks at (subst (λ (k : ℕ → Option Kind). MayStop k LOW (page_count c.args.new_len) at) (sym three.seen.same) stop)))

@@ -5,7 +5,7 @@ use Rattle.page_types.specs.declared.calls.Kind.{Kind}
 use Rattle.page_types.specs.Pages.{page_of, is_aligned}
 use Rattle.space_model.specs.Places.{FitsAt, IsHighestFit, HasRoom}
 use Rattle.space_model.specs.Looking.{hint_looks}
-use Rattle.space_model.proofs.Looks.{looks_first, looks_on, looks_down_then}
+use Rattle.space_model.proofs.Looks.{sees, sees_on, looks_first, looks_on, looks_down_then}
 use Rattle.space_model.proofs.Remapping.{at_hint, past_hint, found_last}
 use Rattle.space_model.proofs.moving.remap_place.Goals as goal
 
@@ -19,67 +19,47 @@ returns-then-goes_to_hint-clause-place g c =
 -- or stay, where those behind them are free
 pub returns-then-has_room-clause-place : goal.returns-then-has_room-clause-place
 returns-then-has_room-clause-place g c =
-    let p = c.args.pages.now in
-    let kinds = g.P.Pages.kinds p c.args.hand.now in
-    let same = (g.P.Pages.same_kinds p c.args.hand.now c.goes_to_hint.new.hand c.requires.may c.goes_to_hint.ensures.looked).1 in
-    past_hint kinds c.args.count c.args.lo c.args.end
+    let same = (sees g.P.Pages c.requires.may c.goes_to_hint.ensures.looked).same in
+    past_hint (g.P.Pages.kinds c.args.pages.now c.args.hand.now) c.args.count c.args.lo c.args.end
     (c.args.may_move && not (c.args.hint == 0) && is_aligned c.args.hint) c.args.may_move (page_of c.args.hint) c.args.lo
     (λ may fit. true≢false (sym (c.goes_to_hint.ensures.fits.1 (may, fit)) ∙ c.if-goes_to_hint.false))
-    (inl (
-      subst (λ (k : ℕ → Option Kind). HasRoom k c.args.end (c.args.lo + c.args.count)) same
-          (c.has_room.ensures.room.0 c.if-has_room.true),
-      refl,
-    ))
+    (inl (subst (λ (k : ℕ → Option Kind). HasRoom k c.args.end (c.args.lo + c.args.count)) same (c.has_room.ensures.room.0 c.if-has_room.true), refl))
 
 -- or go as high as they fit, if they may move
 pub returns-then-may_move-clause-place : goal.returns-then-may_move-clause-place
 returns-then-may_move-clause-place g c =
-    let p = c.args.pages.now in
-    let one = g.P.Pages.same_kinds p c.args.hand.now c.goes_to_hint.new.hand c.requires.may c.goes_to_hint.ensures.looked in
-    let two = g.P.Pages.same_kinds p c.goes_to_hint.new.hand c.has_room.new.hand one.0 c.has_room.ensures.looked in
-    found_last (g.P.Pages.kinds p c.args.hand.now) c.args.count c.args.lo c.args.end c.args.may_move c.args.hint c.highest_fit.result
+    let one = sees g.P.Pages c.requires.may c.goes_to_hint.ensures.looked in
+    found_last (g.P.Pages.kinds c.args.pages.now c.args.hand.now) c.args.count c.args.lo c.args.end c.args.may_move c.args.hint c.highest_fit.result
     c.if-may_move.true
     (λ may fit. true≢false (sym (c.goes_to_hint.ensures.fits.1 (may, fit)) ∙ c.if-goes_to_hint.false))
     (λ room. true≢false
-    (sym (c.has_room.ensures.room.1 (subst (λ (k : ℕ → Option Kind). HasRoom k c.args.end (c.args.lo + c.args.count)) (sym one.1) room)) ∙
+    (sym (c.has_room.ensures.room.1 (subst (λ (k : ℕ → Option Kind). HasRoom k c.args.end (c.args.lo + c.args.count)) (sym one.same) room)) ∙
     c.if-has_room.false))
     (subst (λ (k : ℕ → Option Kind).
     MatchOption c.highest_fit.result ((start : ℕ) → ¬ FitsAt k LOW c.args.count start) (IsHighestFit k LOW c.args.count))
-    (two.1 ∙ one.1) c.highest_fit.ensures.fit)
+    (sees_on one c.has_room.ensures.looked).same c.highest_fit.ensures.fit)
 
 -- after as many looks as were made
 pub returns-then-may_move-clause-looked : goal.returns-then-may_move-clause-looked
 returns-then-may_move-clause-looked g c =
-    let p = c.args.pages.now in
-    g.P.Pages.looks_on p c.args.hand.now c.goes_to_hint.new.hand c.highest_fit.new.hand c.goes_to_hint.ensures.looked
-    (g.P.Pages.looks_on p c.goes_to_hint.new.hand c.has_room.new.hand c.highest_fit.new.hand c.has_room.ensures.looked
-    c.highest_fit.ensures.looked)
+    (sees_on (sees_on (sees g.P.Pages c.requires.may c.goes_to_hint.ensures.looked) c.has_room.ensures.looked) c.highest_fit.ensures.looked).looked
 
 -- two looks are a look, where the pages stay
 pub returns-then-has_room-clause-looked : goal.returns-then-has_room-clause-looked
-returns-then-has_room-clause-looked g c =
-    g.P.Pages.looks_on c.args.pages.now c.args.hand.now c.goes_to_hint.new.hand c.has_room.new.hand c.goes_to_hint.ensures.looked
-    c.has_room.ensures.looked
+returns-then-has_room-clause-looked g c = g.P.Pages.looks_on _ _ _ _ c.goes_to_hint.ensures.looked c.has_room.ensures.looked
 
 -- and where there is no place
 pub returns-clause-looked : goal.returns-clause-looked
-returns-clause-looked g c =
-    g.P.Pages.looks_on c.args.pages.now c.args.hand.now c.goes_to_hint.new.hand c.has_room.new.hand c.goes_to_hint.ensures.looked
-    c.has_room.ensures.looked
+returns-clause-looked g c = g.P.Pages.looks_on _ _ _ _ c.goes_to_hint.ensures.looked c.has_room.ensures.looked
 
 -- after two looks the hand may look again
 pub highest_fit-requires-clause-may : goal.highest_fit-requires-clause-may
-highest_fit-requires-clause-may g c =
-    let p = c.args.pages.now in
-    let one = g.P.Pages.same_kinds p c.args.hand.now c.goes_to_hint.new.hand c.requires.may c.goes_to_hint.ensures.looked in
-    (g.P.Pages.same_kinds p c.goes_to_hint.new.hand c.has_room.new.hand one.0 c.has_room.ensures.looked).0
+highest_fit-requires-clause-may g c = (sees_on (sees g.P.Pages c.requires.may c.goes_to_hint.ensures.looked) c.has_room.ensures.looked).may
 
 -- the looks are those at the hint, those behind the pages, and those from the low window's end down
 pub returns-then-may_move-clause-looks : goal.returns-then-may_move-clause-looks
 returns-then-may_move-clause-looks g c = λ at stop.
-    let p = c.args.pages.now in
-    let hand = c.args.hand.now in
-    let reach = g.P.Pages.reach p hand in
+    let p = c.args.pages.now in let hand = c.args.hand.now in let reach = g.P.Pages.reach p hand in
     let at_hint = hint_looks reach c.args.count c.args.may_move (page_of c.args.hint) in
     let one = looks_first g.P.Pages p hand c.goes_to_hint.new.hand at_hint c.requires.may c.goes_to_hint.ensures.looked c.goes_to_hint.ensures.looks in
     let two = looks_on c.has_room.new.hand c.args.end (c.args.lo + c.args.count) one c.has_room.ensures.looked c.has_room.ensures.looks in

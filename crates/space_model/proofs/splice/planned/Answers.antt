@@ -21,10 +21,7 @@ recounted-rows-requires-clause-counted c =
 -- the rows of the new list are few enough to count
 pub recounted-rows-requires-clause-fits : goal.recounted-rows-requires-clause-fits
 recounted-rows-requires-clause-fits c =
-    let A = c.args.areas.now in
-    let front = c.cut_by_end.result.0.now in
-    let back = c.cut_by_start.result.1.now in
-    let N = c.changed.new.list.items in
+    let A = c.args.areas.now in let front = c.cut_by_end.result.0.now in let back = c.cut_by_start.result.1.now in let N = c.changed.new.list.items in
     let change = c.args.change in
     subst (λ X. row_count (front ++ (X ++ back)) < 2 ^ 32) (sym c.as_slice.ensures.value)
     (rows-fit A (front ++ (N ++ back)) change c.requires.in_order c.requires.few c.requires.rising
@@ -35,9 +32,7 @@ recounted-rows-requires-clause-fits c =
 -- the new areas between the cuts, with the rows counted, are a plan of the change
 pub returns : goal.returns
 returns c =
-    let front = c.cut_by_end.result.0.now in
-    let back = c.cut_by_start.result.1.now in
-    let change = c.args.change in
+    let front = c.cut_by_end.result.0.now in let back = c.cut_by_start.result.1.now in let change = c.args.change in
     plan_of c.args.areas.now front c.cut_by_end.result.1.now c.cut_by_start.result.0.now back c.changed.new.list.items
     change.first (second_of change.second) _ _ _ _ _ c.saturating_sub.ensures c.end.ensures c.requires.in_order
     c.requires.rising c.cut_by_end.ensures c.cut_by_start.ensures c.in_ok-changed.ensures refl refl

@@ -5,8 +5,8 @@ use Rattle.page_types.specs.Named.{IsNamedReply}
 use Rattle.space_model.specs.Areas.{HasKinds, kind_at, row_count}
 use Rattle.space_model.specs.Effect.{patched}
 use Rattle.space_model.specs.Judges.{patches_of}
-use Rattle.space_model.specs.Answers.{full_reply}
 use Rattle.space_model.specs.Judges.Makes.{within, beyond}
+use Rattle.space_model.specs.Answers.{full_reply}
 use Rattle.space_model.proofs.Stepping.{length-fits, full-named}
 use Rattle.space_model.proofs.Splicing.{plan_for}
 use Rattle.space_model.proofs.NamedKinds.{named-after}
@@ -27,8 +27,7 @@ returns-then-rows-gt-ROWS-clause-named c =
 -- the new list is an area list with named bits alone, few areas, and as many rows as were counted
 pub invariant_of-self-2 : goal.invariant_of-self-2
 invariant_of-self-2 c =
-    let A = c.self.inside.areas.items in
-    let B = c.replace.new.list.items in
+    let A = c.self.inside.areas.items in let B = c.replace.new.list.items in
     let plan = plan_for _ A _ _ _ _ _ c.as_slice-areas.ensures.value c.in_ok-plan.ensures in
     let list : HasKinds (patched (patches_of c.args.change) (kind_at A)) B =
     subst (HasKinds (patched (patches_of c.args.change) (kind_at A))) (sym c.in_ok-replace.ensures.items) plan.list in
@@ -42,8 +41,7 @@ invariant_of-self-2 c =
 -- the change is made, with the new list
 pub returns-clause-made : goal.returns-clause-made
 returns-clause-made c =
-    let A = c.self.inside.areas.items in
-    let B = c.replace.new.list.items in
+    let A = c.self.inside.areas.items in let B = c.replace.new.list.items in
     let plan = plan_for _ A _ _ _ _ _ c.as_slice-areas.ensures.value c.in_ok-plan.ensures in
     let list : HasKinds (patched (patches_of c.args.change) (kind_at A)) B =
     subst (HasKinds (patched (patches_of c.args.change) (kind_at A))) (sym c.in_ok-replace.ensures.items) plan.list in

@@ -1,9 +1,9 @@
 use Rattle.std.proofs.Common.{◌^◌, ◌<◌, ◌∙◌, arith, sym, ap, subst}
 use Rattle.space_model.specs.Areas.{kind_at, row_count, HasKinds}
 use Rattle.space_model.proofs.Joining.{pieces-kinds}
-use Rattle.page_types.specs.Named.{IsNamedOption}
 use Rattle.space_model.proofs.NamedKinds.{named_at, named_all}
 use Rattle.space_model.proofs.Stepping.{row_count-le}
+use Rattle.page_types.specs.Named.{IsNamedOption}
 use Rattle.space_model.proofs.space.PlainSpace.of_pieces.Goals as goal
 
 -- the rows are few enough to count
