@@ -36,6 +36,5 @@ at_own worker (x ∷ xs) zero e at is = (
 )
 at_own worker (x ∷ xs) (suc i) e at is =
     let r = at_own worker xs i e at is in
-    elim (eqb x.worker worker)
-    as (λ b. (j : ℕ) × (get_elem? (cond b (x ∷ entries_of worker xs) (entries_of worker xs)) j ≡ some e))
+    elim (eqb x.worker worker) as (λ b. (j : ℕ) × (get_elem? (cond b (x ∷ entries_of worker xs) (entries_of worker xs)) j ≡ some e))
     [ true ↦ (suc r.0, r.1) | false ↦ r ]

@@ -146,8 +146,7 @@ layout_of grants words passes worker place value here AtRest after at is may = a
 layout_of grants words passes worker place value here (Planned plan) after at is may = (plan, of_whole grants words passes worker here plan is)
 layout_of grants words passes worker place value here (OneRow c) after at is may =
     let e : place ≡ 3 + c.index = may.0 in
-    let slot = may.2.there in
-    absurd (⊎_elim (λ two. omega arith) (λ far. let from = far.0 in omega arith) at)
+    absurd (⊎_elim (λ two. omega arith) (λ far. omega arith) at)
 
 -- what a caller stores that has a plan to write
 pub all_new : StoresAreNew
@@ -219,8 +218,7 @@ raise_keeps grants words passes worker place note here after differ (raise plan 
 
 -- a step of a caller at a moment, from the pass that it has there
 step_keeps : (grants : Grants) (words : List ℕ) (passes : List Pass) (worker : ℕ) (step : ClientStep) (note : Note) (after : Pass)
-    → IsNoDraw words step → Allowed grants words passes worker step note after
-    → (here : Here grants words passes worker) × Counts here.pass after
+    → IsNoDraw words step → Allowed grants words passes worker step note after → (here : Here grants words passes worker) × Counts here.pass after
 step_keeps grants words passes worker (loads i) note after other may = (may.0, load_keeps _ _ _ words may.0.history i may.0.pass after may.1)
 step_keeps grants words passes worker (stores i value) note after other may = (may.0, write_keeps words may.0.pass.pending i value may.0.pass after may.1)
 step_keeps grants words passes worker (adds i by) note after other may = (may.1, raise_keeps grants words passes worker i note may.1 after other may.2)

@@ -12,14 +12,14 @@ use Rattle.row_blocks.proofs.Slots.{rows_are, kth_slot, slot_below}
 module _ {nb : ℕ} {one : List ℕ} (two : List ℕ) (laid : IsLaidOut nb one) (wide : 129 * nb + 1 ≤ length two)
     (same : (t : ℕ) → t < 129 * nb + 1 → slice_index two t ≡ slice_index one t) where
   count : blocks_of nb two ≡ blocks_of nb one
-  count = let s = laid.some in let p = laid.spare in same (128 * nb) (omega arith)
+  count = same (128 * nb) (omega arith)
 
   told : (i : ℕ) → i < nb → slice_index two (128 * nb + 1 + i) ≡ slice_index one (128 * nb + 1 + i)
   told i lt = same (128 * nb + 1 + i) (omega arith)
 
   -- are laid out alike
   pub also_laid : IsLaidOut nb two
-  also_laid = let some_block = laid.some in let spare = laid.spare in let c = count in record {
+  also_laid = let c = count in record {
     wide = wide;
     some = omega arith;
     spare = omega arith;
@@ -29,9 +29,7 @@ module _ {nb : ℕ} {one : List ℕ} (two : List ℕ) (laid : IsLaidOut nb one) 
 
   slots_alike : slots_all nb two ≡ slots_all nb one
   slots_alike =
-      let spare = laid.spare in
-      ap (pieces (slots_by nb two)) count
-      ∙ same_pieces (slots_by nb one) (slots_by nb two) (blocks_of nb one) (λ k lt.
+      ap (pieces (slots_by nb two)) count ∙ same_pieces (slots_by nb one) (slots_by nb two) (blocks_of nb one) (λ k lt.
       let e = told k (omega arith) in
       ap (λ (x : ℕ). k ∷ run (nb + 127 * (x / 128)) (x % 128)) e)
 
@@ -46,8 +44,7 @@ module _ {nb : ℕ} {one : List ℕ} (two : List ℕ) (laid : IsLaidOut nb one) 
       let less : k < length slots = omega arith in
       let at = kth_slot nb one k less in
       let low = slot_below nb one at.i at.j (slice_index slots k) laid at.is in
-      get_or-map (slice_index two) slots k 0 0 less
-      ∙ (same (slice_index slots k) (omega arith) ∙ sym (get_or-map (slice_index one) slots k 0 0 less))) in
+      get_or-map (slice_index two) slots k 0 0 less ∙ (same (slice_index slots k) (omega arith) ∙ sym (get_or-map (slice_index one) slots k 0 0 less))) in
       sym (rows_are nb two also_laid) ∙ (ap (map (slice_index two)) slots_alike ∙ (words ∙ rows_are nb one laid))
 
   pub also_free : blocks_of nb one < nb → blocks_of nb two < nb

@@ -30,29 +30,24 @@ kind_by a b true e not_not = same_option-true a b e
 kind_by a b false e not_not = absurd (not_not (λ same. true≢false (sym (same_option-same a) ∙ (ap (same_option a) same ∙ e))))
 
 -- no page of a span that is held as a writer is held by another caller
-pub apart_pages : (grants : Grants) (worker other : ℕ) (span : Span)
-    → IsExclusive grants → (other ≡ worker → ⊥) → Holds grants worker (alone span)
-    → (held : Option Held) → get_elem? grants other ≡ some held
-    → (page : ℕ) → IsHeldPage held page → IsIn span page → ⊥
+pub apart_pages : (grants : Grants) (worker other : ℕ) (span : Span) → IsExclusive grants → (other ≡ worker → ⊥) → Holds grants worker (alone span)
+    → (held : Option Held) → get_elem? grants other ≡ some held → (page : ℕ) → IsHeldPage held page → IsIn span page → ⊥
 apart_pages grants worker other span exclusive differ holds held at page h i =
-    let a = h.2 in let b = h.3 in let l = i.0 in let r = i.1 in
     exclusive worker other (alone span) h.0 (λ e. differ (sym e)) holds (at ∙ ap some h.1) ((omega arith, omega arith), inl refl)
 
 module _ (held : Option Held) (words : List ℕ) (c : Change) (m : MayReplace words c) (room : 36 + 129 * nb_in words ≤ length words)
-    (below : (page : ℕ) → IsHeldPage held page → page < LIMIT)
-    (apart : (page : ℕ) → IsHeldPage held page → IsIn c.span page → ⊥) where
+    (below : (page : ℕ) → IsHeldPage held page → page < LIMIT) (apart : (page : ℕ) → IsHeldPage held page → IsIn c.span page → ⊥) where
   here : slice_index (set words (3 + c.index) (new_word c)) (3 + c.index) ≡ new_word c
-  here = let slot = m.there in get_or-set_same words (3 + c.index) (new_word c) 0 (omega arith)
+  here = get_or-set_same words (3 + c.index) (new_word c) 0 (omega arith)
 
   blocks : nb_in (set words (3 + c.index) (new_word c)) ≡ nb_in words
-  blocks = let slot = m.there in nb_stays words (3 + c.index) (new_word c) (omega arith)
+  blocks = nb_stays words (3 + c.index) (new_word c) (omega arith)
 
   else : (i : ℕ) → (i ≡ c.index → ⊥) → slice_index (set words (3 + c.index) (new_word c)) (3 + i) ≡ slice_index words (3 + i)
   else i differ = get_or-set_other words (3 + c.index) (3 + i) (new_word c) 0 (λ e. differ (omega arith))
 
   slots : slots_in (set words (3 + c.index) (new_word c)) ≡ slots_in words
-  slots = let slot = m.there in
-      ap slots_of (layout_stays words (3 + c.index) (new_word c) (λ e. omega arith) (omega arith) (omega arith))
+  slots = ap slots_of (layout_stays words (3 + c.index) (new_word c) (λ e. omega arith) (omega arith) (omega arith))
 
   at_index : (i : ℕ) → i ≡ c.index → slice_index (set words (3 + c.index) (new_word c)) (3 + i) ≡ new_word c
   at_index i same = ap (λ n. slice_index (set words (3 + c.index) (new_word c)) (3 + n)) same ∙ here
@@ -72,15 +67,12 @@ module _ (held : Option Held) (words : List ℕ) (c : Change) (m : MayReplace wo
 
   old_start : (i page : ℕ) → IsHeldPage held page → row_start (slice_index (set words (3 + c.index) (new_word c)) (3 + i)) ≤ page
       → row_start (slice_index words (3 + i)) ≤ page
-  old_start i page h le = dite (ℕ_discrete i c.index)
-      (λ same. subst (λ (n : ℕ). row_start (slice_index words (3 + n)) ≤ page) (sym same)
-      (before_side page h (subst (λ (w : ℕ). row_start w ≤ page) (at_index i same) le)))
-      (λ differ. subst (λ (w : ℕ). row_start w ≤ page) (else i differ) le)
+  old_start i page h le = dite (ℕ_discrete i c.index) (λ same. subst (λ (n : ℕ). row_start (slice_index words (3 + n)) ≤ page) (sym same)
+      (before_side page h (subst (λ (w : ℕ). row_start w ≤ page) (at_index i same) le))) (λ differ. subst (λ (w : ℕ). row_start w ≤ page) (else i differ) le)
 
   new_start : (i page : ℕ) → IsHeldPage held page → row_start (slice_index words (3 + i)) ≤ page
       → row_start (slice_index (set words (3 + c.index) (new_word c)) (3 + i)) ≤ page
-  new_start i page h le = dite (ℕ_discrete i c.index)
-      (λ same. subst (λ (w : ℕ). row_start w ≤ page) (sym (at_index i same))
+  new_start i page h le = dite (ℕ_discrete i c.index) (λ same. subst (λ (w : ℕ). row_start w ≤ page) (sym (at_index i same))
       (after_side page h (subst (λ (n : ℕ). row_start (slice_index words (3 + n)) ≤ page) same le)))
       (λ differ. subst (λ (w : ℕ). row_start w ≤ page) (sym (else i differ)) le)
 
@@ -105,28 +97,24 @@ module _ (held : Option Held) (words : List ℕ) (c : Change) (m : MayReplace wo
   stands_on r s = record {
     slot = subst (λ (n : ℕ). r.index < 128 * n) (sym blocks) s.slot;
     side = λ page h. (λ le. new_start r.index page h ((s.side page h).0 le), λ le. (s.side page h).1 (old_start r.index page h le));
-    start = λ page h at. dite (ℕ_discrete r.index c.index)
-        (λ same.
+    start = λ page h at. dite (ℕ_discrete r.index c.index) (λ same.
         let old : row_start (slice_index words (3 + c.index)) ≡ row_start r.word =
         ap (λ n. row_start (slice_index words (3 + n))) (sym same) ∙ s.start page h at in
         let new : row_start (slice_index (set words (3 + c.index) (new_word c)) (3 + r.index)) ≡ row_start (new_word c) =
         ap row_start (at_index r.index same) in
-        dite (ℕ_discrete (row_start (slice_index words (3 + c.index))) (row_start (new_word c)))
-        (λ stays. new ∙ (sym stays ∙ old))
+        dite (ℕ_discrete (row_start (slice_index words (3 + c.index))) (row_start (new_word c))) (λ stays. new ∙ (sym stays ∙ old))
         (λ moves. absurd (apart page h (m.stood moves page (⊎_elim (λ e. inl (e ∙ sym old)) (λ e. inr (e ∙ sym old)) at)))))
         (λ differ. ap row_start (else r.index differ) ∙ s.start page h at);
     kind = λ page h row.
         let row_before = old_row r.index page h row in
-        dite (ℕ_discrete r.index c.index)
-        (λ same. ap row_kind (at_index r.index same)
-        ∙ (kind_same page h (subst (IsRowOf words page) same row_before)
+        dite (ℕ_discrete r.index c.index) (λ same. ap row_kind (at_index r.index same) ∙ (kind_same page h (subst (IsRowOf words page) same row_before)
         ∙ (ap (λ n. row_kind (slice_index words (3 + n))) (sym same) ∙ s.kind page h row_before)))
         (λ differ. ap row_kind (else r.index differ) ∙ s.kind page h row_before);
     word = λ all. absurd (apart c.span.lo (
       everything,
       all,
       omega arith,
-      (let o = c.span.ordered in let f = c.span.in_range in omega arith),
+      (omega arith),
     ) (omega arith, c.span.ordered));
   }
 

@@ -192,14 +192,13 @@ others_part start history words value worker p e differ own = record {
   few = own.few;
   room = room_stays words p.blocks (number_place (nb_in words)) value (omega arith) own.room;
   owed = owed_on start history p.mine p.pending e own.owed;
-  laid = λ l k. layout_beside words (number_place (nb_in words)) value (inr (omega arith)) (let w = own.room.1 in omega arith) ∙ own.laid l k;
+  laid = λ l k. layout_beside words (number_place (nb_in words)) value (inr (omega arith)) (omega arith) ∙ own.laid l k;
   sequence = λ n c. get_or-set_other words (number_place (nb_in words)) 1 value 0 (λ same. omega arith) ∙ own.sequence n c;
 }
 
 own_part : (start : List Areas) (history : List Entry) (state left : List Areas) (words : List ℕ) (value worker : ℕ)
     (p : Pass) (e : Entry) (pending : Pending) (held : Option Held) → e.worker ≡ worker → length p.mine + 1 ≤ p.most
-    → Runs 0 start history state → IsRight state e.call e.reply e.under left → Leaves state e.under pending left
-    → IsPart start history words worker p
+    → Runs 0 start history state → IsRight state e.call e.reply e.under left → Leaves state e.under pending left → IsPart start history words worker p
     → IsPart start (history ++ e ∷ []) (numbered words value) worker (after_draw history e pending held p)
 own_part start history state left words value worker p e AtRest held is few runs right leaves own = record {
   began = own.began;
@@ -218,7 +217,7 @@ own_part start history state left words value worker p e (Planned plan) held is 
   few = let l = length-append p.mine (e ∷ []) in omega arith;
   room = room_stays words p.blocks (number_place (nb_in words)) value (omega arith) own.room;
   owed = last_drawn start history p.mine state left (Planned plan) e runs right leaves;
-  laid = λ l k. layout_beside words (number_place (nb_in words)) value (inr (omega arith)) (let w = own.room.1 in omega arith) ∙ own.laid l k;
+  laid = λ l k. layout_beside words (number_place (nb_in words)) value (inr (omega arith)) (omega arith) ∙ own.laid l k;
   sequence = λ n c. get_or-set_other words (number_place (nb_in words)) 1 value 0 (λ same. omega arith) ∙ own.sequence n c;
 }
 own_part start history state left words value worker p e (OneRow c) held is few runs right leaves own = record {
@@ -228,7 +227,7 @@ own_part start history state left words value worker p e (OneRow c) held is few 
   few = let l = length-append p.mine (e ∷ []) in omega arith;
   room = room_stays words p.blocks (number_place (nb_in words)) value (omega arith) own.room;
   owed = last_drawn start history p.mine state left (OneRow c) e runs right leaves;
-  laid = λ l k. layout_beside words (number_place (nb_in words)) value (inr (omega arith)) (let w = own.room.1 in omega arith) ∙ own.laid l k;
+  laid = λ l k. layout_beside words (number_place (nb_in words)) value (inr (omega arith)) (omega arith) ∙ own.laid l k;
   sequence = λ n k. get_or-set_other words (number_place (nb_in words)) 1 value 0 (λ same. omega arith) ∙ own.sequence n k;
 }
 
@@ -236,15 +235,14 @@ own_part start history state left words value worker p e (OneRow c) held is few 
 shown_drawn : (grants : Grants) (history : List Entry) (state left : List Areas) (words : List ℕ) (passes : List Pass)
     (worker value : ℕ) (p : Pass) (e : Entry) (pending : Pending) (held : Option Held)
     → AreBacked grants words state passes → IsExclusive grants → get_elem? grants worker ≡ some held → HoldsFor held e.under
-    → get_elem? passes worker ≡ some p → p.pending ≡ AtRest → Leaves state e.under pending left → planned_calls pending ≡ 0
-    → RowsStandFor state passes words
+    → get_elem? passes worker ≡ some p → p.pending ≡ AtRest → Leaves state e.under pending left → planned_calls pending ≡ 0 → RowsStandFor state passes words
     → RowsStandFor left (set passes worker (after_draw history e pending held p)) (numbered words value)
 shown_drawn grants history state left words passes worker value p e AtRest held backed exclusive has holds at rest leaves none s =
     let q : Pass = after_draw history e AtRest held p in (
       s.0,
       subst (λ (A : List Areas). IsShown A (set passes worker q) s.0) (sym (leaves_same state left e.under leaves))
           (shown_set state passes worker p q s.0 at (sym rest) s.1),
-      rows_beside words (number_place (nb_in words)) value s.0 (inr (omega arith)) (let w = s.2.room in omega arith) s.2,
+      rows_beside words (number_place (nb_in words)) value s.0 (inr (omega arith)) (omega arith) s.2,
     )
 shown_drawn grants history state left words passes worker value p e (Planned plan) held backed exclusive has holds at rest leaves none s = absurd (omega arith)
 shown_drawn grants history state left words passes worker value p e (OneRow c) held backed exclusive has holds at rest leaves none s =
@@ -253,7 +251,7 @@ shown_drawn grants history state left words passes worker value p e (OneRow c) h
       s.0,
       shown_after_draw grants state left passes worker p q l.0 c words backed exclusive at
           (held_alone grants worker held e.under l.0 l.1 has holds) l.2 s.0 rest refl s.1,
-      rows_beside words (number_place (nb_in words)) value s.0 (inr (omega arith)) (let w = s.2.room in omega arith) s.2,
+      rows_beside words (number_place (nb_in words)) value s.0 (inr (omega arith)) (omega arith) s.2,
     )
 
 -- a draw of a number
@@ -290,11 +288,11 @@ module _ (grants : Grants) (start : List Areas) (history : List Entry) (state le
         limit = left_few state left e.call e.reply r.limit answers;
         grown = let g = r.grown in omega arith;
         number = ap (λ (n : ℕ). slice_index (numbered words value) (number_place n)) same
-            ∙ (get_or-set_same words place value 0 there ∙ (let n = r.number in let w = no_wrap start history state words passes r in omega arith));
+            ∙ (get_or-set_same words place value 0 there ∙ (let w = no_wrap start history state words passes r in omega arith));
         sequence = let g : slice_index (numbered words value) 1 ≡ slice_index words 1 =
             get_or-set_other words place 1 value 0 (λ e. omega arith) in let s = r.sequence in let m = whole_more history e in
             let c = leaves_counts state left e.under pending leaves in omega arith;
-        small = let m = most_set passes worker p q at (draw_most history e held p pending) in let f = r.small in omega arith;
+        small = let m = most_set passes worker p q at (draw_most history e held p pending) in omega arith;
         room = room_kept words (numbered words value) (row_count start) passes worker p q at (draw_most history e held p pending) same r.room;
         rows = λ none. shown_drawn grants history state left words passes worker value p e pending held backed exclusive has holds
             at rest leaves (omega arith) (r.rows (omega arith));
@@ -302,10 +300,9 @@ module _ (grants : Grants) (start : List Areas) (history : List Entry) (state le
             (λ t. subst (λ (z : ℕ × Pass). IsPart start (history ++ e ∷ []) (numbered words value) z.0 z.1) (λ i. (sym t.0 i, t.1 i))
             (own_part start history state left words value worker p e pending held is few r.runs
             (record { fits = fits; answers = answers }) leaves (r.parts worker p at)))
-            (λ t. others_part start history words value other x e (λ w. t.0 (sym w ∙ is)) (r.parts other x t.1))
-            (at_set passes worker other q x there);
+            (λ t. others_part start history words value other x e (λ w. t.0 (sym w ∙ is)) (r.parts other x t.1)) (at_set passes worker other q x there);
         no_other = λ other le. let b = below passes worker p at in own_same other history e (λ w. omega arith) ∙ r.no_other other (omega arith);
-        total = let s = count_set passes worker p q 1 at grown in let t = r.total in omega arith;
+        total = let s = count_set passes worker p q 1 at grown in omega arith;
       }
 
 -- there is room for what a draw leaves to be written
@@ -340,7 +337,6 @@ module _ (grants : Grants) (start : List Areas) (history : List Entry) (state le
       let show : RowsStandFor state passes words = r.rows (none_planned passes (λ worker p at. dite (ℕ_discrete worker other)
       (λ same. ap own_planned (some-injective p x (sym at ∙ (ap (get_elem? passes) same ∙ there))) ∙ none)
       (λ differ. unplanned worker other p.pending differ h (all worker p at).pending))) in
-      let wide = show.2.room in
       let place : ℕ = number_place (nb_in words) in
       let stays : (slot : ℕ) → slot < 128 * nb_in words → slice_index (numbered words value) (3 + slot) ≡ slice_index words (3 + slot) =
       λ slot few. get_or-set_other words place (3 + slot) value 0 (λ e. omega arith) in
@@ -360,9 +356,7 @@ module _ (grants : Grants) (start : List Areas) (history : List Entry) (state le
       let own = (subst (Backs grants state other) is (all other x there).pending).0 in
       let wide = (r.parts other x there).room.1 in
       let place : ℕ = number_place (nb_in words) in
-      All-weaker (StillStands held words) (StillStands held (numbered words value))
-      (λ q s.
-      let few = s.slot in
+      All-weaker (StillStands held words) (StillStands held (numbered words value)) (λ q s.
       exact_stands held (numbered words value) q (subst (λ (n : ℕ). q.index < 128 * n) (sym (nb_stays words place value (omega arith))) s.slot)
       (get_or-set_other words place (3 + q.index) value 0 (λ e. omega arith) ∙ s.word (held_is grants other everything held own has)))
       x.rows ((all other x there).rows held has)
@@ -374,17 +368,12 @@ module _ (grants : Grants) (start : List Areas) (history : List Entry) (state le
       → All (StillStands held (numbered words value)) x.rows
   reads_stand other x held there has = ⊎_elim
       (λ n. subst (All (StillStands held (numbered words value))) (sym n.1) (All-nil (StillStands held (numbered words value))))
-      (λ h. stands_by other x held x.pending there h has refl)
-      (all other x there).reads
+      (λ h. stands_by other x held x.pending there h has refl) (all other x there).reads
 
   -- a caller that makes no step
   other_backed : (other : ℕ) (x : Pass) → get_elem? passes other ≡ some x → Backs grants left other x.pending
       → IsBacked grants (numbered words value) left other x
-  other_backed other x there backs = record {
-    reads = (all other x there).reads;
-    rows = λ held has. reads_stand other x held there has;
-    pending = backs;
-  }
+  other_backed other x there backs = record { reads = (all other x there).reads; rows = λ held has. reads_stand other x held there has; pending = backs }
 
   -- nobody else has a plan where one caller holds everything
   others_rest : (worker other : ℕ) (pending : Pending) → other ≢ worker → Holds grants worker everything
@@ -401,16 +390,10 @@ module _ (grants : Grants) (start : List Areas) (history : List Entry) (state le
       → get_elem? passes worker ≡ some p → get_elem? grants worker ≡ some h → HoldsFor h under → Leaves state under pending left
       → AreBacked grants (numbered words value) left (set passes worker (after_draw history e pending h p))
   drawn_backed worker p e under AtRest h at has holds leaves other x there =
-      ⊎_elim
-      (λ t. subst (λ (z : ℕ × Pass). IsBacked grants (numbered words value) left z.0 z.1) (λ i. (sym t.0 i, t.1 i))
-      (record {
-        reads = inl (refl, refl, refl);
-        rows = λ held own. All-nil (StillStands held (numbered words value));
-        pending = tt;
-      }))
+      ⊎_elim (λ t. subst (λ (z : ℕ × Pass). IsBacked grants (numbered words value) left z.0 z.1) (λ i. (sym t.0 i, t.1 i))
+      (record { reads = inl (refl, refl, refl); rows = λ held own. All-nil (StillStands held (numbered words value)); pending = tt }))
       (λ t. other_backed other x t.1 (subst (λ (A : List Areas). Backs grants A other x.pending)
-      (sym (leaves_same state left under leaves)) (all other x t.1).pending))
-      (at_set passes worker other (after_draw history e AtRest h p) x there)
+      (sym (leaves_same state left under leaves)) (all other x t.1).pending)) (at_set passes worker other (after_draw history e AtRest h p) x there)
   drawn_backed worker p e under (Planned plan) h at has holds leaves other x there =
       let shown = leaves_plan state left under plan leaves in
       let own = held_whole worker h under shown.0 has holds in
@@ -419,8 +402,7 @@ module _ (grants : Grants) (start : List Areas) (history : List Entry) (state le
         reads = inr (everything, own, everything_pages);
         rows = λ held mine. reads_stand worker p held at mine;
         pending = (own, shown.1);
-      }))
-      (λ t. other_backed other x t.1 (others_rest worker other x.pending t.0 own (all other x t.1).pending))
+      })) (λ t. other_backed other x t.1 (others_rest worker other x.pending t.0 own (all other x t.1).pending))
       (at_set passes worker other (after_draw history e (Planned plan) h p) x there)
   drawn_backed worker p e under (OneRow c) h at has holds leaves other x there =
       let l = leaves_change state left under c leaves in
@@ -431,7 +413,5 @@ module _ (grants : Grants) (start : List Areas) (history : List Entry) (state le
         reads = inr (alone c.span, mine, span_pages c.span);
         rows = λ held own_held. reads_stand worker p held at own_held;
         pending = (mine, l.2.inside, l.2.after);
-      }))
-      (λ t. other_backed other x t.1 (others_back grants state left passes worker p p l.0 c words all exclusive at own l.2 other
-      x.pending t.0 (all other x t.1).pending))
-      (at_set passes worker other (after_draw history e (OneRow c) h p) x there)
+      })) (λ t. other_backed other x t.1 (others_back grants state left passes worker p p l.0 c words all exclusive at own l.2 other
+      x.pending t.0 (all other x t.1).pending)) (at_set passes worker other (after_draw history e (OneRow c) h p) x there)

@@ -43,11 +43,9 @@ no_note = record { line = 0; call = Fault 0 Read; reply = Zero; under = Nothing;
 
 -- all are backed after one caller's pass has changed
 backed_set : (grants : Grants) (words : List ℕ) (state : List Areas) (passes : List Pass) (worker : ℕ) (q : Pass)
-    → AreBacked grants words state passes → IsBacked grants words state worker q
-    → AreBacked grants words state (set passes worker q)
+    → AreBacked grants words state passes → IsBacked grants words state worker q → AreBacked grants words state (set passes worker q)
 backed_set grants words state passes worker q all own other x there = ⊎_elim
-    (λ t. subst (λ (z : ℕ × Pass). IsBacked grants words state z.0 z.1) (λ i. (sym t.0 i, t.1 i)) own)
-    (λ t. all other x t.1)
+    (λ t. subst (λ (z : ℕ × Pass). IsBacked grants words state z.0 z.1) (λ i. (sym t.0 i, t.1 i)) own) (λ t. all other x t.1)
     (at_set passes worker other q x there)
 
 module _ (grants : Grants) (words : List ℕ) (history : List Entry) (state : List Areas) (worker place : ℕ) (p after : Pass)
@@ -66,14 +64,12 @@ module _ (grants : Grants) (words : List ℕ) (history : List Entry) (state : Li
     reads = inr h;
     rows = λ held has.
         let r : ReadRow = record { index = index; word = slice_index words (3 + index) } in
-        All-cons (StillStands held words) r p.rows
-        (exact_stands held words r (subst (λ (n : ℕ). index < 128 * n) blocks slot) refl) (b.rows held has);
+        All-cons (StillStands held words) r p.rows (exact_stands held words r (subst (λ (n : ℕ). index < 128 * n) blocks slot) refl) (b.rows held has);
     pending = b.pending;
   })
 
 module _ (mine : Option Held → Type 0) (free held : Type 0) (start : List Areas) (history : List Entry) (state : List Areas) (words : List ℕ)
-    (passes : List Pass) (worker place : ℕ) (p after : Pass)
-    (r : IsRunningSpace start history state words passes) (at : get_elem? passes worker ≡ some p) where
+    (passes : List Pass) (worker place : ℕ) (p after : Pass) (r : IsRunningSpace start history state words passes) (at : get_elem? passes worker ≡ some p) where
   loads_keep : MayLoad mine free held words history place p after → IsRunningSpace start history state words (set passes worker after)
   loads_keep (number h o e is) =
       subst (λ (q : Pass). IsRunningSpace start history state words (set passes worker q)) (sym is)
@@ -93,8 +89,7 @@ module _ (mine : Option Held → Type 0) (free held : Type 0) (start : List Area
       (counted start history state words worker p (r.parts worker p at)) refl refl refl)
   loads_keep (row index h slot e is) =
       subst (λ (q : Pass). IsRunningSpace start history state words (set passes worker q)) (sym is)
-      (replaced start history state words worker p (r.parts worker p at) passes
-      (after_row index (slice_index words (3 + index)) p) r at
+      (replaced start history state words worker p (r.parts worker p at) passes (after_row index (slice_index words (3 + index)) p) r at
       (read start history state words worker p (r.parts worker p at) index (slice_index words (3 + index))) refl refl refl)
 
 adds_keep : (grants : Grants) (words : List ℕ) (passes : List Pass) (worker : ℕ) (note : Note)
@@ -108,11 +103,9 @@ adds_keep grants words passes worker note here place after (draw place_is d is) 
       here.history ++ e ∷ [],
       d.left,
       drawn grants here.start here.history here.state d.left words passes worker here.pass e note.pending d.held.0 here.running
-          here.backed here.exclusive d.held.1 d.held.2 here.own refl refl d.leaves d.rest d.named d.right.fits d.right.answers
-          d.few,
+          here.backed here.exclusive d.held.1 d.held.2 here.own refl refl d.leaves d.rest d.named d.right.fits d.right.answers d.few,
       drawn_backed grants here.start here.history here.state d.left words passes ((slice_index words (number_place (nb_in words)) + 1) % 2 ^ 64)
-          here.running here.backed here.exclusive worker here.pass e note.under note.pending d.held.0 here.own d.held.1 d.held.2
-          d.leaves,
+          here.running here.backed here.exclusive worker here.pass e note.under note.pending d.held.0 here.own d.held.1 d.held.2 d.leaves,
     )
 adds_keep grants words passes worker note here place after (raise plan one_is pends written is) =
     subst (λ (z : ℕ × Pass). HasHistory grants (words_after words (adds z.0 1)) (set passes worker z.1)) (λ i. (sym one_is i, sym is i)) (
@@ -125,8 +118,7 @@ adds_keep grants words passes worker note here place after (raise plan one_is pe
 
 -- a store by a caller that has this to write
 writes_keep : (grants : Grants) (words : List ℕ) (passes : List Pass) (worker : ℕ) (here : Here grants words passes worker)
-    (pending : Pending) (place value : ℕ) (after : Pass) → here.pass.pending ≡ pending
-    → MayWrite words pending place value here.pass after
+    (pending : Pending) (place value : ℕ) (after : Pass) → here.pass.pending ≡ pending → MayWrite words pending place value here.pass after
     → HasHistory grants (words_after words (stores place value)) (set passes worker after)
 writes_keep grants words passes worker here AtRest place value after pends may = absurd may
 writes_keep grants words passes worker here (Planned plan) place value after pends may =
@@ -145,8 +137,7 @@ writes_keep grants words passes worker here (OneRow c) place value after pends m
 
 -- the law of steps
 pub steps_keep : (grants : Grants) (words : List ℕ) (passes : List Pass) (worker : ℕ) (step : ClientStep) (note : Note) (after : Pass)
-    → HasHistory grants words passes → Allowed grants words passes worker step note after
-    → HasHistory grants (words_after words step) (set passes worker after)
+    → HasHistory grants words passes → Allowed grants words passes worker step note after → HasHistory grants (words_after words step) (set passes worker after)
 steps_keep grants words passes worker (loads i) note after kept may =
     let h = may.0 in (
       h.start,
@@ -155,8 +146,7 @@ steps_keep grants words passes worker (loads i) note after kept may =
       loads_keep (HoldsJust grants worker) (HoldsNothing grants worker) (HoldsPages grants worker)
           h.start h.history h.state words passes worker i h.pass after h.running h.own may.1,
       backed_set grants words h.state passes worker after h.backed
-          (load_backed grants words h.history h.state worker i h.pass after (h.backed worker h.pass h.own)
-          (h.running.parts worker h.pass h.own).room.0 may.1),
+          (load_backed grants words h.history h.state worker i h.pass after (h.backed worker h.pass h.own) (h.running.parts worker h.pass h.own).room.0 may.1),
     )
 steps_keep grants words passes worker (stores i value) note after kept may =
     writes_keep grants words passes worker may.0 may.0.pass.pending i value after refl may.1
@@ -198,25 +188,21 @@ idle_backed : (grants others : Grants) (words : List ℕ) (state : List Areas) (
     → get_elem? grants seat ≡ some None → IsBacked grants words state seat x → IsBacked others words state seat x
 idle_backed grants others words state seat x none b = record {
   reads = ⊎_elim (λ n. inl n) (λ g. absurd (holds_none grants seat g.0 none g.1)) b.reads;
-  rows = λ held has. ⊎_elim
-      (λ n. subst (All (StillStands held words)) (sym n.1) (All-nil (StillStands held words)))
+  rows = λ held has. ⊎_elim (λ n. subst (All (StillStands held words)) (sym n.1) (All-nil (StillStands held words)))
       (λ g. absurd (holds_none grants seat g.0 none g.1)) b.reads;
   pending = idle_backs grants others state seat x.pending none b.pending;
 }
 
 -- the law of gain: who gets a range held nothing, and so has read nothing yet
 pub gains_keep : (grants : Grants) (words : List ℕ) (passes : List Pass) (seat : ℕ) (h : Held)
-    → HasHistory grants words passes → get_elem? grants seat ≡ some None → IsFree grants seat h
-    → HasHistory (set grants seat (Some h)) words passes
+    → HasHistory grants words passes → get_elem? grants seat ≡ some None → IsFree grants seat h → HasHistory (set grants seat (Some h)) words passes
 gains_keep grants words passes seat h kept none free = (
   kept.0,
   kept.1,
   kept.2,
   kept.3,
-  λ other x there. dite (ℕ_discrete other seat)
-      (λ same. subst (λ n. IsBacked (set grants seat (Some h)) words kept.2 n x) (sym same)
-      (idle_backed grants (set grants seat (Some h)) words kept.2 seat x none
-      (subst (λ n. IsBacked grants words kept.2 n x) same (kept.4 other x there))))
+  λ other x there. dite (ℕ_discrete other seat) (λ same. subst (λ n. IsBacked (set grants seat (Some h)) words kept.2 n x) (sym same)
+      (idle_backed grants (set grants seat (Some h)) words kept.2 seat x none (subst (λ n. IsBacked grants words kept.2 n x) same (kept.4 other x there))))
       (λ differ. backed_on grants words seat (Some h) kept.2 other x differ (kept.4 other x there)),
 )
 
@@ -225,8 +211,7 @@ rest_backs grants state seat pending rest = subst (Backs grants state seat) (sym
 
 -- the law of loss
 pub losses_keep : (grants : Grants) (words : List ℕ) (passes : List Pass) (seat : ℕ) (p : Pass)
-    → HasHistory grants words passes → get_elem? passes seat ≡ some p → IsAtRest p
-    → HasHistory (set grants seat None) words (set passes seat (rest_of p))
+    → HasHistory grants words passes → get_elem? passes seat ≡ some p → IsAtRest p → HasHistory (set grants seat None) words (set passes seat (rest_of p))
 losses_keep grants words passes seat p kept at rest =
     let r = kept.3 in (
       kept.0,
@@ -234,15 +219,12 @@ losses_keep grants words passes seat p kept at rest =
       kept.2,
       replaced kept.0 kept.1 kept.2 words seat p (r.parts seat p at) passes (rest_of p) r at
           (rested kept.0 kept.1 kept.2 words seat p (r.parts seat p at)) refl refl refl,
-      λ other x there. ⊎_elim
-          (λ t. subst (λ (z : ℕ × Pass). IsBacked (set grants seat None) words kept.2 z.0 z.1) (λ i. (sym t.0 i, t.1 i))
+      λ other x there. ⊎_elim (λ t. subst (λ (z : ℕ × Pass). IsBacked (set grants seat None) words kept.2 z.0 z.1) (λ i. (sym t.0 i, t.1 i))
           (record {
             reads = inl (refl, refl, refl);
             rows = λ held has. All-nil (StillStands held words);
             pending = rest_backs (set grants seat None) kept.2 seat p.pending rest;
-          }))
-          (λ t. backed_on grants words seat None kept.2 other x t.0 (kept.4 other x t.1))
-          (at_set passes seat other (rest_of p) x there),
+          })) (λ t. backed_on grants words seat None kept.2 other x t.0 (kept.4 other x t.1)) (at_set passes seat other (rest_of p) x there),
     )
 
 -- a pass at rest that gives its range back is at rest

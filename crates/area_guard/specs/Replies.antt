@@ -40,34 +40,21 @@ first_named ((true, r) ∷ checks) reply all e = subst IsNamedReply (some_is r r
 first_named ((false, r) ∷ checks) reply all e = first_named checks reply all.1 e
 
 plain_named : (c : Call) (reply : Reply) → plain_reply c ≡ Some reply → IsNamedReply reply
-plain_named (Map addr len prot flags) reply e = first_named
-    ((is_fixed flags && not (is_aligned addr), Refused (Einval Addr)) ∷
-    (len == 0, Refused (Einval Len)) ∷
-    (not (has_one_sharing flags), Refused (Einval Flags)) ∷
+plain_named (Map addr len prot flags) reply e = first_named ((is_fixed flags && not (is_aligned addr), Refused (Einval Addr)) ∷
+    (len == 0, Refused (Einval Len)) ∷ (not (has_one_sharing flags), Refused (Einval Flags)) ∷
     (is_fixed flags && nat_lt LIMIT (end_page addr len), Refused (Enomem (PastEnd (end_page addr len)))) ∷ []) reply (tt, (tt, (tt, (tt, tt)))) e
-plain_named (Unmap addr len) reply e = first_named
-    ((not (is_aligned addr), Refused (Einval Addr)) ∷
-    (len == 0, Refused (Einval Len)) ∷
+plain_named (Unmap addr len) reply e = first_named ((not (is_aligned addr), Refused (Einval Addr)) ∷ (len == 0, Refused (Einval Len)) ∷
     (nat_lt LIMIT (end_page addr len), Refused (Einval End)) ∷ []) reply (tt, (tt, (tt, tt))) e
-plain_named (Protect addr len prot) reply e = first_named
-    ((not (is_aligned addr), Refused (Einval Addr)) ∷
-    (len == 0, Zero) ∷
+plain_named (Protect addr len prot) reply e = first_named ((not (is_aligned addr), Refused (Einval Addr)) ∷ (len == 0, Zero) ∷
     (nat_lt LIMIT (end_page addr len), Refused (Enomem (PastEnd (end_page addr len)))) ∷ []) reply (tt, (tt, (tt, tt))) e
 plain_named (Fault addr access) reply e = first_named ((nat_le LIMIT (page_of addr), Refused (MapErr (page_of addr))) ∷ []) reply (tt, tt) e
-plain_named (Seal addr len flags) reply e = first_named
-    ((not (is_aligned addr), Refused (Einval Addr)) ∷
-    (len == 0, Zero) ∷
+plain_named (Seal addr len flags) reply e = first_named ((not (is_aligned addr), Refused (Einval Addr)) ∷ (len == 0, Zero) ∷
     (not (flags == 0), Refused (Einval Flags)) ∷
     (nat_lt LIMIT (end_page addr len), Refused (Enomem (PastEnd (end_page addr len)))) ∷ []) reply (tt, (tt, (tt, (tt, tt)))) e
-plain_named (Brk base addr) reply e = first_named
-    ((base == 0, Refused (Einval Addr)) ∷
-    (not (is_aligned base), Refused (Einval Addr)) ∷
+plain_named (Brk base addr) reply e = first_named ((base == 0, Refused (Einval Addr)) ∷ (not (is_aligned base), Refused (Einval Addr)) ∷
     (nat_le LIMIT (page_of base), Refused (Einval Addr)) ∷ []) reply (tt, (tt, (tt, tt))) e
-plain_named (Remap addr old new may hint) reply e = first_named
-    ((not (is_aligned addr), Refused (Einval Addr)) ∷
-    (old == 0, Refused (Einval Len)) ∷
-    (new == 0, Refused (Einval Len)) ∷
-    (nat_lt LIMIT (end_page addr old), Refused (Einval End)) ∷ []) reply (tt, (tt, (tt, (tt, tt)))) e
+plain_named (Remap addr old new may hint) reply e = first_named ((not (is_aligned addr), Refused (Einval Addr)) ∷ (old == 0, Refused (Einval Len)) ∷
+    (new == 0, Refused (Einval Len)) ∷ (nat_lt LIMIT (end_page addr old), Refused (Einval End)) ∷ []) reply (tt, (tt, (tt, (tt, tt)))) e
 
 -- where the state's kinds have named bits alone so has the reply
 pub reply_named : (A B : List Area) (c : Call) (reply : Reply) → HasNamedKinds A → Answers A c reply B → IsNamedReply reply

@@ -37,10 +37,10 @@ use Rattle.area_guard.specs.Beside.{apart_pages, all_stand_on}
 -- a page is in a span, or isn't
 pub in_or_out : (span : Span) (page : ℕ) (P : Type 0) → (IsIn span page → P) → ((IsIn span page → ⊥) → P) → P
 in_or_out span page P yes_in no_in = elim (cases_lt page span.lo) [
-  | inl lt ↦ no_in (λ i. let l = i.0 in absurd (omega arith))
+  | inl lt ↦ no_in (λ i. absurd (omega arith))
   | inr ge ↦ elim (cases_lt page span.hi) [
     | inl less ↦ yes_in (ge, less)
-    | inr over ↦ no_in (λ i. let h = i.1 in absurd (omega arith))
+    | inr over ↦ no_in (λ i. absurd (omega arith))
   ]
 ]
 
@@ -58,7 +58,7 @@ out_of_change c kinds page no_in = elim (cases_lt page c.place.lo) [
 
 -- the pages of a change are held
 pub in_span : (c : Change) (page : ℕ) → IsInside c → IsIn c.place page → IsIn c.span page
-in_span c page inside i = let l = inside.0 in let h = inside.1 in let a = i.0 in let b = i.1 in (omega arith, omega arith)
+in_span c page inside i = (omega arith, omega arith)
 
 -- the pages of two callers' changes are apart
 apart_lags : (grants : Grants) (state : List Areas) (worker other : ℕ) (span : Span) (pending : Pending)
@@ -102,13 +102,9 @@ module _ (grants : Grants) (state left : List Areas) (passes : List Pass) (worke
   pub shown_after_draw : (kinds : ℕ → Option Kind) → p.pending ≡ AtRest → q.pending ≡ OneRow c → IsShown state passes kinds
       → IsShown left (set passes worker q) kinds
   shown_after_draw kinds rest pends s = record {
-    lagging = λ other x there. ⊎_elim
-        (λ t. subst (λ (y : Pass). ShowsBefore y.pending kinds) t.1 (subst (λ (z : Pending). ShowsBefore z kinds) (sym pends)
-        (λ page i. s.elsewhere page (none_lags rest page i) ∙ change.before page i)))
-        (λ t. s.lagging other x t.1)
-        (at_set passes worker other q x there);
-    elsewhere = λ page free.
-        s.elsewhere page (λ other x there lags. dite (ℕ_discrete other worker)
+    lagging = λ other x there. ⊎_elim (λ t. subst (λ (y : Pass). ShowsBefore y.pending kinds) t.1 (subst (λ (z : Pending). ShowsBefore z kinds) (sym pends)
+        (λ page i. s.elsewhere page (none_lags rest page i) ∙ change.before page i))) (λ t. s.lagging other x t.1) (at_set passes worker other q x there);
+    elsewhere = λ page free. s.elsewhere page (λ other x there lags. dite (ℕ_discrete other worker)
         (λ is. rest_lags x.pending page (ap (λ (y : Pass). y.pending) (own_at other x is there) ∙ rest) lags)
         (λ differ. free other x (set_else passes worker other q differ ∙ there) lags))
         ∙ sym (change.elsewhere page (λ i. free worker q (set_here passes worker q (below passes worker p at))
@@ -129,15 +125,11 @@ module _ (grants : Grants) (state left : List Areas) (passes : List Pass) (worke
 
 -- a held page of a caller that has read something is below the limit
 held_below : (grants : Grants) (words : List ℕ) (state : List Areas) (other : ℕ) (x : Pass) → IsBacked grants words state other x
-    → (held : Option Held) → get_elem? grants other ≡ some held
-    → HasReadNothing x ⊎ ((page : ℕ) → IsHeldPage held page → page < LIMIT)
-held_below grants words state other x b held at = ⊎_elim
-    (λ n. inl n)
-    (λ h. inr (λ page i.
+    → (held : Option Held) → get_elem? grants other ≡ some held → HasReadNothing x ⊎ ((page : ℕ) → IsHeldPage held page → page < LIMIT)
+held_below grants words state other x b held at = ⊎_elim (λ n. inl n) (λ h. inr (λ page i.
     let same : h.0 ≡ i.0 = some_is h.0 i.0 (some-injective (Some h.0) held (sym h.1 ∙ at) ∙ i.1) in
     let high : i.0.range.hi ≤ LIMIT = subst (λ (g : Held). g.range.hi ≤ LIMIT) same h.2.1 in
-    let l = i.3 in omega arith))
-    b.reads
+    omega arith)) b.reads
 
 -- the store of the row
 module _ (grants : Grants) (start : List Areas) (history : List Entry) (state : List Areas) (words : List ℕ)
@@ -150,18 +142,14 @@ module _ (grants : Grants) (start : List Areas) (history : List Entry) (state : 
   -- the rows show the state at the pages of the change
   shown_after_store : (kinds : ℕ → Option Kind) → IsShown state passes kinds → IsShown state (set passes worker (after_change p)) (with_change c kinds)
   shown_after_store kinds s = record {
-    lagging = λ other x there. ⊎_elim
-        (λ t. subst (λ (y : Pass). ShowsBefore y.pending (with_change c kinds)) t.1 tt)
+    lagging = λ other x there. ⊎_elim (λ t. subst (λ (y : Pass). ShowsBefore y.pending (with_change c kinds)) t.1 tt)
         (λ t. shown_alike x.pending kinds (with_change c kinds)
         (λ page lags. out_of_change c kinds page (λ i. apart_lags grants state worker other c.span x.pending exclusive t.0
-        change_backs.0 (backed other x t.1).pending page lags (in_span c page change_backs.1 i)))
-        (s.lagging other x t.1))
+        change_backs.0 (backed other x t.1).pending page lags (in_span c page change_backs.1 i))) (s.lagging other x t.1))
         (at_set passes worker other (after_change p) x there);
     elsewhere = λ page free. in_or_out c.place page (with_change c kinds page ≡ kind_at state page)
-        (λ i. in_change c kinds page i ∙ sym (change_backs.2 page i))
-        (λ out. out_of_change c kinds page out
-        ∙ s.elsewhere page (λ other x there lags. dite (ℕ_discrete other worker)
-        (λ is.
+        (λ i. in_change c kinds page i ∙ sym (change_backs.2 page i)) (λ out. out_of_change c kinds page out
+        ∙ s.elsewhere page (λ other x there lags. dite (ℕ_discrete other worker) (λ is.
         let mine : x ≡ p = some-injective x p (sym there ∙ (ap (get_elem? passes) is ∙ at)) in
         out (subst (λ (z : Pending). LagsAt z page) (ap (λ (y : Pass). y.pending) mine ∙ pends) lags))
         (λ differ. free other x (set_else passes worker other (after_change p) differ ∙ there) lags)));
@@ -171,9 +159,7 @@ module _ (grants : Grants) (start : List Areas) (history : List Entry) (state : 
   change_keeps may =
       let q : Pass = after_change p in
       let value = new_word c in
-      let slot = may.there in
       let room = (r.parts worker p at).room in
-      let wide_words = room.1 in
       let wide : length (set passes worker q) ≡ length passes = length-set passes worker q in
       let none : planned_calls p.pending ≡ 0 = ap planned_calls pends in
       let pending : planned_count (set passes worker q) ≡ planned_count passes = let s = planned_set passes worker p q at in omega arith in
@@ -187,20 +173,17 @@ module _ (grants : Grants) (start : List Areas) (history : List Entry) (state : 
         limit = r.limit;
         grown = r.grown;
         number = number_stays words (3 + c.index) value (omega arith) (λ e. omega arith) ∙ r.number;
-        sequence = ap (λ n. n + planned_count (set passes worker q))
-            (get_or-set_other words (3 + c.index) 1 value 0 (λ e. omega arith))
+        sequence = ap (λ n. n + planned_count (set passes worker q)) (get_or-set_other words (3 + c.index) 1 value 0 (λ e. omega arith))
             ∙ (ap (λ n. slice_index words 1 + n) pending ∙ r.sequence);
-        small = let m = most_set passes worker p q at refl in let f = r.small in omega arith;
+        small = let m = most_set passes worker p q at refl in omega arith;
         room = room_kept words (set words (3 + c.index) value) (row_count start) passes worker p q at refl
             (nb_stays words (3 + c.index) value (omega arith)) r.room;
         rows = λ no_plan. let s : RowsStandFor state passes words = r.rows (sym pending ∙ no_plan) in
             (with_change c s.0, shown_after_store s.0 s.1, may.shows s.0 s.2);
-        parts = λ other x there. ⊎_elim
-            (λ t. subst (λ (z : ℕ × Pass). IsPart start history (set words (3 + c.index) value) z.0 z.1) (λ i. (sym t.0 i, t.1 i))
+        parts = λ other x there. ⊎_elim (λ t. subst (λ (z : ℕ × Pass). IsPart start history (set words (3 + c.index) value) z.0 z.1) (λ i. (sym t.0 i, t.1 i))
             (changed start history state words worker p (r.parts worker p at) (set words (3 + c.index) value)
             (room_stays words p.blocks (3 + c.index) value (omega arith) room)))
-            (λ t. beside_part start history words other c.index value x slot (r.parts other x t.1))
-            (at_set passes worker other q x there);
+            (λ t. beside_part start history words other c.index value x may.there (r.parts other x t.1)) (at_set passes worker other q x there);
         no_other = λ other le. r.no_other other (omega arith);
         total = r.total ∙ (let s = count_set passes worker p q 0 at (omega arith) in omega arith);
       }
@@ -212,12 +195,9 @@ module _ (grants : Grants) (start : List Areas) (history : List Entry) (state : 
       let b = backed other x there in
       record {
         reads = b.reads;
-        rows = λ held has. ⊎_elim
-            (λ n. subst (All (StillStands held (set words (3 + c.index) (new_word c)))) (sym n.1)
-            (All-nil (StillStands held (set words (3 + c.index) (new_word c)))))
-            (λ low. all_stand_on held words c may (r.parts other x there).room.1 low
-            (λ page h i. apart_pages grants worker other c.span exclusive differ change_backs.0 held has page h i) x.rows
-            (b.rows held has))
+        rows = λ held has. ⊎_elim (λ n. subst (All (StillStands held (set words (3 + c.index) (new_word c)))) (sym n.1)
+            (All-nil (StillStands held (set words (3 + c.index) (new_word c))))) (λ low. all_stand_on held words c may (r.parts other x there).room.1 low
+            (λ page h i. apart_pages grants worker other c.span exclusive differ change_backs.0 held has page h i) x.rows (b.rows held has))
             (held_below grants words state other x b held has);
         pending = b.pending;
       }
@@ -228,6 +208,4 @@ module _ (grants : Grants) (start : List Areas) (history : List Entry) (state : 
         reads = inl (refl, refl, refl);
         rows = λ held has. All-nil (StillStands held (set words (3 + c.index) (new_word c)));
         pending = tt;
-      }))
-      (λ t. stood_beside may other x t.0 t.1)
-      (at_set passes worker other (after_change p) x there)
+      })) (λ t. stood_beside may other x t.0 t.1) (at_set passes worker other (after_change p) x there)

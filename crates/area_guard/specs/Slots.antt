@@ -33,17 +33,13 @@ module _ (words : List ℕ) (room : 36 + 129 * nb_in words ≤ length words) whe
   pub layout_word : (i : ℕ) → i ≤ nb_in words → slice_index (layout_in words) (suc i) ≡ slice_index (drop 3 words) (128 * nb_in words + i)
   layout_word i le =
       let e : 3 + 128 * nb_in words + i ≡ 3 + (128 * nb_in words + i) = omega arith in
-      get_or-take (nb_in words + 1) (drop (3 + 128 * nb_in words) words) i 0 (omega arith)
-      ∙ (get_or-drop (3 + 128 * nb_in words) words i 0
+      get_or-take (nb_in words + 1) (drop (3 + 128 * nb_in words) words) i 0 (omega arith) ∙ (get_or-drop (3 + 128 * nb_in words) words i 0
       ∙ (ap (slice_index words) e ∙ sym (get_or-drop 3 words (128 * nb_in words + i) 0)))
 
   pub layout_blocks : slice_index (layout_in words) 1 ≡ blocks_of (nb_in words) (drop 3 words)
-  layout_blocks =
-      let e : 128 * nb_in words + 0 ≡ 128 * nb_in words = omega arith in
-      layout_word 0 (omega arith) ∙ ap (slice_index (drop 3 words)) e
+  layout_blocks = let e : 128 * nb_in words + 0 ≡ 128 * nb_in words = omega arith in layout_word 0 (omega arith) ∙ ap (slice_index (drop 3 words)) e
 
-  pub layout_told : (i : ℕ) → i < nb_in words
-      → slice_index (layout_in words) (2 + i) ≡ slice_index (drop 3 words) (128 * nb_in words + 1 + i)
+  pub layout_told : (i : ℕ) → i < nb_in words → slice_index (layout_in words) (2 + i) ≡ slice_index (drop 3 words) (128 * nb_in words + 1 + i)
   layout_told i lt =
       let a : 2 + i ≡ suc (1 + i) = omega arith in
       let b : 128 * nb_in words + (1 + i) ≡ 128 * nb_in words + 1 + i = omega arith in
@@ -54,7 +50,6 @@ module _ (words : List ℕ) (room : 36 + 129 * nb_in words ≤ length words) whe
   slots_as laid =
       let layout : List ℕ = layout_in words in
       let first : length layout - 2 ≡ nb_in words = let l = layout_long in omega arith in
-      let spare = laid.spare in
       ap (pieces (block_slots layout)) layout_blocks
       ∙ same_pieces (slots_by (nb_in words) (drop 3 words)) (block_slots layout) (blocks_of (nb_in words) (drop 3 words)) (λ i lt.
       let e = layout_told i (omega arith) in
@@ -88,16 +83,12 @@ module _ (words : List ℕ) (kinds : ℕ → Option Kind) (s : RowsShow words ki
   pub rows_are : (k slot : ℕ) → get_elem? (slots_in words) k ≡ some slot → get_or (rows_in words) k 0 ≡ slice_index words (3 + slot)
   rows_are k slot at =
       let p = place_in k slot at in
-      ap (λ (l : List ℕ). get_or l k 0) (sym (words_are nb blocks s.laid))
-      ∙ (get_or-map (slice_index blocks) (slots_all nb blocks) k 0 0 p.0
+      ap (λ (l : List ℕ). get_or l k 0) (sym (words_are nb blocks s.laid)) ∙ (get_or-map (slice_index blocks) (slots_all nb blocks) k 0 0 p.0
       ∙ (ap (slice_index blocks) p.1 ∙ get_or-drop 3 words slot 0))
 
   -- at two places there are different slots
   pub slots_apart : (j k slot : ℕ) → get_elem? (slots_in words) j ≡ some slot → get_elem? (slots_in words) k ≡ some slot → j ≡ k
-  slots_apart j k slot one two =
-      let a = place_in j slot one in
-      let b = place_in k slot two in
-      slots_differ nb blocks j k s.laid a.0 b.0 (a.1 ∙ sym b.1)
+  slots_apart j k slot one two = let a = place_in j slot one in let b = place_in k slot two in slots_differ nb blocks j k s.laid a.0 b.0 (a.1 ∙ sym b.1)
 
   -- a slot is one of the blocks, before the layout
   pub slot_in : (slot : ℕ) → IsSlot words slot → slot < 128 * nb_in words
@@ -108,22 +99,19 @@ module _ (words : List ℕ) (kinds : ℕ → Option Kind) (s : RowsShow words ki
 
   -- there is a word for the row of a slot
   pub slot_there : (slot : ℕ) → IsSlot words slot → 3 + slot < length words
-  slot_there slot is = let b = slot_in slot is in let r = s.room in omega arith
+  slot_there slot is = let b = slot_in slot is in omega arith
 
   -- and it is in reach of a caller of the space
   pub slot_reach : (start : List Area) (history : List Entry) (worker : ℕ) (pass : Pass) → IsPart start history words worker pass
       → (slot : ℕ) → IsSlot words slot → IsInReach pass.blocks slot
-  slot_reach start history worker pass part slot is = let b = slot_in slot is in let nb = part.room.0 in omega arith
+  slot_reach start history worker pass part slot is = let b = slot_in slot is in omega arith
 
   -- the first slot is 0
   pub first_slot : IsFirstOf (slots_in words) 0
   first_slot =
-      let some_block = s.laid.some in
-      let some_row = s.some in
-      let counted = s.counted in
       let same = ap length slots_same in
       let at = there (slots_all nb blocks) 0 (omega arith) in
-      let zero_is : slice_index (slots_all nb blocks) 0 ≡ 0 = (at_slot nb blocks 0 0 some_block (omega arith)).head refl in
+      let zero_is : slice_index (slots_all nb blocks) 0 ≡ 0 = (at_slot nb blocks 0 0 s.laid.some (omega arith)).head refl in
       ap (λ (l : List ℕ). get_elem? l 0) slots_same ∙ (at.1 ∙ ap some (sym (at_or (slots_all nb blocks) 0 at.0 0 at.1) ∙ zero_is))
 
   module _ (slot value : ℕ) (is : IsSlot words slot) where
@@ -131,7 +119,7 @@ module _ (words : List ℕ) (kinds : ℕ → Option Kind) (s : RowsShow words ki
     two = set words (3 + slot) value
 
     low : 3 + slot + 17 < length words
-    low = let b = slot_in slot is in let r = s.room in omega arith
+    low = let b = slot_in slot is in omega arith
 
     -- a store in a slot leaves the layout
     pub slots_stay : layout_in (set words (3 + slot) value) ≡ layout_in words
@@ -146,8 +134,7 @@ module _ (words : List ℕ) (kinds : ℕ → Option Kind) (s : RowsShow words ki
     kept_laid =
         let p = place_in is.0 slot is.1 in
         let k = kth_slot nb blocks is.0 p.0 in
-        subst (λ (n : ℕ). IsLaidOut nb (set blocks n value)) p.1
-        (laid_stored nb blocks k.i k.j (slice_index (slots_all nb blocks) is.0) value s.laid k.is)
+        subst (λ (n : ℕ). IsLaidOut nb (set blocks n value)) p.1 (laid_stored nb blocks k.i k.j (slice_index (slots_all nb blocks) is.0) value s.laid k.is)
 
     -- and their layout is as it was
     kept_told : (t : ℕ) → 128 * nb ≤ t → slice_index (set blocks slot value) t ≡ slice_index blocks t
@@ -168,7 +155,6 @@ module _ (words : List ℕ) (kinds : ℕ → Option Kind) (s : RowsShow words ki
       let stays : slice_index (set words (3 + slot) value) 2 ≡ slice_index words 2 = get_or-set_other words (3 + slot) 2 value 0 (λ e. omega arith) in
       let wide = length-set words (3 + slot) value in
       let same = nb_stays words (3 + slot) value (low slot value is) in
-      let room = s.room in let some_row = s.some in let few = s.few in
       let rows = row_set k slot value at in
       let back : ◌≡◌ {A = ℕ × List ℕ} (nb, set blocks slot value) (nb_in (set words (3 + slot) value), drop 3 (set words (3 + slot) value)) =
       sym (both_set slot value is) in

@@ -37,7 +37,6 @@ nb_stays words place value low =
 -- so does one among the words of the blocks, before them, and of the number word
 pub room_stays : (words : List ℕ) (nb place value : ℕ) → place < 12 + 129 * nb_in words → HasBlocks words nb → HasBlocks (set words place value) nb
 room_stays words nb place value low has =
-    let wide = has.1 in
     let long = length-set words place value in
     let same = nb_stays words place value (omega arith) in
     (has.0 ∙ sym same, omega arith)
@@ -84,8 +83,7 @@ number_stays words place value low differ =
 pub layout_counted : (words : List ℕ) (value : ℕ) → 19 < length words → layout_in (set words 2 value) ≡ set (layout_in words) 0 value
 layout_counted words value wide =
     let two : List ℕ = set words 2 value in
-    let told : drop (3 + 128 * nb_in words) two ≡ drop (3 + 128 * nb_in words) words =
-    drop-set-lt (3 + 128 * nb_in words) words 2 value (omega arith) in
+    let told : drop (3 + 128 * nb_in words) two ≡ drop (3 + 128 * nb_in words) words = drop-set-lt (3 + 128 * nb_in words) words 2 value (omega arith) in
     ap (λ (n : ℕ). n ∷ take (nb_in two + 1) (drop (3 + 128 * nb_in two) two)) (get_or-set_same words 2 value 0 (omega arith))
     ∙ (ap (λ (n : ℕ). value ∷ take (n + 1) (drop (3 + 128 * n) two)) (nb_stays words 2 value (omega arith))
     ∙ ap (λ (l : List ℕ). value ∷ take (nb_in words + 1) l) told)
@@ -179,21 +177,18 @@ pub rows_beside : (words : List ℕ) (place value : ℕ) (kinds : ℕ → Option
     → RowsShow words kinds → RowsShow (set words place value) kinds
 rows_beside words place value kinds beside low s =
     let two : List ℕ = set words place value in
-    let wide = s.room in
     let long = length-set words place value in
     let nb : nb_in two ≡ nb_in words = nb_stays words place value low in
     let layout : layout_in two ≡ layout_in words = layout_beside words place value beside low in
     let count : slice_index two 2 ≡ slice_index words 2 = ap (λ (l : List ℕ). slice_index l 0) layout in
     let fits : 129 * nb_in words + 1 ≤ length (drop 3 two) = let d = length-drop 3 two in omega arith in
-    let same : (t : ℕ) → t < 129 * nb_in words + 1 → slice_index (drop 3 two) t ≡ slice_index (drop 3 words) t =
-    λ t lt. get_or-drop 3 two t 0
-    ∙ (get_or-set_other words place (3 + t) value 0 (λ e. ⊎_elim (λ before. omega arith) (λ behind. omega arith) beside)
-    ∙ sym (get_or-drop 3 words t 0)) in
+    let same : (t : ℕ) → t < 129 * nb_in words + 1 → slice_index (drop 3 two) t ≡ slice_index (drop 3 words) t = λ t lt. get_or-drop 3 two t 0
+    ∙ (get_or-set_other words place (3 + t) value 0 (λ e. ⊎_elim (λ before. omega arith) (λ behind. omega arith) beside) ∙ sym (get_or-drop 3 words t 0)) in
     let rows : rows_in two ≡ rows_in words = ap (λ (n : ℕ). rows_by n (drop 3 two)) nb ∙ also_rows (drop 3 two) s.laid fits same in
     record {
       room = omega arith;
-      some = let some_row = s.some in omega arith;
-      few = let few = s.few in omega arith;
+      some = omega arith;
+      few = omega arith;
       show = subst (λ (l : List ℕ). ShowFrom 0 l kinds) (sym rows) s.show;
       gaps = subst (All IsBareGap) (sym rows) s.gaps;
       laid = subst (λ (n : ℕ). IsLaidOut n (drop 3 two)) (sym nb) (also_laid (drop 3 two) s.laid fits same);
@@ -212,10 +207,8 @@ module _ (words : List ℕ) (index value : ℕ) (slot : index < 128 * nb_in word
       → All (StillStands (Some everything) (set words (3 + index) value)) (cond (not b) (r ∷ kept) kept)
   stored_one r kept true is s all = all
   stored_one r kept false is s all = All-cons (StillStands (Some everything) (set words (3 + index) value)) r kept
-      (exact_stands (Some everything) (set words (3 + index) value) r
-      (subst (λ (n : ℕ). r.index < 128 * n) (sym blocks) s.slot)
-      (get_or-set_other words (3 + index) (3 + r.index) value 0 (λ same. eqb-false r.index index is (omega arith))
-      ∙ s.word refl)) all
+      (exact_stands (Some everything) (set words (3 + index) value) r (subst (λ (n : ℕ). r.index < 128 * n) (sym blocks) s.slot)
+      (get_or-set_other words (3 + index) (3 + r.index) value 0 (λ same. eqb-false r.index index is (omega arith)) ∙ s.word refl)) all
 
   stored_rest : (rows : List ReadRow) → All (StillStands (Some everything) words) rows
       → All (StillStands (Some everything) (set words (3 + index) value)) (without index rows)
@@ -223,36 +216,27 @@ module _ (words : List ℕ) (index value : ℕ) (slot : index < 128 * nb_in word
   stored_rest (r ∷ rest) all = stored_one r (without index rest) (eqb r.index index) refl
       (All-head (StillStands (Some everything) words) r rest all) (stored_rest rest (All-tail (StillStands (Some everything) words) r rest all))
 
-  pub stored_all : (rows : List ReadRow) → All (StillStands (Some everything) words) rows
-      → All (StillStands (Some everything) (set words (3 + index) value))
+  pub stored_all : (rows : List ReadRow) → All (StillStands (Some everything) words) rows → All (StillStands (Some everything) (set words (3 + index) value))
       (record { index = index; word = value } ∷ without index rows)
-  stored_all rows all = All-cons (StillStands (Some everything) (set words (3 + index) value))
-      (record { index = index; word = value }) (without index rows)
+  stored_all rows all = All-cons (StillStands (Some everything) (set words (3 + index) value)) (record { index = index; word = value }) (without index rows)
       (exact_stands (Some everything) (set words (3 + index) value) (record { index = index; word = value })
-      (subst (λ (n : ℕ). index < 128 * n) (sym blocks) slot)
-      (get_or-set_same words (3 + index) value 0 (omega arith))) (stored_rest rows all)
+      (subst (λ (n : ℕ). index < 128 * n) (sym blocks) slot) (get_or-set_same words (3 + index) value 0 (omega arith))) (stored_rest rows all)
 
 -- and of a word of the layout, which is in no slot
 pub laid_all : (words : List ℕ) (place value : ℕ) (rows : List ReadRow) → (place ≡ 2) ⊎ (3 + 128 * nb_in words ≤ place) → place + 17 < length words
     → All (StillStands (Some everything) words) rows → All (StillStands (Some everything) (set words place value)) rows
 laid_all words place value rows outside low all = All-weaker (StillStands (Some everything) words) (StillStands (Some everything) (set words place value))
-    (λ r s.
-    let below = s.slot in
-    exact_stands (Some everything) (set words place value) r
-    (subst (λ (n : ℕ). r.index < 128 * n) (sym (nb_stays words place value low)) s.slot)
+    (λ r s. exact_stands (Some everything) (set words place value) r (subst (λ (n : ℕ). r.index < 128 * n) (sym (nb_stays words place value low)) s.slot)
     (get_or-set_other words place (3 + r.index) value 0 (λ e. ⊎_elim (λ two. omega arith) (λ far. omega arith) outside) ∙ s.word refl)) rows all
 
 -- the kinds that the rows show, after a caller's pass has changed to one with as much to write
 pub shown_set : (state : List Area) (passes : List Pass) (worker : ℕ) (p q : Pass) (kinds : ℕ → Option Kind)
-    → get_elem? passes worker ≡ some p → q.pending ≡ p.pending → IsShown state passes kinds
-    → IsShown state (set passes worker q) kinds
+    → get_elem? passes worker ≡ some p → q.pending ≡ p.pending → IsShown state passes kinds → IsShown state (set passes worker q) kinds
 shown_set state passes worker p q kinds at same s = record {
   lagging = λ other x there. ⊎_elim
       (λ t. subst (λ (y : Pass). ShowsBefore y.pending kinds) t.1 (subst (λ (z : Pending). ShowsBefore z kinds) (sym same) (s.lagging worker p at)))
-      (λ t. s.lagging other x t.1)
-      (at_set passes worker other q x there);
-  elsewhere = λ page free. s.elsewhere page (λ other x there lags. dite (ℕ_discrete other worker)
-      (λ is.
+      (λ t. s.lagging other x t.1) (at_set passes worker other q x there);
+  elsewhere = λ page free. s.elsewhere page (λ other x there lags. dite (ℕ_discrete other worker) (λ is.
       let mine : x ≡ p = some-injective x p (sym there ∙ (ap (get_elem? passes) is ∙ at)) in
       free worker q (set_here passes worker q (below passes worker p at))
       (subst (λ (z : Pending). LagsAt z page) (ap (λ (y : Pass). y.pending) mine ∙ sym same) lags))

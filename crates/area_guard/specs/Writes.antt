@@ -40,8 +40,7 @@ pub everything_pages : HasPages everything
 everything_pages = (omega arith, omega arith)
 
 pub clash : (grants : Grants) (worker other : ℕ) → IsExclusive grants → other ≢ worker → Holds grants worker everything → HoldsPages grants other → ⊥
-clash grants worker other exclusive differ held h = let some_page = h.2.0 in let few = h.2.1 in
-    exclusive worker other everything h.0 (λ e. differ (sym e)) held h.1 ((omega arith, omega arith), inl refl)
+clash grants worker other exclusive differ held h = exclusive worker other everything h.0 (λ e. differ (sym e)) held h.1 ((omega arith, omega arith), inl refl)
 
 -- a span that is held has pages alone
 pub span_pages : (span : Span) → HasPages (alone span)
@@ -55,8 +54,7 @@ others_blank grants words state worker other x exclusive differ held b =
 
 -- nobody else's pages lag behind
 others_shown : (grants : Grants) (state : List Areas) (worker other : ℕ) (pending : Pending) (kinds : ℕ → Option Kind)
-    → IsExclusive grants → other ≢ worker → Holds grants worker everything → Backs grants state other pending
-    → ShowsBefore pending kinds
+    → IsExclusive grants → other ≢ worker → Holds grants worker everything → Backs grants state other pending → ShowsBefore pending kinds
 others_shown grants state worker other AtRest kinds exclusive differ held b = tt
 others_shown grants state worker other (Planned plan) kinds exclusive differ held b = tt
 others_shown grants state worker other (OneRow c) kinds exclusive differ held b =
@@ -116,7 +114,7 @@ module _ (grants : Grants) (start : List Areas) (history : List Entry) (state : 
       let some_one : 0 < planned_count (set passes worker q) = let least = planned_le passes worker p at in
       let t = planned_of p.pending plan pends in omega arith in
       record {
-        callers = let c = r.callers in omega arith;
+        callers = omega arith;
         runs = r.runs;
         calls = r.calls;
         replies = r.replies;
@@ -127,13 +125,11 @@ module _ (grants : Grants) (start : List Areas) (history : List Entry) (state : 
         number = number_stays words place value (omega arith) (λ e. omega arith) ∙ r.number;
         sequence = ap (λ n. n + planned_count (set passes worker q)) (get_or-set_other words place 1 value 0 (λ e. omega arith))
             ∙ (ap (λ n. slice_index words 1 + n) pending ∙ r.sequence);
-        small = let m = most_set passes worker p q at may in let f = r.small in omega arith;
+        small = let m = most_set passes worker p q at may in omega arith;
         room = room_kept words (set words place value) (row_count start) passes worker p q at may (nb_stays words place value (omega arith)) r.room;
         rows = λ none. absurd (omega arith);
-        parts = λ other x there. ⊎_elim
-            (λ t. subst (λ (z : ℕ × Pass). IsPart start history (set words place value) z.0 z.1) (λ i. (sym t.0 i, t.1 i)) part)
-            (λ t. other_part place value other x low t.0 t.1)
-            (at_set passes worker other q x there);
+        parts = λ other x there. ⊎_elim (λ t. subst (λ (z : ℕ × Pass). IsPart start history (set words place value) z.0 z.1) (λ i. (sym t.0 i, t.1 i)) part)
+            (λ t. other_part place value other x low t.0 t.1) (at_set passes worker other q x there);
         no_other = λ other le. r.no_other other (omega arith);
         total = r.total ∙ (let s = count_set passes worker p q 0 at (omega arith) in omega arith);
       }
@@ -146,9 +142,7 @@ module _ (grants : Grants) (start : List Areas) (history : List Entry) (state : 
         reads = inr (everything, plan_held.0, everything_pages);
         rows = λ held has. subst (λ (h : Option Held). All (StillStands h others) q.rows) (sym (held_is grants worker everything held plan_held.0 has)) stands;
         pending = backs;
-      }))
-      (λ t. blank_backed grants words others state other x (other_blank other x t.0 t.1) (backed other x t.1))
-      (at_set passes worker other q x there)
+      })) (λ t. blank_backed grants words others state other x (other_blank other x t.0 t.1) (backed other x t.1)) (at_set passes worker other q x there)
 
   pub stores_keep : (place value : ℕ) (after : Pass) → MayStore plan place value p after
       → IsRunningSpace start history state (set words place value) (set passes worker after)
@@ -186,8 +180,7 @@ module _ (grants : Grants) (start : List Areas) (history : List Entry) (state : 
   -- the sequence word is raised where the rows are written: nothing lags behind then
   shown_after : IsShown state (set passes worker (after_raise p)) (kind_at state)
   shown_after = record {
-    lagging = λ other x there. ⊎_elim
-        (λ t. subst (λ (y : Pass). ShowsBefore y.pending (kind_at state)) t.1 tt)
+    lagging = λ other x there. ⊎_elim (λ t. subst (λ (y : Pass). ShowsBefore y.pending (kind_at state)) t.1 tt)
         (λ t. others_shown grants state worker other x.pending (kind_at state) exclusive t.0 plan_held.0 (backed other x t.1).pending)
         (at_set passes worker other (after_raise p) x there);
     elsewhere = λ page free. refl;
@@ -203,7 +196,7 @@ module _ (grants : Grants) (start : List Areas) (history : List Entry) (state : 
       let one = planned_of p.pending plan pends in
       let pending : planned_count (set passes worker q) + 1 ≡ planned_count passes = let s = planned_set passes worker p q at in omega arith in
       record {
-        callers = let c = r.callers in omega arith;
+        callers = omega arith;
         runs = r.runs;
         calls = r.calls;
         replies = r.replies;
@@ -214,13 +207,11 @@ module _ (grants : Grants) (start : List Areas) (history : List Entry) (state : 
         number = number_stays words 1 value (omega arith) (λ e. omega arith) ∙ r.number;
         sequence = let g : slice_index (set words 1 value) 1 ≡ value = get_or-set_same words 1 value 0 there in
             let s = r.sequence in let f = whole_few history in let w = no_wrap start history state words passes r in omega arith;
-        small = let m = most_set passes worker p q at refl in let f = r.small in omega arith;
+        small = let m = most_set passes worker p q at refl in omega arith;
         room = room_kept words (set words 1 value) (row_count start) passes worker p q at refl (nb_stays words 1 value (omega arith)) r.room;
         rows = λ none. (kind_at state, shown_after, rows_beside words 1 value (kind_at state) (inl (omega arith)) (omega arith) written);
-        parts = λ other x there. ⊎_elim
-            (λ t. subst (λ (z : ℕ × Pass). IsPart start history (set words 1 value) z.0 z.1) (λ i. (sym t.0 i, t.1 i))
-            (raised_after start history state words worker p (r.parts worker p at) value))
-            (λ t. other_part 1 value other x (omega arith) t.0 t.1)
+        parts = λ other x there. ⊎_elim (λ t. subst (λ (z : ℕ × Pass). IsPart start history (set words 1 value) z.0 z.1) (λ i. (sym t.0 i, t.1 i))
+            (raised_after start history state words worker p (r.parts worker p at) value)) (λ t. other_part 1 value other x (omega arith) t.0 t.1)
             (at_set passes worker other q x there);
         no_other = λ other le. r.no_other other (omega arith);
         total = r.total ∙ (let s = count_set passes worker p q 0 at (omega arith) in omega arith);

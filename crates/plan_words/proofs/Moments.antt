@@ -19,10 +19,8 @@ use Rattle.area_guard.specs.History.{IsPart, Backs, HasHistory, Here}
 pub stands : (held : Option Held) (words : List ℕ) (rows : List ReadRow) (i w : ℕ) → All (StillStands held words) rows
     → HasRead rows i w → StillStands held words (record { index = i; word = w })
 stands held words [] i w all h = absurd h
-stands held words (r ∷ rest) i w all h = ⊎_elim
-    (λ t. subst (λ (z : ℕ × ℕ). StillStands held words (record { index = z.0; word = z.1 })) (λ k. (t.0 k, t.1 k))
-    (All-head (StillStands held words) r rest all))
-    (λ t. stands held words rest i w (All-tail (StillStands held words) r rest all) t) h
+stands held words (r ∷ rest) i w all h = ⊎_elim (λ t. subst (λ (z : ℕ × ℕ). StillStands held words (record { index = z.0; word = z.1 })) (λ k. (t.0 k, t.1 k))
+    (All-head (StillStands held words) r rest all)) (λ t. stands held words rest i w (All-tail (StillStands held words) r rest all) t) h
 
 -- the caller's moment, as the guard speaks of it
 abbrev pub here_at : {grants : Grants} {words : List ℕ} {passes : List Pass} {seat : ℕ} {held : Option Held} {pass : Pass}
@@ -48,5 +46,4 @@ module _ (grants : Grants) (words : List ℕ) (passes : List Pass) (worker : ℕ
 
   -- where it holds everything the word of each slot that it has read stands there
   pub rows_at : Holds grants worker everything → (slot word : ℕ) → HasRead pass.rows slot word → slice_index words (3 + slot) ≡ word
-  rows_at holds slot word has =
-      (stands (Some everything) words pass.rows slot word ((kept.4 worker pass own).rows (Some everything) holds) has).word refl
+  rows_at holds slot word has = (stands (Some everything) words pass.rows slot word ((kept.4 worker pass own).rows (Some everything) holds) has).word refl

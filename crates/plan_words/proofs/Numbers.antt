@@ -18,8 +18,7 @@ pub record IsRowPlace (nb : ℕ) (pass : Pass) (at : Position) : Type 0 where
   pub number : rank nb (known_words pass) at.block at.place ≡ number_at pass at
 
 by_tests : (pass : Pass) (at : Position) (a b : Bool) → nat_lt at.block (blocks_of pass.blocks (known_words pass)) ≡ a
-    → nat_le at.place (rows_of pass.blocks (known_words pass) at.block) ≡ b
-    → number_at pass at < length (known_rows pass) → IsRowPlace pass.blocks pass at
+    → nat_le at.place (rows_of pass.blocks (known_words pass) at.block) ≡ b → number_at pass at < length (known_rows pass) → IsRowPlace pass.blocks pass at
 unfolding number_in
 by_tests pass at true true x y lt =
     let e : number_at pass at ≡ rank pass.blocks (known_words pass) at.block at.place =
@@ -38,10 +37,8 @@ by_tests pass at false b x y lt =
 -- a number below the number of rows is that of a row
 pub row_place : (pass : Pass) (at : Position) {nb : ℕ} {rows : List ℕ} → pass.blocks ≡ nb → known_rows pass ≡ rows → number_at pass at < length rows
     → IsRowPlace nb pass at
-row_place pass at blocks are lt = subst (λ (n : ℕ). IsRowPlace n pass at) blocks
-    (by_tests pass at (nat_lt at.block (blocks_of pass.blocks (known_words pass)))
-    (nat_le at.place (rows_of pass.blocks (known_words pass) at.block)) refl refl
-    (subst (λ (l : List ℕ). number_at pass at < length l) (sym are) lt))
+row_place pass at blocks are lt = subst (λ (n : ℕ). IsRowPlace n pass at) blocks (by_tests pass at (nat_lt at.block (blocks_of pass.blocks (known_words pass)))
+    (nat_le at.place (rows_of pass.blocks (known_words pass) at.block)) refl refl (subst (λ (l : List ℕ). number_at pass at < length l) (sym are) lt))
 
 -- what a splice of the known rows leaves is what the plan does
 pub written_rows : (old new : Pass) (plan : Splice) {nb r : ℕ} (gone : ℕ) {more : List ℕ} → old.blocks ≡ nb → new.blocks ≡ old.blocks
@@ -51,5 +48,4 @@ written_rows old new plan {nb} {r} gone blocks same are first end comes spliced 
     let stood : rows_by nb (known_words old) ≡ plan.old = ap (λ (n : ℕ). rows_by n (known_words old)) (sym blocks) ∙ are in
     let begins : r ≡ plan.first = sym first in
     let ends : r + gone ≡ plan.end = omega arith in
-    ap (λ (n : ℕ). rows_by n (known_words new)) (same ∙ blocks)
-    ∙ (spliced ∙ (λ i. splice (stood i) (begins i) (ends i) (comes i)))
+    ap (λ (n : ℕ). rows_by n (known_words new)) (same ∙ blocks) ∙ (spliced ∙ (λ i. splice (stood i) (begins i) (ends i) (comes i)))

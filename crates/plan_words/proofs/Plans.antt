@@ -18,8 +18,8 @@ use Rattle.row_blocks.proofs.RowSplices.{length-splice}
 -- rows that show kinds from a page on start there or behind it
 start_above : (page : ℕ) (rows : List ℕ) (kinds : ℕ → Option Kind) (n : ℕ) → ShowFrom page rows kinds → n < length rows → page ≤ row_start (get_or rows n 0)
 start_above page [] kinds n s lt = absurd (omega arith)
-start_above page (w ∷ rest) kinds zero s lt = let e = s.0 in omega arith
-start_above page (w ∷ rest) kinds (suc n) s lt = let up = s.1 in let r = start_above (rows_start rest) rest kinds n s.4 (omega arith) in omega arith
+start_above page (w ∷ rest) kinds zero s lt = omega arith
+start_above page (w ∷ rest) kinds (suc n) s lt = let r = start_above (rows_start rest) rest kinds n s.4 (omega arith) in omega arith
 
 -- and those behind the first one start behind it
 start_behind : (page : ℕ) (rows : List ℕ) (kinds : ℕ → Option Kind) (n : ℕ) → ShowFrom page rows kinds → 0 < n → n < length rows
@@ -27,7 +27,7 @@ start_behind : (page : ℕ) (rows : List ℕ) (kinds : ℕ → Option Kind) (n :
 start_behind page [] kinds n s some_row lt = absurd (omega arith)
 start_behind page (w ∷ rest) kinds zero s some_row lt = absurd (omega arith)
 start_behind page (w ∷ rest) kinds (suc n) s some_row lt =
-    let up = s.1 in let r = start_above (rows_start rest) rest kinds n s.4 (omega arith) in omega arith
+    let r = start_above (rows_start rest) rest kinds n s.4 (omega arith) in omega arith
 
 -- the first of rows that show kinds starts where they do
 start_first : (page : ℕ) (rows : List ℕ) (kinds : ℕ → Option Kind) → ShowFrom page rows kinds → 0 < length rows → row_start (get_or rows 0 0) ≡ page
@@ -48,11 +48,8 @@ module _ (rows more : List ℕ) (call : Call) (reply : Reply) (count p gone : �
         let from : p + gone ≡ gone = omega arith in
         let is : splice rows p (p + gone) more ≡ drop gone rows = λ i. splice rows (no_first i) (from i) (no_more i) in
         let at : gone + 0 ≡ gone = omega arith in
-        let first : row_start (get_or rows gone 0) ≡ 0 =
-        ap (λ (n : ℕ). row_start (get_or rows n 0)) (sym at)
-        ∙ (ap row_start (sym (get_or-drop gone rows 0 0))
-        ∙ (ap (λ (l : List ℕ). row_start (get_or l 0 0)) (sym is)
-        ∙ start_first 0 (splice rows p (p + gone) more) (kind_at plan.left) plan.shows.show left)) in
+        let first : row_start (get_or rows gone 0) ≡ 0 = ap (λ (n : ℕ). row_start (get_or rows n 0)) (sym at) ∙ (ap row_start (sym (get_or-drop gone rows 0 0))
+        ∙ (ap (λ (l : List ℕ). row_start (get_or l 0 0)) (sym is) ∙ start_first 0 (splice rows p (p + gone) more) (kind_at plan.left) plan.shows.show left)) in
         let later = start_behind 0 rows (kind_at (areas_from rows)) gone list.show (omega arith) (omega arith) in
         absurd (omega arith)
   ]

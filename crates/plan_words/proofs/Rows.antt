@@ -37,13 +37,11 @@ module _ (seat : ℕ) {held : Option Held} {pass : Pass} (plan : Splice) (all : 
   -- the rows that are written show the last state
   written_shows : (grants : Grants) (words : List ℕ) (passes : List Pass) (kept : HasHistory grants words passes)
       → get_elem? grants seat ≡ some held → get_elem? passes seat ≡ some pass → KnowsBlocks pass
-      → known_rows pass ≡ rows_after plan → known_count pass ≡ length (rows_after plan)
-      → RowsShow words (kind_at kept.2)
+      → known_rows pass ≡ rows_after plan → known_count pass ≡ length (rows_after plan) → RowsShow words (kind_at kept.2)
   written_shows grants words passes kept grant own b has counted =
       let part = part_at grants words passes seat pass kept own in
       let shows = (backs_at grants words passes seat pass kept own plan planned).1 in
       let nb = part.room.0 in
-      let wide = part.room.1 in
       let blocks : List ℕ = drop 3 words in
       let long = length-drop 3 words in
       let fits : 129 * pass.blocks + 1 ≤ length blocks = omega arith in
@@ -51,16 +49,14 @@ module _ (seat : ℕ) {held : Option Held} {pass : Pass} (plan : Splice) (all : 
       λ (t : ℕ) lt. get_or-drop 3 words t 0 ∙ sym (word_now seat all k grants words passes kept grant own t lt) in
       let laid = also_laid blocks b.laid fits same in
       let laid_now : IsLaidOut (nb_in words) blocks = subst (λ (n : ℕ). IsLaidOut n blocks) nb laid in
-      let rows : rows_in words ≡ rows_after plan = ap (λ (n : ℕ). rows_by n blocks) (sym nb)
-      ∙ (also_rows blocks b.laid fits same ∙ has) in
-      let stands : slice_index words 2 ≡ length (rows_after plan) =
-      sym (count_now seat all k grants words passes kept grant own) ∙ counted in
-      let slots : length (slots_in words) ≡ length (rows_in words) = ap length (slots_as words wide laid_now)
+      let rows : rows_in words ≡ rows_after plan = ap (λ (n : ℕ). rows_by n blocks) (sym nb) ∙ (also_rows blocks b.laid fits same ∙ has) in
+      let stands : slice_index words 2 ≡ length (rows_after plan) = sym (count_now seat all k grants words passes kept grant own) ∙ counted in
+      let slots : length (slots_in words) ≡ length (rows_in words) = ap length (slots_as words part.room.1 laid_now)
       ∙ (length-slots_in (nb_in words) blocks ∙ sym (length-rows_in (nb_in words) blocks laid_now)) in
       record {
-        room = wide;
-        some = let some_row = shows.some in omega arith;
-        few = let few = shows.few in omega arith;
+        room = part.room.1;
+        some = omega arith;
+        few = omega arith;
         show = subst (λ (l : List ℕ). ShowFrom 0 l (kind_at kept.2)) (sym rows) shows.show;
         gaps = subst (All IsBareGap) (sym rows) shows.gaps;
         laid = laid_now;
@@ -83,8 +79,7 @@ all_one_of rows = All-from_get_or (IsOneOf rows) rows 0 (λ j lt.
 
 -- the rows that stood are rows of the splice
 pub old_rows : (plan : Splice) {rows : List ℕ} → rows ≡ plan.old → All (IsPlanRow plan) rows
-old_rows plan is = subst (All (IsPlanRow plan)) (sym is)
-    (All-weaker (IsOneOf plan.old) (IsPlanRow plan) (λ w one. inl one) plan.old (all_one_of plan.old))
+old_rows plan is = subst (All (IsPlanRow plan)) (sym is) (All-weaker (IsOneOf plan.old) (IsPlanRow plan) (λ w one. inl one) plan.old (all_one_of plan.old))
 
 -- and so are those that come
 pub more_rows : (plan : Splice) {rows : List ℕ} → rows ≡ plan.more → plan.first ≤ length plan.old → All (IsPlanRow plan) rows
@@ -98,8 +93,7 @@ more_rows plan is inside =
     let all : All (IsOneOf (rows_after plan)) (take (length plan.more) (drop plan.first (rows_after plan))) =
     All-take (IsOneOf (rows_after plan)) (length plan.more) (drop plan.first (rows_after plan))
     (All-drop (IsOneOf (rows_after plan)) plan.first (rows_after plan) (all_one_of (rows_after plan))) in
-    subst (All (IsPlanRow plan)) (sym is)
-    (All-weaker (IsOneOf (rows_after plan)) (IsPlanRow plan) (λ w one. inr one) plan.more
+    subst (All (IsPlanRow plan)) (sym is) (All-weaker (IsOneOf (rows_after plan)) (IsPlanRow plan) (λ w one. inr one) plan.more
     (subst (All (IsOneOf (rows_after plan))) here all))
 
 -- where no row goes and none comes the rows after a splice are those before it

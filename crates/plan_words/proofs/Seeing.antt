@@ -30,8 +30,8 @@ pub seen_words : (words : List ℕ) (p : Pass) → HasBlocks words p.blocks → 
 seen_words words p room = record {
   layout = layout_in words;
   laid = refl;
-  long = let l = layout_long words room.1 in let b = room.0 in omega arith;
-  slots = λ slot lt. let b = room.0 in let e : 0 + slot ≡ slot = omega arith in (
+  long = let l = layout_long words room.1 in omega arith;
+  slots = λ slot lt. let e : 0 + slot ≡ slot = omega arith in (
     slice_index words (3 + slot),
     subst (λ (m : ℕ). HasRead (after_seen words p).rows m (slice_index words (3 + m))) e (noted_run words p.rows 0 (128 * nb_in words) slot (omega arith)),
   );

@@ -65,8 +65,7 @@ has_later words (s ∷ rest) rows i w h = inr (has_later words rest rows i w h)
 
 -- what a load of a word of the blocks leaves
 load_learns : {own : Option Held → Type 0} {free held : Type 0} {words : List ℕ} {history : List Entry} (place : ℕ) {p after : Pass}
-    → place < 129 * p.blocks + 1 → HasBlocks words p.blocks → KnowsWords p → MayLoad own free held words history (3 + place) p after
-    → Learns p after
+    → place < 129 * p.blocks + 1 → HasBlocks words p.blocks → KnowsWords p → MayLoad own free held words history (3 + place) p after → Learns p after
 load_learns place lt room k (number h o e is) = absurd (omega arith)
 load_learns place lt room k (glance f e is) = absurd (omega arith)
 load_learns place lt room k (sequence h e is) = absurd (omega arith)
@@ -77,7 +76,7 @@ load_learns {words} place {p} lt room k (layout h at is) = record {
   all = record {
     layout = layout_in words;
     laid = refl;
-    long = let l = layout_long words room.1 in let b = room.0 in omega arith;
+    long = let l = layout_long words room.1 in omega arith;
     slots = λ slot few. let r = k.slots slot few in (r.0, has_later words (slots_to (nb_in words)) p.rows slot r.0 r.1);
   };
 }
@@ -133,17 +132,11 @@ store_learns {value} {p} k (store_row i slot e v is) = record {
     layout = k.layout;
     laid = k.laid;
     long = k.long;
-    slots = λ s lt. dite (ℕ_discrete s i)
-        (λ same. (value, inl (sym same, refl)))
+    slots = λ s lt. dite (ℕ_discrete s i) (λ same. (value, inl (sym same, refl)))
         (λ differ. let r = k.slots s lt in (r.0, inr (has_others i s r.0 p.rows differ r.1)));
   };
 }
-store_learns {value} {p} k (store_count e v is) = record {
-  laid = laid_with 0 value p.laid;
-  rows = p.rows;
-  is = is;
-  all = laid_learns 0 value k;
-}
+store_learns {value} {p} k (store_count e v is) = record { laid = laid_with 0 value p.laid; rows = p.rows; is = is; all = laid_learns 0 value k }
 store_learns {value} {p} k (store_layout i few e is) = record {
   laid = laid_with (suc i) value p.laid;
   rows = p.rows;
@@ -211,7 +204,7 @@ module _ (seat : ℕ) {held : Option Held} {pass : Pass} (all : held ≡ Some ev
           (
             here,
             may_write words (3 + place) value (after_layout (suc index) value pass) (store_layout index (omega arith) (omega arith) refl)
-                (λ used. absurd (⊎_elim (λ two. omega arith) (λ t. let at = t.1 in let few = t.2 in omega arith) used)),
+                (λ used. absurd (⊎_elim (λ two. omega arith) (λ t. omega arith) used)),
           ),
         )
 
@@ -234,40 +227,14 @@ one_more {a} {b} call since = let t : b.trace.taken ≡ a.trace.taken + 1 = ap (
 
 -- a step on a word of the blocks, or on the row count, is a writing
 step_writes : {a b : SeatState Pass} {place : ℕ} → IsClientCall a place b → Learns a.pass b.pass → IsWriting a b
-step_writes {a} {b} call l = record {
-  table = call.table;
-  number = call.number;
-  held = call.held;
-  pools = call.pools;
-  further = call.further;
-  start = ap (λ (x : Pass). x.start) l.is;
-  blocks = ap (λ (x : Pass). x.blocks) l.is;
-  most = ap (λ (x : Pass). x.most) l.is;
-  seen = ap (λ (x : Pass). x.seen) l.is;
-  mine = ap (λ (x : Pass). x.mine) l.is;
-  drew = ap (λ (x : Pass). x.drew) l.is;
-  looks = ap (λ (x : Pass). x.looks) l.is;
-  pending = ap (λ (x : Pass). x.pending) l.is;
-  taken = let t : b.trace.taken ≡ a.trace.taken + 1 = ap (λ (r : Record). r.taken) call.trace in omega arith;
-  counted = one_more call (ap (λ (x : Pass). x.since) l.is);
-  asked = ap (λ (r : Record). r.asked) call.trace;
-}
+step_writes call l = let taken = ap (λ (r : Record). r.taken) call.trace in let asked = ap (λ (r : Record). r.asked) call.trace in grind (arith, l.is)
 
 -- the seat holds and knows the words still, and has its splice to write
 pub holds_on : {table : TableShape} {a b : SeatState Pass} → HoldsWords table a → IsWriting a b → KnowsWords b.pass → HoldsWords table b
-holds_on p w k = let e = w.blocks in let wide = p.wide in let few = p.few in record {
-  wide = omega arith;
-  few = omega arith;
-  table_is = w.table ∙ p.table_is;
-  held = w.held ∙ p.held;
-  knows = k;
-}
+holds_on p w k = record { wide = omega arith; few = omega arith; table_is = w.table ∙ p.table_is; held = w.held ∙ p.held; knows = k }
 
 pub writes_on : {table : TableShape} {a b : SeatState Pass} → WritesPlan table a → IsWriting a b → HoldsWords table b → WritesPlan table b
-writes_on p w h = record {
-  holds = h;
-  pending = w.pending ∙ (p.pending ∙ ap Planned (ap splice_in (sym w.pending)));
-}
+writes_on p w h = record { holds = h; pending = w.pending ∙ (p.pending ∙ ap Planned (ap splice_in (sym w.pending))) }
 
 -- what a step of a seat that holds everything leaves
 pub record IsStep (table : TableShape) (a b : SeatState Pass) : Type 0 where
@@ -278,11 +245,7 @@ pub record IsStep (table : TableShape) (a b : SeatState Pass) : Type 0 where
 step_of : {table : TableShape} {a b : SeatState Pass} {place : ℕ} → HoldsWords table a → IsClientCall a place b → Learns a.pass b.pass → IsStep table a b
 step_of w call l =
     let writing = step_writes call l in
-    record {
-      writing = writing;
-      holds = holds_on w writing (subst KnowsWords (sym l.is) l.all);
-      taken = ap (λ (r : Record). r.taken) call.trace;
-    }
+    record { writing = writing; holds = holds_on w writing (subst KnowsWords (sym l.is) l.all); taken = ap (λ (r : Record). r.taken) call.trace }
 
 -- a load of a word of the blocks
 pub record IsLoad (table : TableShape) (a b : SeatState Pass) (place found : ℕ) : Type 0 where
@@ -296,11 +259,9 @@ module _ {table : TableShape} {a : SeatState Pass} (b : SeatState Pass) (w : Hol
   -- where a step keeps the rule, each word that the seat knows stands there behind it
   after_now : (grants : Grants) (words : List ℕ) (passes : List Pass) → HasHistory grants words (set passes a.number b.pass)
       → get_elem? grants a.number ≡ some a.held → get_elem? passes a.number ≡ some a.pass → (s : IsStep table a b)
-      → ((t : ℕ) → t < 129 * a.pass.blocks + 1 → slice_index (known_words b.pass) t ≡ slice_index words (3 + t))
-      × (known_count b.pass ≡ slice_index words 2)
+      → ((t : ℕ) → t < 129 * a.pass.blocks + 1 → slice_index (known_words b.pass) t ≡ slice_index words (3 + t)) × (known_count b.pass ≡ slice_index words 2)
   after_now grants words passes kept grant own s =
-      let here = set_here passes a.number b.pass (below passes a.number a.pass own) in
-      let blocks = s.writing.blocks in (
+      let here = set_here passes a.number b.pass (below passes a.number a.pass own) in (
         λ t lt. word_now a.number w.held s.holds.knows grants words (set passes a.number b.pass) kept grant here t (omega arith),
         count_now a.number w.held s.holds.knows grants words (set passes a.number b.pass) kept grant here,
       )
@@ -371,8 +332,6 @@ module _ {table : TableShape} {a b : SeatState Pass} (w : WritesPlan table a) (v
   word_stored place lt call made =
       let s = stored call made in
       let words = made.1 in
-      let nb = s.room.0 in
-      let wide = s.room.1 in
       record {
         step = s.step;
         words_are = set_known place w.holds.knows s.step.holds.knows s.step.writing.blocks lt
@@ -386,13 +345,11 @@ module _ {table : TableShape} {a b : SeatState Pass} (w : WritesPlan table a) (v
       → IsStore table a b (known_words a.pass) value
   count_stored call made =
       let s = stored call made in
-      let words = made.1 in
-      let wide = s.room.1 in
       record {
         step = s.step;
         words_are = same_known w.holds.knows s.step.holds.knows s.step.writing.blocks
-            (λ t few. s.after t few ∙ (get_or-set_other words 2 (3 + t) value 0 (λ e. omega arith) ∙ sym (s.before t few)));
-        count_is = s.counts ∙ get_or-set_same words 2 value 0 (omega arith);
+            (λ t few. s.after t few ∙ (get_or-set_other made.1 2 (3 + t) value 0 (λ e. omega arith) ∙ sym (s.before t few)));
+        count_is = s.counts ∙ get_or-set_same made.1 2 value 0 (omega arith);
       }
 
 raise_after : {grants : Grants} {words : List ℕ} {passes : List Pass} {worker : ℕ} {here : Here grants words passes worker} {after : Pass}
@@ -436,10 +393,10 @@ written_on f g = record {
   rest = g.rest;
   step = g.step;
   client = g.client;
-  since = let l = f.taken in let m = g.since in omega arith;
+  since = omega arith;
   until = g.until;
   last = g.last;
-  counted = let l = f.counted in let m = g.counted in omega arith;
+  counted = omega arith;
   asked = g.asked ∙ f.asked;
   start = g.start ∙ f.start;
   blocks = g.blocks ∙ f.blocks;

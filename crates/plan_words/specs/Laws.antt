@@ -12,45 +12,11 @@ HasWritten before after = IsWriting before after × (known_count after.pass ≡ 
 
 -- no step at all is a writing
 pub no_writing : (a : SeatState Pass) → IsWriting a a
-no_writing a = record {
-  table = refl;
-  number = refl;
-  held = refl;
-  pools = refl;
-  further = refl;
-  start = refl;
-  blocks = refl;
-  most = refl;
-  seen = refl;
-  mine = refl;
-  drew = refl;
-  looks = refl;
-  pending = refl;
-  taken = omega arith;
-  counted = refl;
-  asked = refl;
-}
+no_writing a = search arith
 
 -- one after another is one
 pub writing_on : (a b c : SeatState Pass) → IsWriting a b → IsWriting b c → IsWriting a c
-writing_on a b c f g = record {
-  table = g.table ∙ f.table;
-  number = g.number ∙ f.number;
-  held = g.held ∙ f.held;
-  pools = g.pools ∙ f.pools;
-  further = g.further ∙ f.further;
-  start = g.start ∙ f.start;
-  blocks = g.blocks ∙ f.blocks;
-  most = g.most ∙ f.most;
-  seen = g.seen ∙ f.seen;
-  mine = g.mine ∙ f.mine;
-  drew = g.drew ∙ f.drew;
-  looks = g.looks ∙ f.looks;
-  pending = g.pending ∙ f.pending;
-  taken = let l = f.taken in let m = g.taken in omega arith;
-  counted = let l = f.counted in let m = g.counted in omega arith;
-  asked = g.asked ∙ f.asked;
-}
+writing_on a b c f g = grind arith
 
 -- the same with the row count
 pub no_writing_at : (a : SeatState Pass) → HasWritten a a

@@ -62,37 +62,11 @@ keeps_on a b c f g = record {
 
 -- steps that read words, one after another, are such steps
 pub reading_on : (a b c : SeatState Pass) → IsReading a b → IsReading b c → IsReading a c
-reading_on a b c f g = record {
-  table = g.table ∙ f.table;
-  number = g.number ∙ f.number;
-  held = g.held ∙ f.held;
-  pools = g.pools ∙ f.pools;
-  further = g.further ∙ f.further;
-  start = g.start ∙ f.start;
-  seen = g.seen ∙ f.seen;
-  mine = g.mine ∙ f.mine;
-  looks = g.looks ∙ f.looks;
-  taken = let l = f.taken in let m = g.taken in omega arith;
-  asked = g.asked ∙ f.asked;
-  read = keeps_on a.pass b.pass c.pass f.read g.read;
-}
+reading_on a b c f g = let read = keeps_on a.pass b.pass c.pass f.read g.read in search arith
 
 -- no step at all is a reading
 pub no_reading : (a : SeatState Pass) → IsReading a a
-no_reading a = record {
-  table = refl;
-  number = refl;
-  held = refl;
-  pools = refl;
-  further = refl;
-  start = refl;
-  seen = refl;
-  mine = refl;
-  looks = refl;
-  taken = omega arith;
-  asked = refl;
-  read = record { laid = λ layout e. e; rows = λ index word h. h; sequence = λ n e. e; pending = refl; blocks = refl };
-}
+no_reading a = search arith
 
 -- no load leaves all as it is
 pub no_load_all : (seat : SeatState Pass) → HasLoaded seat seat
@@ -100,14 +74,7 @@ no_load_all seat = record { reading = no_reading seat; blocks = refl; most = ref
 
 -- one load after another is a load
 pub loads_on_all : (one two three : SeatState Pass) → HasLoaded one two → HasLoaded two three → HasLoaded one three
-loads_on_all one two three f g = record {
-  reading = reading_on one two three f.reading g.reading;
-  blocks = g.blocks ∙ f.blocks;
-  most = g.most ∙ f.most;
-  same = g.same ∙ f.same;
-  count = g.count ∙ f.count;
-  knows = λ knows. g.knows (f.knows knows);
-}
+loads_on_all one two three f g = let reading = reading_on one two three f.reading g.reading in search (arith, f.knows, g.knows)
 
 -- the words and the blocks are the same together
 both_same : (one two : SeatState Pass) → HasLoaded one two

@@ -1,6 +1,6 @@
 -- What stands where the rows of a block were appended to the one before it.
 use Rattle.std.proofs.Common.{◌≡◌, ◌≢◌, ℕ, ◌+◌, ◌*◌, ◌/◌, ◌%◌, ◌<◌, ◌≤◌, List, ◌∷◌, ◌++◌, length, take, drop}
-use Rattle.std.proofs.Common.{ap, ◌∙◌, arith, inl, inr}
+use Rattle.std.proofs.Common.{ap, ◌∙◌, arith}
 use Rattle.std.specs.Prelude.{slice_index, slice_set}
 use Rattle.std.proofs.lemmas.List.{length-set, get_or-set_same, get_or-set_other}
 use Rattle.row_blocks.specs.Blocks.{blocks_of, rows_of, body_at, block, IsLaidOut}
@@ -30,12 +30,7 @@ is_appended {nb} {started} {middle} {i} same read behind was laid c stored = rec
 -- a row of the upper block doesn't stand where its head comes
 not_there : {nb : ℕ} {one : List ℕ} (i m : ℕ) → IsLaidOut nb one → i + 1 < blocks_of nb one → rows_of nb one i + 1 + rows_of nb one (i + 1) ≤ 127
     → m < rows_of nb one (i + 1) → body_at nb one (i + 1) + m ≢ body_at nb one i + rows_of nb one i
-not_there i m laid there room lt e =
-    let spare = laid.spare in
-    elim (elsewhere (i + 1) i m laid (omega arith) (omega arith) (λ q. omega arith) (omega arith)) [
-      | inl less ↦ omega arith
-      | inr over ↦ omega arith
-    ]
+not_there i m laid there room lt e = let away = elsewhere (i + 1) i m laid (omega arith) (omega arith) (λ q. omega arith) (omega arith) in omega arith
 
 -- the rows of the upper block stand as they stood once its head stands behind those of the lower one
 pub started_stays : {nb : ℕ} {one loaded started : List ℕ} (i : ℕ) {packed other : ℕ} (first m : ℕ) → IsLaidOut nb one → i + 1 < blocks_of nb one
@@ -45,8 +40,7 @@ pub started_stays : {nb : ℕ} {one loaded started : List ℕ} (i : ℕ) {packed
 started_stays {nb} {one} {loaded} i {packed} {other} first m laid there room same read behind lt laid_first =
     ap (λ (l : List ℕ). slice_index l (nb + 127 * (other / 128) + m)) laid_first
     ∙ (get_or-set_other loaded (nb + 127 * (packed / 128) + packed % 128) (nb + 127 * (other / 128) + m) first 0
-    (λ e. not_there i m laid there room (omega arith) (omega arith))
-    ∙ ap (λ (l : List ℕ). slice_index l (nb + 127 * (other / 128) + m)) same)
+    (λ e. not_there i m laid there room (omega arith) (omega arith)) ∙ ap (λ (l : List ℕ). slice_index l (nb + 127 * (other / 128) + m)) same)
 
 module _ {nb : ℕ} {one started middle two : List ℕ} {i : ℕ} (laid : IsLaidOut nb one) (there : i + 1 < blocks_of nb one)
     (room : rows_of nb one i + 1 + rows_of nb one (i + 1) ≤ 127) (a : IsAppended nb one started middle two i) where
@@ -59,7 +53,6 @@ module _ {nb : ℕ} {one started middle two : List ℕ} {i : ℕ} (laid : IsLaid
   -- only the lower block has changed
   pub append_only : OnlyBlock nb one two i
   append_only =
-      let s = laid.spare in
       only_block middle i (slice_index one (128 * nb + 1 + i) + (rows_of nb one (i + 1) + 1)) 0 laid (omega arith) long_middle a.told (omega arith)
       (λ t differ low. a.rest.below t (omega arith) ∙ started_other t (λ e. omega arith))
       (λ t high. a.rest.above t (omega arith) ∙ started_other t (λ e. omega arith))
@@ -86,8 +79,7 @@ module _ {nb : ℕ} {one started middle two : List ℕ} {i : ℕ} (laid : IsLaid
       let whole : block nb two i ≡ slice_index middle i ∷ take (n + (1 + m)) (drop at middle) =
       block_is middle i (slice_index one (128 * nb + 1 + i) + (m + 1)) (n + (1 + m)) laid (omega arith) lm a.told (omega arith) (omega arith) (omega arith) in
       let first : slice_index middle i ≡ slice_index one i = a.rest.below i (omega arith) ∙ started_other i (λ e. omega arith) in
-      let second : slice_index middle (at + n) ≡ head =
-      a.rest.below (at + n) (omega arith)
+      let second : slice_index middle (at + n) ≡ head = a.rest.below (at + n) (omega arith)
       ∙ (ap (λ (l : List ℕ). slice_index l (at + n)) a.head ∙ get_or-set_same one (at + n) head 0 (omega arith)) in
       let front : take n (drop at middle) ≡ take n (drop at one) = same_runs middle one at at n (omega arith) (omega arith) (λ k lt.
       a.rest.below (at + k) (omega arith) ∙ started_other (at + k) (λ e. omega arith)) in

@@ -1,7 +1,6 @@
 -- A few rows that come one after another.
-use Rattle.std.proofs.Common.{◌≡◌, ◌≢◌, ℕ, ◌+◌, ◌%◌, ◌<◌, ◌≤◌, List, [], ◌∷◌, ◌++◌, length, get_or, take}
-use Rattle.std.proofs.Common.{sym, ap, ◌∙◌, subst, arith, inl, inr}
-use Rattle.std.proofs.lemmas.Bool.{cases_lt}
+use Rattle.std.proofs.Common.{◌≡◌, ◌≢◌, ℕ, ◌+◌, ◌<◌, ◌≤◌, List, [], ◌∷◌, ◌++◌, length, get_or, take}
+use Rattle.std.proofs.Common.{sym, ap, ◌∙◌, arith}
 use Rattle.std.specs.List.{splice}
 use Rattle.std.proofs.lemmas.List.{take_more, length-take-le}
 use Rattle.row_blocks.specs.Blocks.{rows_of, told}
@@ -19,17 +18,9 @@ comes_on R more r k {at} {w} there some was comes place word =
     let behind : splice (splice R r r u) (r + length u) (r + length u + 0) (w ∷ []) ≡ splice R r (r + 0) (u ++ (w ∷ [])) =
     splice_behind R u (w ∷ []) r r 0 there in
     let last : take (k + 1) more ≡ u ++ (get_or more k 0 ∷ []) = take_more more k 0 some in
-    comes
-    ∙ ((λ j. splice (was j) (here j) (end j) (w ∷ []))
-    ∙ (behind ∙ ((λ j. splice R r (zero j) (u ++ (word j ∷ []))) ∙ ap (splice R r r) (sym last))))
+    comes ∙ ((λ j. splice (was j) (here j) (end j) (w ∷ [])) ∙ (behind ∙ ((λ j. splice R r (zero j) (u ++ (word j ∷ []))) ∙ ap (splice R r r) (sym last))))
 
 -- block 0 has at most 64 rows still
 pub stays_short : (nb : ℕ) (two three : List ℕ) (i m : ℕ) → 0 < nb → (i ≡ 0 → rows_of nb two 0 + m < 64) → rows_of nb two 0 < 64
     → rows_of nb three i ≡ rows_of nb two i + m → ((k : ℕ) → k < nb → k ≢ i → told nb three k ≡ told nb two k) → rows_of nb three 0 < 64
-stays_short nb two three i m some first short grown others = elim (cases_lt 0 i) [
-  | inl more ↦ let e : rows_of nb three 0 ≡ rows_of nb two 0 = ap (λ (x : ℕ). x % 128) (others 0 some (λ q. omega arith)) in omega arith
-  | inr none ↦
-      let z : i ≡ 0 = omega arith in
-      let e : rows_of nb three 0 ≡ rows_of nb two 0 + m = subst (λ (n : ℕ). rows_of nb three n ≡ rows_of nb two n + m) z grown in
-      let f = first z in omega arith
-]
+stays_short nb two three i m some first short grown others = grind (arith, others 0)

@@ -1,6 +1,6 @@
 -- How many rows the first blocks have, and where the row of a place stands.
 use Rattle.std.proofs.Common.{◌≡◌, ℕ, zero, suc, ◌+◌, ◌-◌, ◌<◌, ◌≤◌, List, length}
-use Rattle.std.proofs.Common.{sym, refl, ap, ◌∙◌, subst, arith, inl, inr}
+use Rattle.std.proofs.Common.{sym, refl, ap, subst, arith, inl, inr}
 use Rattle.std.specs.Prelude.{slice_index, slice_set}
 use Rattle.std.proofs.lemmas.Bool.{cases_lt}
 use Rattle.row_blocks.specs.Blocks.{blocks_of, rows_of, slots_in, rows_in, count_to, rank, IsLaidOut}
@@ -28,14 +28,7 @@ count_up nb words i (suc n) le = elim (cases_lt i (suc n)) [
 -- where rows stand behind the first blocks, there is one more
 pub block_there : {nb : ℕ} {words : List ℕ} (i : ℕ) → IsLaidOut nb words → i ≤ blocks_of nb words → count_to nb words i < length (rows_in nb words)
     → i < blocks_of nb words
-block_there {nb} {words} i laid le more = elim (cases_lt i (blocks_of nb words)) [
-  | inl lt ↦ lt
-  | inr ge ↦
-      let e : i ≡ blocks_of nb words = omega arith in
-      let l = length-rows_in nb words laid in
-      let c : count_to nb words i ≡ count_to nb words (blocks_of nb words) = ap (count_to nb words) e in
-      absurd (omega arith)
-]
+block_there {nb} {words} i laid le more = let l = length-rows_in nb words laid in grind arith
 
 -- and where a row stands behind one block
 pub next_there : {nb : ℕ} {words : List ℕ} {b p : ℕ} → IsLaidOut nb words → b < blocks_of nb words → p ≤ rows_of nb words b + 1 → rows_of nb words b < p
@@ -47,16 +40,11 @@ pub set_there : {nb : ℕ} {words : List ℕ} {i j s : ℕ} (w : ℕ) → IsLaid
     → rows_in nb (slice_set words s w) ≡ slice_set (rows_in nb words) (rank nb words i j) w
 set_there {nb} {words} {i} {j} {s} w laid is =
     let k : ℕ = count_to nb words i + j in
-    let there = is.there in
-    let below = is.below in
-    let q = at_slot nb words i j there below in
-    let same : slice_index (slots_in nb words) k ≡ s = elim (cases_lt 0 j) [
-      | inl some ↦ let a = q.body some in let b = is.body some in omega arith
-      | inr none ↦ let z : j ≡ 0 = omega arith in q.head z ∙ sym (is.head z)
-    ] in
+    let q = at_slot nb words i j is.there is.below in
+    let same : slice_index (slots_in nb words) k ≡ s = grind (arith, q.body, q.head, is.body, is.head) in
     let long = length-slots_in nb words in
     let rows = length-rows_in nb words laid in
-    let lt = within nb words i laid there j below in
+    let lt = within nb words i laid is.there j is.below in
     subst (λ (t : ℕ). rows_in nb (slice_set words t w) ≡ slice_set (rows_in nb words) k w) same (stored nb words k w laid (omega arith))
 
 -- where rows stand before a block, there is one before it

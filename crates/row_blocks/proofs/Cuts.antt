@@ -21,10 +21,7 @@ rest_gone nb one two i place cut there others less all =
 
 -- the first blocks have no more rows than all
 pub count_below : {nb : ℕ} {words : List ℕ} (i : ℕ) → IsLaidOut nb words → i ≤ blocks_of nb words → count_to nb words i ≤ length (rows_in nb words)
-count_below {nb} {words} i laid le =
-    let up = count_up nb words i (blocks_of nb words) le in
-    let l = length-rows_in nb words laid in
-    omega arith
+count_below {nb} {words} i laid le = let up = count_up nb words i (blocks_of nb words) le in let l = length-rows_in nb words laid in omega arith
 
 -- the first rows of a block have gone
 pub head_gone : (nb : ℕ) {one two : List ℕ} (three : List ℕ) (i left : ℕ) {end : ℕ} → i < nb → two ≡ one
@@ -81,7 +78,7 @@ cut_whole R {two} r gone zero c there le first then next =
 cut_whole R r gone (suc left) c there le first then next =
     let d : ℕ = suc left in
     let mid : ℕ = r + (gone - d) in
-    let here : c ≡ r + 0 = let e = next (omega arith) in omega arith in
+    let here : c ≡ r + 0 = omega arith in
     let all : mid + d ≡ r + gone = omega arith in
     let behind : splice (splice R r mid []) (r + 0) (r + 0 + d) [] ≡ splice R r (mid + d) [] = splice_behind R [] [] r mid d there in
     then ∙ ((λ j. splice (first j) (here j) (here j + d) []) ∙ (behind ∙ ap (λ (n : ℕ). splice R r n []) all))

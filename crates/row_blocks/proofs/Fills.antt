@@ -1,13 +1,11 @@
 -- Rows that are laid out block by block, block i in body i.
 use Rattle.std.proofs.Common.{◌≡◌, ◌≢◌, ℕ, suc, ◌+◌, ◌-◌, ◌*◌, ◌%◌, ◌<◌, ◌≤◌, List, [], ◌∷◌, ◌++◌, length, get_or, take, drop}
-use Rattle.std.proofs.Common.{sym, refl, ap, ◌∙◌, subst, arith, inl, inr}
+use Rattle.std.proofs.Common.{sym, ap, ◌∙◌, subst, arith, inl, inr}
 use Rattle.std.specs.Prelude.{slice_index, min}
 use Rattle.std.proofs.lemmas.Bool.{cases_lt}
 use Rattle.std.proofs.lemmas.List.{append_assoc, drop_more, take_more, length-append, length-drop, get_or-drop}
 use Rattle.std.proofs.Math.Seq.{take-add, take-length}
 use Rattle.std.proofs.Math.Nat.{mul-suc}
-use mathlib.Core.Logic.{dite}
-use native.Mathlib.Decide.{ℕ_discrete}
 use Rattle.row_blocks.specs.Blocks.{pieces, blocks_of, body_of, rows_of, body_at, block, rows_in, IsLaidOut}
 use Rattle.row_blocks.proofs.Pieces.{same_pieces, piece_ends}
 use Rattle.row_blocks.proofs.Puts.{same_runs, same_block, block_length}
@@ -36,15 +34,7 @@ pub record IsFilling (nb : ℕ) (one two rows : List ℕ) (i taken : ℕ) : Type
 pub nothing_laid : {nb : ℕ} {one two rows : List ℕ} → length two ≡ length one → ((k : ℕ) → k < nb → slice_index two (128 * nb + 1 + k) ≡ 128 * k)
     → ((s : ℕ) → s < 128 * nb + 1 → slice_index two s ≡ slice_index one s) → ((s : ℕ) → 129 * nb + 1 ≤ s → slice_index two s ≡ slice_index one s)
     → IsFilling nb one two rows 0 0
-nothing_laid {nb} long told below above = record {
-  long = long;
-  body = λ k lt. let t = told k lt in omega arith;
-  none = λ k le lt. let t = told k lt in omega arith;
-  laid = refl;
-  heads = λ s le lt. below s (omega arith);
-  bodies = λ k j lt le few. below (nb + 127 * k + j) (omega arith);
-  above = above;
-}
+nothing_laid {nb} long told below above = grind arith
 
 module _ {nb : ℕ} {one two three rows : List ℕ} {i taken count : ℕ} (wide : 129 * nb + 1 ≤ length one) (there : i < nb) (some : 0 < count)
     (most : count ≤ 128) (within : taken + count ≤ length rows) (before : IsFilling nb one two rows i taken)
@@ -57,18 +47,15 @@ module _ {nb : ℕ} {one two three rows : List ℕ} {i taken count : ℕ} (wide 
   rows_same k lt differ = ap (λ (x : ℕ). x % 128) (told_same k lt differ)
 
   body_now : (k : ℕ) → k < nb → body_of nb three k ≡ k
-  body_now k lt = dite (ℕ_discrete k i)
-      (λ same. subst (λ (m : ℕ). body_of nb three m ≡ m) (sym same) (let t = laid.told in omega arith))
-      (λ differ. let e = told_same k lt differ in let b = before.body k lt in omega arith)
+  body_now k lt = grind (arith, told_same k lt, before.body k lt)
 
   -- and this one so many behind its head
   pub rows_here : rows_of nb three i ≡ count - 1
-  rows_here = let t = laid.told in omega arith
+  rows_here = omega arith
 
   old_block : (k : ℕ) → k < i → block nb three k ≡ block nb two k
   old_block k lt =
       let b = before.body k (omega arith) in
-      let was = before.long in
       same_block nb two three k k (omega arith) laid.long (told_same k (omega arith) (λ e. omega arith)) (laid.heads k (omega arith) (λ e. omega arith))
       (λ m l. laid.below (body_at nb two k + m) (omega arith) (omega arith))
 
@@ -76,15 +63,13 @@ module _ {nb : ℕ} {one two three rows : List ℕ} {i taken count : ℕ} (wide 
   this_block =
       let long = laid.long in
       let was = before.long in
-      let b = body_now i there in
       let at : body_at nb three i ≡ nb + 127 * i = omega arith in
       let up : suc (count - 1) ≡ count = omega arith in
       let rest : take (count - 1) (drop (nb + 127 * i) three) ≡ take (count - 1) (drop (taken + 1) rows) =
       same_runs three rows (nb + 127 * i) (taken + 1) (count - 1) (omega arith) (omega arith) (λ m l. laid.others m l) in
       let all : drop taken rows ≡ get_or rows taken 0 ∷ drop (taken + 1) rows = drop_more rows taken 0 (omega arith) in
       let r = rows_here in
-      let h = laid.first in
-      (λ j. h j ∷ take (r j) (drop (at j) three)) ∙ ((λ j. get_or rows taken 0 ∷ rest j) ∙ (λ j. take (up j) (sym all j)))
+      (λ j. laid.first j ∷ take (r j) (drop (at j) three)) ∙ ((λ j. get_or rows taken 0 ∷ rest j) ∙ (λ j. take (up j) (sym all j)))
 
   more_laid : pieces (block nb three) (i + 1) ≡ take (taken + count) rows
   more_laid =
@@ -95,31 +80,11 @@ module _ {nb : ℕ} {one two three rows : List ℕ} {i taken count : ℕ} (wide 
   rest_same : (k j : ℕ) → k < nb → rows_of nb three k ≤ j → j < 127 → slice_index three (nb + 127 * k + j) ≡ slice_index one (nb + 127 * k + j)
   rest_same k j lt le few =
       let r = rows_here in
-      elim (cases_lt k i) [
-        | inl less ↦
-            let e = rows_same k lt (λ q. omega arith) in
-            laid.below (nb + 127 * k + j) (omega arith) (omega arith) ∙ before.bodies k j lt (omega arith) few
-        | inr ge ↦ dite (ℕ_discrete k i)
-            (λ same.
-            let c : rows_of nb three k ≡ rows_of nb three i = ap (rows_of nb three) same in
-            let z = before.none k (omega arith) lt in
-            laid.above (nb + 127 * k + j) (omega arith) (λ q. omega arith) (λ q. omega arith) ∙ before.bodies k j lt (omega arith) few)
-            (λ differ.
-            let z = before.none k (omega arith) lt in
-            laid.above (nb + 127 * k + j) (omega (arith, differ)) (λ q. omega arith) (λ q. omega arith) ∙ before.bodies k j lt (omega arith) few)
-      ]
+      grind (arith, rows_same k lt, before.none k, laid.below (nb + 127 * k + j), laid.above (nb + 127 * k + j), before.bodies k j)
 
   -- one block more
   pub filled_on : IsFilling nb one three rows (i + 1) (taken + count)
-  filled_on = record {
-    long = laid.long ∙ before.long;
-    body = body_now;
-    none = λ k le lt. let e = rows_same k lt (λ q. omega arith) in let z = before.none k (omega arith) lt in omega arith;
-    laid = more_laid;
-    heads = λ s le lt. laid.heads s lt (λ q. omega arith) ∙ before.heads s (omega arith) lt;
-    bodies = rest_same;
-    above = λ s le. laid.above s (omega arith) (λ q. omega arith) (λ q. omega arith) ∙ before.above s le;
-  }
+  filled_on = let a = more_laid in grind (arith, body_now, rest_same, rows_same)
 
   -- the same by the numbers that they come to
   pub filled_to : {next all : ℕ} → next ≡ i + 1 → all ≡ taken + count → IsFilling nb one three rows next all
@@ -128,15 +93,7 @@ module _ {nb : ℕ} {one two three rows : List ℕ} {i taken count : ℕ} (wide 
 -- the words are laid out
 pub filled_laid : {nb : ℕ} {one two rows : List ℕ} {i taken : ℕ} → 129 * nb + 1 ≤ length one → 0 < i → i < nb → blocks_of nb two ≡ i
     → IsFilling nb one two rows i taken → IsLaidOut nb two
-filled_laid wide some high used filling =
-    let long = filling.long in
-    record {
-      wide = omega arith;
-      some = omega arith;
-      spare = omega arith;
-      bodies = λ k lt. let b = filling.body k lt in omega arith;
-      apart = λ k l a b e. let p = filling.body k a in let q = filling.body l b in omega arith;
-    }
+filled_laid wide some high used filling = grind arith
 
 -- and the rows are all of the list
 pub filled_rows : {nb : ℕ} {one two rows : List ℕ} {i taken : ℕ} → blocks_of nb two ≡ i → taken ≡ length rows → IsFilling nb one two rows i taken
@@ -170,17 +127,14 @@ gathered_on words old at k is lt =
     let d = length-drop at words in
     let one : take (k + 1) (drop at words) ≡ take k (drop at words) ++ (get_or (drop at words) k 0 ∷ []) = take_more (drop at words) k 0 (omega arith) in
     let w = get_or-drop at words k 0 in
-    (λ j. is j ++ (slice_index words (at + k) ∷ []))
-    ∙ (append_assoc old (take k (drop at words)) (slice_index words (at + k) ∷ [])
+    (λ j. is j ++ (slice_index words (at + k) ∷ [])) ∙ (append_assoc old (take k (drop at words)) (slice_index words (at + k) ∷ [])
     ∙ ap (λ (x : List ℕ). old ++ x) ((λ j. take k (drop at words) ++ (sym w j ∷ [])) ∙ sym one))
 
 -- a block that was read to its end
 pub gathered_block : (nb : ℕ) (words : List ℕ) {out : List ℕ} (old : List ℕ) {one : List ℕ} (i : ℕ) {at k : ℕ} → one ≡ old ++ (slice_index words i ∷ [])
     → out ≡ one ++ take k (drop at words) → at ≡ body_at nb words i → k ≡ rows_of nb words i → out ≡ old ++ block nb words i
 gathered_block nb words old i {at} {k} first rest place all =
-    rest
-    ∙ (ap (λ (x : List ℕ). x ++ take k (drop at words)) first
-    ∙ (append_assoc old (slice_index words i ∷ []) (take k (drop at words))
+    rest ∙ (ap (λ (x : List ℕ). x ++ take k (drop at words)) first ∙ (append_assoc old (slice_index words i ∷ []) (take k (drop at words))
     ∙ (λ j. old ++ (slice_index words i ∷ take (all j) (drop (place j) words)))))
 
 -- all blocks so far, and one more
@@ -188,9 +142,7 @@ pub gathered_next : (nb : ℕ) (words : List ℕ) {out new : List ℕ} (old : Li
     → new ≡ out ++ block nb words i → new ≡ old ++ pieces (block nb words) (i + 1)
 gathered_next nb words old i is more =
     let e : i + 1 ≡ suc i = omega arith in
-    more
-    ∙ (ap (λ (x : List ℕ). x ++ block nb words i) is
-    ∙ (append_assoc old (pieces (block nb words) i) (block nb words i)
+    more ∙ (ap (λ (x : List ℕ). x ++ block nb words i) is ∙ (append_assoc old (pieces (block nb words) i) (block nb words i)
     ∙ ap (λ (n : ℕ). old ++ pieces (block nb words) n) (sym e)))
 
 -- there is room for a block as long as there is for all

@@ -34,29 +34,24 @@ halves_none start size = record {
 }
 
 -- one step more
-pub halves_on : (start now size width less : ℕ) → HasHalved start now size width → 1 < width → less ≤ width - width / 2
-    → HasHalved start (now + 1) size less
+pub halves_on : (start now size width less : ℕ) → HasHalved start now size width → 1 < width → less ≤ width - width / 2 → HasHalved start (now + 1) size less
 halves_on start now size width less h more half = record {
-  on = let o = h.on in omega arith;
+  on = omega arith;
   most = λ m le. let a = h.most m le in let b = halved width (start + m - now) more (h.few m le) in let e = b.1 in omega arith;
   few = λ m le.
       let a = h.most m le in
       let b = halved width (start + m - now) more (h.few m le) in
-      let e : b.0 ≡ start + m - (now + 1) = let q = b.1 in omega arith in
-      subst (λ (n : ℕ). less ≤ 2 ^ n) e (let f = b.2 in omega arith);
+      let e : b.0 ≡ start + m - (now + 1) = omega arith in
+      subst (λ (n : ℕ). less ≤ 2 ^ n) e (omega arith);
 }
 
 module _ {nb : ℕ} {words : List ℕ} (i : ℕ) (laid : IsLaidOut nb words) (there : i < blocks_of nb words) where
   -- where the next row starts
-  pub end_there : (j end behind : ℕ) → j ≤ rows_of nb words i
-      → ((k : ℕ) → k < length (rows_in nb words) → row_start (slice_index (rows_in nb words) k) ≤ LIMIT)
+  pub end_there : (j end behind : ℕ) → j ≤ rows_of nb words i → ((k : ℕ) → k < length (rows_in nb words) → row_start (slice_index (rows_in nb words) k) ≤ LIMIT)
       → (j + 1 < rows_of nb words i + 1 → end ≡ row_start (slice_index words (body_at nb words i - 1 + (j + 1))))
-      → (j + 1 ≡ rows_of nb words i + 1 → end ≡ behind)
-      → (i + 1 < blocks_of nb words → behind ≡ row_start (slice_index words (i + 1)))
-      → (i + 1 ≡ blocks_of nb words → LIMIT ≤ behind)
-      → min end LIMIT ≡ rows_start (drop (rank nb words i j + 1) (rows_in nb words))
+      → (j + 1 ≡ rows_of nb words i + 1 → end ≡ behind) → (i + 1 < blocks_of nb words → behind ≡ row_start (slice_index words (i + 1)))
+      → (i + 1 ≡ blocks_of nb words → LIMIT ≤ behind) → min end LIMIT ≡ rows_start (drop (rank nb words i j + 1) (rows_in nb words))
   end_there j end behind le low inside last next none =
-      let s = laid.spare in
       let rows : List ℕ = rows_in nb words in
       let l = block_length i laid (omega arith) in
       let joined = length-append (pieces (block nb words) i) (block nb words i) in

@@ -1,6 +1,5 @@
 -- What the two halves of a block that was split have, and where their rows stand among all.
-use Rattle.std.proofs.Common.{◌≡◌, ℕ, ◌+◌, ◌%◌, ◌<◌, ◌≤◌, List, ap, subst, arith, inl, inr}
-use Rattle.std.proofs.lemmas.Bool.{cases_lt}
+use Rattle.std.proofs.Common.{◌≡◌, ℕ, ◌+◌, ◌%◌, ◌<◌, ◌≤◌, List, ap, arith}
 use Rattle.row_blocks.specs.Blocks.{rows_of, count_to, told}
 use Rattle.row_blocks.proofs.Counts.{count_same, count_next}
 
@@ -15,8 +14,4 @@ module _ (nb : ℕ) (one two : List ℕ) (i : ℕ) {half : ℕ} (before : (k : �
 
   -- block 0 has at most 64 rows still
   pub first_short : rows_of nb one 0 < 64 → half ≤ 64 → rows_of nb two 0 < 64
-  first_short short few = elim (cases_lt 0 i) [
-    | inl some ↦ let e : rows_of nb two 0 ≡ rows_of nb one 0 = ap (λ (x : ℕ). x % 128) (before 0 some) in omega arith
-    | inr none ↦ let z : i ≡ 0 = omega arith in
-        let l : rows_of nb two 0 + 1 ≡ half = subst (λ (n : ℕ). rows_of nb two n + 1 ≡ half) z lower in omega arith
-  ]
+  first_short short few = grind (arith, before 0)

@@ -41,8 +41,7 @@ laid_more nb one two three more r k there some was laid place word =
 -- there are as many rows
 pub rows_long : {nb : ℕ} {one two : List ℕ} → IsLaidOut nb one → IsLaidOut nb two → SameLayout nb one two → length (rows_in nb two) ≡ length (rows_in nb one)
 rows_long {nb} {one} {two} laid after same =
-    length-rows_in nb two after
-    ∙ (ap (count_to nb two) same.count ∙ (same.before (blocks_of nb one) ∙ sym (length-rows_in nb one laid)))
+    length-rows_in nb two after ∙ (ap (count_to nb two) same.count ∙ (same.before (blocks_of nb one) ∙ sym (length-rows_in nb one laid)))
 
 -- a place behind so many rows, and what the body word of its block tells
 pub record IsSpot (nb : ℕ) (words : List ℕ) (b p at rows r : ℕ) : Type 0 where
@@ -54,35 +53,17 @@ pub record IsSpot (nb : ℕ) (words : List ℕ) (b p at rows r : ℕ) : Type 0 w
 
 -- it is one while the layout stands as it stood
 pub spot_now : {nb : ℕ} {one two : List ℕ} {b p at rows r : ℕ} → SameLayout nb one two → IsSpot nb one b p at rows r → IsSpot nb two b p at rows r
-spot_now {b} {p} same spot = record {
-  there = subst (λ (n : ℕ). b < n) (sym same.count) spot.there;
-  place = subst (λ (n : ℕ). p ≤ n + 1) (sym (same.rows b)) spot.place;
-  body = spot.body ∙ sym (same.body b);
-  count = spot.count ∙ sym (same.rows b);
-  rank = ap (λ (n : ℕ). n + p) (same.before b) ∙ spot.rank;
-}
+spot_now {b} {p} same spot = grind (arith, same.rows b, same.body b, same.before b)
 
 -- and behind one more row the next place is one
 pub spot_on : {nb : ℕ} {one two : List ℕ} {b : ℕ} (p : ℕ) {at rows : ℕ} (r k : ℕ) → SameLayout nb one two → b < blocks_of nb two → p ≤ rows_of nb two b
     → at ≡ body_at nb two b → rows ≡ rows_of nb two b → rank nb two b p ≡ r + k → IsSpot nb one b (p + 1) at rows (r + (k + 1))
-spot_on {nb} {one} {b} p r k same there place body count here =
-    let below : p ≤ rows_of nb one b = subst (λ (n : ℕ). p ≤ n) (same.rows b) place in
-    let now : rank nb one b p ≡ r + k = ap (λ (n : ℕ). n + p) (sym (same.before b)) ∙ here in
-    record {
-      there = subst (λ (n : ℕ). b < n) same.count there;
-      place = omega arith;
-      body = body ∙ same.body b;
-      count = count ∙ same.rows b;
-      rank = omega arith;
-    }
+spot_on {nb} {one} {b} p r k same there place body count here = grind (arith, same.rows b, same.body b, same.before b)
 
 -- a row stands there while fewer are laid than there are
 pub spot_below : {nb : ℕ} {one two : List ℕ} {b p at rows : ℕ} (r k n : ℕ) → IsLaidOut nb one → IsLaidOut nb two → SameLayout nb one two
     → IsSpot nb two b p at rows (r + k) → k < n → r + n ≤ length (rows_in nb one) → rank nb two b p < length (rows_in nb two)
-spot_below r k n laid after same spot less fits =
-    let long = rows_long laid after same in
-    let here = spot.rank in
-    omega arith
+spot_below r k n laid after same spot less fits = let long = rows_long laid after same in omega arith
 
 -- a row more is one of them
 pub next_below : (r k n m : ℕ) → k < n → r + n ≤ m → r + k < m

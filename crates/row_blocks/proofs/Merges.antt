@@ -35,8 +35,7 @@ pieces_joined f g i (suc n) lt same both = elim (cases_lt (suc i) n) [
       let none : drop (length (pieces g (suc (suc i)))) (pieces g (suc (suc i))) ≡ [] =
       drop_all (length (pieces g (suc (suc i)))) (pieces g (suc (suc i))) (omega arith) in
       let here : splice (pieces g (suc (suc i))) (length (pieces g (suc i))) (length (pieces g (suc (suc i)))) [] ≡ pieces f (suc (suc i)) =
-      (λ j. first j ++ none j)
-      ∙ (append-nil (pieces g (suc i)) ∙ ((λ j. front j ++ both j) ∙ sym (append_assoc (pieces f i) (f i) (f (suc i))))) in
+      (λ j. first j ++ none j) ∙ (append-nil (pieces g (suc i)) ∙ ((λ j. front j ++ both j) ∙ sym (append_assoc (pieces f i) (f i) (f (suc i))))) in
       subst (λ (m : ℕ). splice (pieces g (suc m)) (length (pieces g (suc i))) (length (pieces g (suc (suc i)))) [] ≡ pieces f (suc m)) e here
 ]
 
@@ -46,12 +45,10 @@ pub merged : {nb : ℕ} {one middle : List ℕ} (two : List ℕ) (i : ℕ) → I
     → ((k : ℕ) → k < nb → k ≢ i → block nb middle k ≡ block nb one k)
     → rows_in nb two ≡ splice (rows_in nb middle) (count_to nb middle (i + 1)) (count_to nb middle (i + 2)) [] → rows_in nb two ≡ rows_in nb one
 merged {nb} {one} {middle} two i laid after there count joined others out =
-    let spare = laid.spare in
     let g : ℕ → List ℕ = block nb middle in
     let up : i + 1 ≡ suc i = omega arith in
     let over : i + 2 ≡ suc (suc i) = omega arith in
-    let x : count_to nb middle (i + 1) ≡ length (pieces g (suc i)) =
-    sym (count_is (i + 1) after (omega arith)) ∙ ap (λ (m : ℕ). length (pieces g m)) up in
+    let x : count_to nb middle (i + 1) ≡ length (pieces g (suc i)) = sym (count_is (i + 1) after (omega arith)) ∙ ap (λ (m : ℕ). length (pieces g m)) up in
     let y : count_to nb middle (i + 2) ≡ length (pieces g (suc (suc i))) =
     sym (count_is (i + 2) after (omega arith)) ∙ ap (λ (m : ℕ). length (pieces g m)) over in
     let both : g i ≡ block nb one i ++ block nb one (suc i) = joined ∙ ap (λ (m : ℕ). block nb one i ++ block nb one m) up in
@@ -63,11 +60,9 @@ pub rows_appended : {nb : ℕ} {one : List ℕ} (middle : List ℕ) (i : ℕ) �
     → ((w : ℕ) → P w → Q w) → blocks_of nb middle ≡ blocks_of nb one → block nb middle i ≡ block nb one i ++ block nb one (i + 1)
     → ((k : ℕ) → k < nb → k ≢ i → block nb middle k ≡ block nb one k) → All P (rows_in nb one) → All Q (rows_in nb middle)
 rows_appended {nb} {one} middle i laid there P Q keep count joined others all =
-    let spare = laid.spare in
     let more : (k : ℕ) → k < blocks_of nb one → All Q (block nb one k) = λ (k : ℕ) (lt : k < blocks_of nb one).
     All-weaker P Q keep (block nb one k) (all_of_piece P (block nb one) k (blocks_of nb one) lt all) in
-    subst (λ (n : ℕ). All Q (pieces (block nb middle) n)) (sym count)
-    (all_pieces Q (block nb middle) (blocks_of nb one) (λ k lt. dite (ℕ_discrete k i)
+    subst (λ (n : ℕ). All Q (pieces (block nb middle) n)) (sym count) (all_pieces Q (block nb middle) (blocks_of nb one) (λ k lt. dite (ℕ_discrete k i)
     (λ e. subst (λ (n : ℕ). All Q (block nb middle n)) (sym e)
     (subst (All Q) (sym joined) (All-append Q (block nb one i) (block nb one (i + 1)) (more i (omega arith)) (more (i + 1) there))))
     (λ differ. subst (All Q) (sym (others k (omega arith) differ)) (more k lt))))

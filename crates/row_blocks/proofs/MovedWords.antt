@@ -10,27 +10,18 @@ use Rattle.row_blocks.proofs.Puts.{same_runs, body_spliced, cut_head}
 
 -- nothing has moved yet
 pub pushes_none : {one : List ℕ} {at word : ℕ} → IsPushing one one at at word word
-pushes_none = record {
-  long = refl;
-  below = λ s lt. refl;
-  here = λ lt. absurd (omega arith);
-  moved = λ s le lt. absurd (omega arith);
-  above = λ s le. refl;
-  first = λ e. refl;
-  next = λ lt. absurd (omega arith);
-}
+pushes_none = grind arith
 
 -- one word more has moved up
 pub pushes_on : {one two three : List ℕ} {at to word carried stood : ℕ} → at ≤ to → to < length one → IsPushing one two at to word carried
     → stood ≡ slice_index two to → three ≡ slice_set two to carried → IsPushing one three at (to + 1) word stood
 pushes_on {one} {two} {three} {at} {to} {carried} ordered wide p stands laid =
-    let long = p.long in
     let here : slice_index three to ≡ carried = ap (λ (l : List ℕ). slice_index l to) laid ∙ get_or-set_same two to carried 0 (omega arith) in
     let stays : (s : ℕ) → s ≢ to → slice_index three s ≡ slice_index two s =
     λ (s : ℕ) (d : s ≢ to). ap (λ (l : List ℕ). slice_index l s) laid ∙ get_or-set_other two to s carried 0 d in
     let back : to + 1 - 1 ≡ to = omega arith in
     record {
-      long = ap length laid ∙ (length-set two to carried ∙ long);
+      long = ap length laid ∙ (length-set two to carried ∙ p.long);
       below = λ s lt. stays s (λ e. omega arith) ∙ p.below s lt;
       here = λ l. elim (cases_lt at to) [
         | inl less ↦ stays at (λ e. omega arith) ∙ p.here less
@@ -49,49 +40,30 @@ pushes_on {one} {two} {three} {at} {to} {carried} ordered wide p stands laid =
 -- and the one that is carried is laid
 pub pushes_end : {one two three : List ℕ} {at end word carried : ℕ} → at ≤ end → end < length one → IsPushing one two at end word carried
     → three ≡ slice_set two end carried → IsPushed one three at end word
-pushes_end ordered wide p laid =
-    let q = pushes_on ordered wide p refl laid in
-    record {
-      long = q.long;
-      below = q.below;
-      here = q.here (omega arith);
-      moved = λ s le lt. q.moved s le (omega arith);
-      above = λ s lt. q.above s (omega arith);
-    }
+pushes_end ordered wide p laid = let q = pushes_on ordered wide p refl laid in grind arith
 
 -- nothing is copied yet
 pub copies_none : {one : List ℕ} {from to : ℕ} → IsCopied one one from to 0
-copies_none = record {
-  long = refl;
-  copied = λ m lt. absurd (omega arith);
-  below = λ s lt. refl;
-  above = λ s le. refl;
-}
+copies_none = grind arith
 
 -- what is copied next stands as it stood
 pub copy_source : {one two : List ℕ} {from to : ℕ} (count : ℕ) {k : ℕ} → k < count → (to ≤ from) ⊎ (from + count ≤ to) → IsCopied one two from to k
     → slice_index two (from + k) ≡ slice_index one (from + k)
-copy_source {from} count {k} lt apart p = elim apart [
-  | inl down ↦ p.above (from + k) (omega arith)
-  | inr away ↦ p.below (from + k) (omega arith)
-]
+copy_source {from} count {k} lt apart p = grind (arith, p.above (from + k), p.below (from + k))
 
 -- one word more is copied
 pub copies_on : {one two three : List ℕ} {from to : ℕ} (count : ℕ) {k row : ℕ} → k < count → to + count ≤ length one → (to ≤ from) ⊎ (from + count ≤ to)
     → IsCopied one two from to k → row ≡ slice_index two (from + k) → three ≡ slice_set two (to + k) row → IsCopied one three from to (k + 1)
 copies_on {one} {two} {three} {from} {to} count {k} {row} lt wide apart p read laid =
-    let long = p.long in
-    let here : slice_index three (to + k) ≡ row =
-    ap (λ (l : List ℕ). slice_index l (to + k)) laid ∙ get_or-set_same two (to + k) row 0 (omega arith) in
+    let here : slice_index three (to + k) ≡ row = ap (λ (l : List ℕ). slice_index l (to + k)) laid ∙ get_or-set_same two (to + k) row 0 (omega arith) in
     let stays : (s : ℕ) → s ≢ to + k → slice_index three s ≡ slice_index two s =
     λ (s : ℕ) (d : s ≢ to + k). ap (λ (l : List ℕ). slice_index l s) laid ∙ get_or-set_other two (to + k) s row 0 d in
     record {
-      long = ap length laid ∙ (length-set two (to + k) row ∙ long);
+      long = ap length laid ∙ (length-set two (to + k) row ∙ p.long);
       copied = λ m less. elim (cases_lt m k) [
         | inl before ↦ stays (to + m) (λ e. omega arith) ∙ p.copied m before
         | inr ge ↦ let e : m ≡ k = omega arith in
-            subst (λ (n : ℕ). slice_index three (to + n) ≡ slice_index one (from + n)) (sym e)
-            (here ∙ (read ∙ copy_source count lt apart p))
+            subst (λ (n : ℕ). slice_index three (to + n) ≡ slice_index one (from + n)) (sym e) (here ∙ (read ∙ copy_source count lt apart p))
       ];
       below = λ s less. stays s (λ e. omega arith) ∙ p.below s less;
       above = λ s le. stays s (λ e. omega arith) ∙ p.above s (omega arith);
@@ -169,12 +141,10 @@ pub cut_front : {one mid two : List ℕ} {head at n until first : ℕ} → 0 < u
     → first ≡ slice_index one (at + (until - 1)) → IsCopied one mid (at + until) at (n - until) → two ≡ slice_set mid head first
     → IsCutOut one two head at n 0 until
 cut_front {one} {mid} {two} {head} {at} {n} {until} {first} some within low wide was p laid =
-    let long_mid = p.long in
     let long_two : length two ≡ length mid = ap length laid ∙ length-set mid head first in
     let stays : (s : ℕ) → s ≢ head → slice_index two s ≡ slice_index mid s =
     λ (s : ℕ) (d : s ≢ head). ap (λ (l : List ℕ). slice_index l s) laid ∙ get_or-set_other mid head s first 0 d in
-    let here : slice_index two head ≡ first =
-    ap (λ (l : List ℕ). slice_index l head) laid ∙ get_or-set_same mid head first 0 (omega arith) in
+    let here : slice_index two head ≡ first = ap (λ (l : List ℕ). slice_index l head) laid ∙ get_or-set_same mid head first 0 (omega arith) in
     let left : 0 + (0 + (n - until)) ≡ n - (until - 0) = omega arith in
     let all : until + (n - until) ≡ n = omega arith in
     let gone = body_spliced one mid [] at 0 until (n - until) (omega arith) (omega arith) (omega arith) (λ k lt. absurd (omega arith)) refl
@@ -183,7 +153,7 @@ cut_front {one} {mid} {two} {head} {at} {n} {until} {first} some within low wide
     let back = here ∙ was in
     let cut = rest ∙ coe 0 1 (j. take (left j) (drop at mid) ≡ splice (take (all j) (drop at one)) 0 until []) gone in
     record {
-      long = long_two ∙ long_mid;
+      long = long_two ∙ p.long;
       cut = (λ j. back j ∷ cut j) ∙ cut_head one at n (slice_index one head) until some within wide;
       below = λ s differ lt. stays s differ ∙ p.below s lt;
       above = λ s le. stays s (λ e. omega arith) ∙ p.above s (omega arith);

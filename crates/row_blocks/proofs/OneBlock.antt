@@ -27,17 +27,12 @@ module _ {nb : ℕ} {one : List ℕ} (middle : List ℕ) {two : List ℕ} (i wor
 
   -- the body word is the one that was stored
   pub told_is : slice_index two (128 * nb + 1 + i) ≡ word
-  told_is =
-      let wide = laid.wide in
-      let spare = laid.spare in
-      ap (λ (x : List ℕ). slice_index x (128 * nb + 1 + i)) stored ∙ get_or-set_same middle (128 * nb + 1 + i) word 0 (omega arith)
+  told_is = ap (λ (x : List ℕ). slice_index x (128 * nb + 1 + i)) stored ∙ get_or-set_same middle (128 * nb + 1 + i) word 0 (omega arith)
 
   -- the words of the block are those that were laid
   pub block_is : word / 128 ≡ body_of nb one i → word % 128 ≡ more → more ≤ 127
       → block nb two i ≡ slice_index middle i ∷ take more (drop (body_at nb one i) middle)
   block_is body count few =
-      let wide = laid.wide in
-      let spare = laid.spare in
       let b = laid.bodies i (omega arith) in
       let e = told_is in
       let same_body : body_of nb two i ≡ body_of nb one i = omega arith in
@@ -49,8 +44,7 @@ module _ {nb : ℕ} {one : List ℕ} (middle : List ℕ) {two : List ℕ} (i wor
       rw (same_body, rows, head, rest) refl
 
   -- and nothing else has changed
-  pub only_block : word / 128 ≡ body_of nb one i
-      → ((s : ℕ) → s ≢ i → s < body_at nb one i → slice_index middle s ≡ slice_index one s)
+  pub only_block : word / 128 ≡ body_of nb one i → ((s : ℕ) → s ≢ i → s < body_at nb one i → slice_index middle s ≡ slice_index one s)
       → ((s : ℕ) → body_at nb one i + 127 ≤ s → slice_index middle s ≡ slice_index one s) → OnlyBlock nb one two i
   only_block body below above =
       let e = told_is in

@@ -53,7 +53,7 @@ pub record StandsAt (f : ℕ → List ℕ) (n r : ℕ) : Type 0 where
 pub stands_at : {f : ℕ → List ℕ} (n : ℕ) {r : ℕ} → r < length (pieces f n) → StandsAt f n r
 stands_at zero lt = absurd (omega arith)
 stands_at {f} (suc n) {r} lt = elim (cases_lt r (length (pieces f n))) [
-  | inl less ↦ let s = stands_at n less in let t = s.there in record { k = s.k; j = s.j; there = omega arith; below = s.below; at = s.at }
+  | inl less ↦ let s = stands_at n less in record { k = s.k; j = s.j; there = omega arith; below = s.below; at = s.at }
   | inr ge ↦ let l = length-append (pieces f n) (f n) in
       record { k = n; j = r - length (pieces f n); there = omega arith; below = omega arith; at = omega arith }
 ]
@@ -93,5 +93,4 @@ all_pieces P f (suc n) all = All-append P (pieces f n) (f n) (all_pieces P f n (
 pub all_of_piece : (P : ℕ → Type 0) (f : ℕ → List ℕ) (k n : ℕ) → k < n → All P (pieces f n) → All P (f k)
 all_of_piece P f k n lt all =
     let ends = piece_ends f k n lt in
-    All-from_get_or P (f k) 0 (λ j below.
-    subst P (at_piece f k n j lt below) (All-get_or P (pieces f n) (length (pieces f k) + j) 0 (omega arith) all))
+    All-from_get_or P (f k) 0 (λ j below. subst P (at_piece f k n j lt below) (All-get_or P (pieces f n) (length (pieces f k) + j) 0 (omega arith) all))

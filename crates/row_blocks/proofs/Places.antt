@@ -8,13 +8,12 @@ use Rattle.row_blocks.proofs.Pieces.{at_piece, piece_ends}
 use Rattle.row_blocks.proofs.Puts.{run_at, block_length, count_is}
 
 -- the word at a place of a block
-pub in_block : (nb : ℕ) (words : List ℕ) (i j : ℕ) → j < rows_of nb words i
-    → get_or (block nb words i) (suc j) 0 ≡ slice_index words (body_at nb words i + j)
+pub in_block : (nb : ℕ) (words : List ℕ) (i j : ℕ) → j < rows_of nb words i → get_or (block nb words i) (suc j) 0 ≡ slice_index words (body_at nb words i + j)
 in_block nb words i j lt = run_at words (body_at nb words i) (rows_of nb words i) j lt
 
 module _ (nb : ℕ) (words : List ℕ) (i : ℕ) (laid : IsLaidOut nb words) (there : i < blocks_of nb words) where
   long : length (block nb words i) ≡ suc (rows_of nb words i)
-  long = let s = laid.spare in block_length i laid (omega arith)
+  long = block_length i laid (omega arith)
 
   -- a place of a block in use is that of a row
   pub within : (j : ℕ) → j ≤ rows_of nb words i → rank nb words i j < length (rows_in nb words)
@@ -28,7 +27,6 @@ module _ (nb : ℕ) (words : List ℕ) (i : ℕ) (laid : IsLaidOut nb words) (th
   -- which stands there
   pub row_at_place : (j : ℕ) → j ≤ rows_of nb words i → slice_index (rows_in nb words) (rank nb words i j) ≡ get_or (block nb words i) j 0
   row_at_place j le =
-      let s = laid.spare in
       let l = long in
       ap (λ (r : ℕ). slice_index (rows_in nb words) (r + j)) (sym (count_is i laid (omega arith)))
       ∙ at_piece (block nb words) i (blocks_of nb words) j there (omega arith)
@@ -38,15 +36,11 @@ module _ (nb : ℕ) (words : List ℕ) (i : ℕ) (laid : IsLaidOut nb words) (th
   head_there = row_at_place 0 (omega arith)
 
   -- and the others stand in its body
-  pub row_there : (j : ℕ) → 0 < j → j ≤ rows_of nb words i
-      → slice_index (rows_in nb words) (rank nb words i j) ≡ slice_index words (body_at nb words i - 1 + j)
+  pub row_there : (j : ℕ) → 0 < j → j ≤ rows_of nb words i → slice_index (rows_in nb words) (rank nb words i j) ≡ slice_index words (body_at nb words i - 1 + j)
   row_there j some le =
-      let s = laid.spare in
       let up : suc (j - 1) ≡ j = omega arith in
       let at : body_at nb words i + (j - 1) ≡ body_at nb words i - 1 + j = omega arith in
-      row_at_place j le
-      ∙ (ap (λ (n : ℕ). get_or (block nb words i) n 0) (sym up)
-      ∙ (in_block nb words i (j - 1) (omega arith) ∙ ap (slice_index words) at))
+      row_at_place j le ∙ (ap (λ (n : ℕ). get_or (block nb words i) n 0) (sym up) ∙ (in_block nb words i (j - 1) (omega arith) ∙ ap (slice_index words) at))
 
   -- what is so of all rows is so of the head
   pub head_is_row : (P : ℕ → Type 0) → All P (rows_in nb words) → P (slice_index words i)
@@ -57,7 +51,6 @@ module _ (nb : ℕ) (words : List ℕ) (i : ℕ) (laid : IsLaidOut nb words) (th
       → P (slice_index words s)
   body_is_row P all s from until =
       let j : ℕ = s + 1 - body_at nb words i in
-      let spare = laid.spare in
       let e : body_at nb words i - 1 + j ≡ s = omega arith in
       subst P (row_there j (omega arith) (omega arith) ∙ ap (slice_index words) e)
       (All-get_or P (rows_in nb words) (rank nb words i j) 0 (within j (omega arith)) all)

@@ -1,15 +1,12 @@
 -- What a row that comes into a block makes of the block, and of all rows.
 use Rattle.std.proofs.Common.{◌≡◌, ◌≢◌, ℕ, zero, suc, ◌+◌, ◌-◌, ◌*◌, ◌/◌, ◌%◌, ◌<◌, ◌≤◌, ◌⊎◌, List, [], ◌∷◌, ◌++◌, length, get_or, take, drop}
 use Rattle.std.proofs.Common.{sym, refl, ap, ◌∙◌, subst, arith, inl, inr}
-use Rattle.std.proofs.lemmas.Bool.{cases_lt}
 use Rattle.std.specs.Prelude.{slice_index}
 use Rattle.std.specs.List.{splice}
 use Rattle.std.proofs.Math.Seq.{take-add}
 use Rattle.std.proofs.lemmas.List.{append_assoc, length-append, length-take-le, length-drop, take-append-drop, take_at, drop_at}
 use Rattle.std.proofs.lemmas.List.{get_or-take, get_or-drop, take-take, drop-take, drop-drop, drop_more}
 use Rattle.std.proofs.lemmas.Grind.{same_number_lists}
-use mathlib.Core.Logic.{dite}
-use native.Mathlib.Decide.{ℕ_discrete}
 use Rattle.row_blocks.specs.Blocks.{pieces, blocks_of, body_of, rows_of, body_at, block, rows_in, count_to, rank, IsLaidOut}
 use Rattle.row_blocks.proofs.Pieces.{one_changes, fewer_pieces}
 
@@ -33,8 +30,7 @@ same_runs xs ys at from n wide long same =
 -- a block with the same body word, head and rows is the same, whatever its number
 pub same_block : (nb : ℕ) (one two : List ℕ) (k l : ℕ) → body_at nb one k + rows_of nb one k ≤ length one → length two ≡ length one
     → slice_index two (128 * nb + 1 + l) ≡ slice_index one (128 * nb + 1 + k) → slice_index two l ≡ slice_index one k
-    → ((m : ℕ) → m < rows_of nb one k → slice_index two (body_at nb one k + m) ≡ slice_index one (body_at nb one k + m))
-    → block nb two l ≡ block nb one k
+    → ((m : ℕ) → m < rows_of nb one k → slice_index two (body_at nb one k + m) ≡ slice_index one (body_at nb one k + m)) → block nb two l ≡ block nb one k
 same_block nb one two k l wide long word head rest =
     (λ j. head j ∷ take (word j % 128) (drop (nb + 127 * (word j / 128)) two))
     ∙ ap (λ (r : List ℕ). slice_index one k ∷ r) (same_runs two one (body_at nb one k) (body_at nb one k) (rows_of nb one k) (omega arith) wide rest)
@@ -62,14 +58,12 @@ splice_in a b c {r} j m w long ordered there =
     let l = length-append a (take k b) in let t = length-take-le k b le in omega arith in
     let one : take (r + j) (a ++ (b ++ c)) ≡ a ++ take j b =
     ap (take (r + j)) (whole j) ∙ take_at (a ++ take j b) (drop j b ++ c) (r + j) (front j (omega arith)) in
-    let two : drop (r + m) (a ++ (b ++ c)) ≡ drop m b ++ c =
-    ap (drop (r + m)) (whole m) ∙ drop_at (a ++ take m b) (drop m b ++ c) (r + m) (front m there) in
+    let two : drop (r + m) (a ++ (b ++ c)) ≡ drop m b ++ c = ap (drop (r + m)) (whole m) ∙ drop_at (a ++ take m b) (drop m b ++ c) (r + m) (front m there) in
     rw (one, two) (simp append_assoc)
 
 -- a splice of the rows of one block is one of all rows
 pub splice_in_piece : (f g : ℕ → List ℕ) (k n j m : ℕ) (w : List ℕ) → k < n → j ≤ m → m ≤ length (f k)
-    → ((i : ℕ) → i < n → i ≢ k → g i ≡ f i) → g k ≡ splice (f k) j m w
-    → pieces g n ≡ splice (pieces f n) (length (pieces f k) + j) (length (pieces f k) + m) w
+    → ((i : ℕ) → i < n → i ≢ k → g i ≡ f i) → g k ≡ splice (f k) j m w → pieces g n ≡ splice (pieces f n) (length (pieces f k) + j) (length (pieces f k) + m) w
 splice_in_piece f g k n j m w lt ordered there same here =
     let r : ℕ = length (pieces f k) in
     let a : List ℕ = take r (pieces f n) in
@@ -77,9 +71,7 @@ splice_in_piece f g k n j m w lt ordered there same here =
     let old : pieces f n ≡ a ++ (f k ++ c) = one_changes f f k n lt (λ i l d. refl) in
     let new : pieces g n ≡ a ++ (g k ++ c) = one_changes f g k n lt same in
     let long : length a ≡ r = length-take-le r (pieces f n) (fewer_pieces f k n (omega arith)) in
-    new ∙ (ap (λ (x : List ℕ). a ++ (x ++ c)) here
-    ∙ (splice_in a (f k) c j m w long ordered there
-    ∙ ap (λ (x : List ℕ). splice x (r + j) (r + m) w) (sym old)))
+    new ∙ (ap (λ (x : List ℕ). a ++ (x ++ c)) here ∙ (splice_in a (f k) c j m w long ordered there ∙ ap (λ (x : List ℕ). splice x (r + j) (r + m) w) (sym old)))
 
 -- how many rows a block has
 pub block_length : {nb : ℕ} {words : List ℕ} (i : ℕ) → IsLaidOut nb words → i < nb → length (block nb words i) ≡ suc (rows_of nb words i)
@@ -101,27 +93,12 @@ count_is {nb} {words} (suc n) laid le =
 -- a word of one body is none of another one
 pub elsewhere : {nb : ℕ} {words : List ℕ} (k i m : ℕ) → IsLaidOut nb words → k < nb → i < nb → k ≢ i → m < 127
     → (body_at nb words k + m < body_at nb words i) ⊎ (body_at nb words i + 127 ≤ body_at nb words k + m)
-elsewhere {nb} {words} k i m laid lt there differ few =
-    let apart : body_of nb words k ≢ body_of nb words i = λ e. differ (laid.apart k i lt there e) in
-    elim (cases_lt (body_of nb words k) (body_of nb words i)) [
-      | inl less ↦ inl (omega arith)
-      | inr ge ↦ inr (omega (arith, apart))
-    ]
+elsewhere {nb} {words} k i m laid lt there differ few = grind (arith, laid.apart k i lt there)
 
 -- words with the same block count and the same bodies are laid out as before
 pub still_laid_out : {nb : ℕ} {one two : List ℕ} → IsLaidOut nb one → length two ≡ length one → blocks_of nb two ≡ blocks_of nb one
     → ((k : ℕ) → k < nb → body_of nb two k ≡ body_of nb one k) → IsLaidOut nb two
-still_laid_out laid long count same =
-    let wide = laid.wide in
-    let some = laid.some in
-    let spare = laid.spare in
-    record {
-      wide = omega arith;
-      some = omega arith;
-      spare = omega arith;
-      bodies = λ k lt. let e = same k lt in let b = laid.bodies k lt in omega arith;
-      apart = λ k l a b e. laid.apart k l a b (sym (same k a) ∙ (e ∙ same l b));
-    }
+still_laid_out laid long count same = grind arith
 
 -- only one block has changed: its head, its body and its body word
 pub record OnlyBlock (nb : ℕ) (one two : List ℕ) (i : ℕ) : Type 0 where
@@ -132,31 +109,23 @@ pub record OnlyBlock (nb : ℕ) (one two : List ℕ) (i : ℕ) : Type 0 where
 module _ {nb : ℕ} {one two : List ℕ} {i : ℕ} (laid : IsLaidOut nb one) (there : i < blocks_of nb one) (only : OnlyBlock nb one two i) where
   -- as many blocks are in use
   pub count_stays : blocks_of nb two ≡ blocks_of nb one
-  count_stays =
-      let s = laid.spare in
-      let b = laid.bodies i (omega arith) in
-      only.same (128 * nb) (λ e. omega arith) (λ e. omega arith) (inr (omega arith))
+  count_stays = let b = laid.bodies i (omega arith) in only.same (128 * nb) (λ e. omega arith) (λ e. omega arith) (inr (omega arith))
 
   -- the other body words stand as they stood
   pub body_word_stays : (k : ℕ) → k < nb → k ≢ i → slice_index two (128 * nb + 1 + k) ≡ slice_index one (128 * nb + 1 + k)
   body_word_stays k lt differ =
-      let s = laid.spare in
       let b = laid.bodies i (omega arith) in
       only.same (128 * nb + 1 + k) (λ e. omega arith) (λ e. differ (omega arith)) (inr (omega arith))
 
   -- and so do the other blocks
   pub other_block : (k : ℕ) → k < nb → k ≢ i → block nb two k ≡ block nb one k
   other_block k lt differ =
-      let s = laid.spare in
-      let w = laid.wide in
       let c = laid.bodies k lt in
       same_block nb one two k k (omega arith) only.long (body_word_stays k lt differ) (only.same k differ (λ e. omega arith) (inl (omega arith)))
       (λ m l. only.same (body_at nb one k + m) (λ e. omega arith) (λ e. omega arith) (elsewhere k i m laid lt (omega arith) differ (omega arith)))
 
   body_stays : (k : ℕ) → k < nb → body_of nb two k ≡ body_of nb one k
-  body_stays k lt = dite (ℕ_discrete k i)
-      (λ e. subst (λ (m : ℕ). body_of nb two m ≡ body_of nb one m) (sym e) only.body)
-      (λ differ. let w = body_word_stays k lt differ in omega arith)
+  body_stays k lt = grind (arith, only.body, body_word_stays k lt)
 
   -- the words are laid out
   pub still_laid : IsLaidOut nb two
@@ -166,12 +135,9 @@ module _ {nb : ℕ} {one two : List ℕ} {i : ℕ} (laid : IsLaidOut nb one) (th
   pub rows_spliced : (j m : ℕ) (w : List ℕ) → j ≤ m → m ≤ rows_of nb one i + 1 → block nb two i ≡ splice (block nb one i) j m w
       → rows_in nb two ≡ splice (rows_in nb one) (rank nb one i j) (rank nb one i m) w
   rows_spliced j m w ordered below here =
-      let s = laid.spare in
       let l = block_length i laid (omega arith) in
-      ap (pieces (block nb two)) count_stays
-      ∙ splice_in_piece (block nb one) (block nb two) i (blocks_of nb one) j m w there ordered (omega arith)
-      (λ k lt d. other_block k (omega arith) d) here
-      ∙ ap (λ (r : ℕ). splice (rows_in nb one) (r + j) (r + m) w) (count_is i laid (omega arith))
+      ap (pieces (block nb two)) count_stays ∙ splice_in_piece (block nb one) (block nb two) i (blocks_of nb one) j m w there ordered (omega arith)
+      (λ k lt d. other_block k (omega arith) d) here ∙ ap (λ (r : ℕ). splice (rows_in nb one) (r + j) (r + m) w) (count_is i laid (omega arith))
 
 -- where the head goes, a row of the body takes its place
 pub cut_head : (old : List ℕ) (at n h until : ℕ) → 0 < until → until ≤ n → at + n ≤ length old

@@ -1,7 +1,6 @@
 -- What is left where blocks go.
 use Rattle.std.proofs.Common.{◌≡◌, ◌≢◌, ℕ, zero, suc, ◌+◌, ◌-◌, ◌*◌, ◌/◌, ◌<◌, ◌≤◌, List, [], ◌++◌, length, take, drop}
-use Rattle.std.proofs.Common.{sym, refl, ap, ◌∙◌, subst, arith, inl, inr}
-use Rattle.std.proofs.lemmas.Bool.{cases_lt}
+use Rattle.std.proofs.Common.{sym, refl, ap, ◌∙◌, subst, arith}
 use Rattle.std.proofs.lemmas.List.{append_assoc, append-nil, drop_all, take_all, take-append-le, drop-append-le}
 use Rattle.std.proofs.lemmas.List.{length-set, get_or-set_same, get_or-set_other}
 use Rattle.std.specs.Prelude.{slice_index, slice_set}
@@ -20,14 +19,7 @@ record Swapped (a b k m : ℕ) : Type 0 where
   stays : k ≢ a → k ≢ b → m ≡ k
 
 swap_apart : {a b k l m : ℕ} → Swapped a b k m → Swapped a b l m → k ≡ l
-swap_apart one two =
-    let p = one.one in
-    let q = one.other in
-    let r = one.stays in
-    let s = two.one in
-    let t = two.other in
-    let u = two.stays in
-    grind arith
+swap_apart one two = grind arith
 
 -- two body words change places, each by a load and a store
 pub swap_done : {one loaded mid two : List ℕ} (a b : ℕ) {first second : ℕ} → a < length one → b < length one → loaded ≡ one → first ≡ slice_index one a
@@ -38,14 +30,11 @@ swap_done {one} {two} a b low high same read found laid stored =
     let middle = laid ∙ (λ j. slice_set (same j) b (read j)) in
     let is : two ≡ slice_set mid a (slice_index one b) = stored ∙ (λ j. slice_set (middle j) a (value j)) in
     let long = length-set one b (slice_index one a) in
-    let here : slice_index two a ≡ slice_index one b =
-    ap (λ (l : List ℕ). slice_index l a) is ∙ get_or-set_same mid a (slice_index one b) 0 (omega arith) in
+    let here : slice_index two a ≡ slice_index one b = ap (λ (l : List ℕ). slice_index l a) is ∙ get_or-set_same mid a (slice_index one b) 0 (omega arith) in
     record {
       long = ap length is ∙ (length-set mid a (slice_index one b) ∙ long);
       first = here;
-      second = dite (ℕ_discrete b a)
-          (λ e. ap (slice_index two) e ∙ (here ∙ ap (slice_index one) e))
-          (λ differ. ap (λ (l : List ℕ). slice_index l b) is
+      second = dite (ℕ_discrete b a) (λ e. ap (slice_index two) e ∙ (here ∙ ap (slice_index one) e)) (λ differ. ap (λ (l : List ℕ). slice_index l b) is
           ∙ (get_or-set_other mid a b (slice_index one b) 0 differ ∙ get_or-set_same one b (slice_index one a) 0 high));
       others = λ s x y. ap (λ (l : List ℕ). slice_index l s) is
           ∙ (get_or-set_other mid a s (slice_index one b) 0 x ∙ get_or-set_other one b s (slice_index one a) 0 y);
@@ -54,26 +43,9 @@ swap_done {one} {two} a b low high same read found laid stored =
 module _ {nb : ℕ} {one two : List ℕ} (a b : ℕ) (bodies : AreBodies nb one) (low : a < nb) (high : b < nb)
     (s : IsSwapped one two (128 * nb + 1 + a) (128 * nb + 1 + b)) where
   source : (k : ℕ) → k < nb → (m : ℕ) × (m < nb) × Swapped a b k m × (body_of nb two k ≡ body_of nb one m)
-  source k lt = dite (ℕ_discrete k a)
-      (λ e. (
-        b,
-        high,
-        record { one = λ q. refl; other = λ q. omega arith; stays = λ p q. absurd (p e) },
-        subst (λ (n : ℕ). body_of nb two n ≡ body_of nb one b) (sym e) (ap (λ (x : ℕ). x / 128) s.first),
-      ))
-      (λ differ. dite (ℕ_discrete k b)
-      (λ e. (
-        a,
-        low,
-        record { one = λ q. absurd (differ q); other = λ q. refl; stays = λ p q. absurd (q e) },
-        subst (λ (n : ℕ). body_of nb two n ≡ body_of nb one a) (sym e) (ap (λ (x : ℕ). x / 128) s.second),
-      ))
-      (λ apart. (
-        k,
-        lt,
-        record { one = λ q. absurd (differ q); other = λ q. absurd (apart q); stays = λ p q. refl },
-        ap (λ (x : ℕ). x / 128) (s.others (128 * nb + 1 + k) (λ e. differ (omega arith)) (λ e. apart (omega arith))),
-      )))
+  source k lt = dite (ℕ_discrete k a) (λ e. (b, high, omega (arith, e), grind (arith, e, s.first))) (λ differ. dite (ℕ_discrete k b)
+      (λ e. (a, low, omega (arith, differ, e), grind (arith, e, s.second)))
+      (λ apart. (k, lt, omega (arith, differ, apart), grind (arith, differ, apart, s.others (128 * nb + 1 + k)))))
 
   -- each body still is of one block where two body words have changed places
   pub swapped : AreBodies nb two
@@ -88,27 +60,12 @@ module _ {nb : ℕ} {one two : List ℕ} (a b : ℕ) (bodies : AreBodies nb one)
 
 -- no body word has moved yet
 pub rotates_none : {nb : ℕ} {one : List ℕ} {to gap : ℕ} → IsRotated nb one one to gap 0
-rotates_none = record {
-  long = refl;
-  moved = λ k le lt. absurd (omega arith);
-  behind = λ k le. refl;
-  below = λ s lt. refl;
-}
+rotates_none = record { long = refl; moved = λ k le lt. absurd (omega arith); behind = λ k le. refl; below = λ s lt. refl }
 
 -- and one more
 pub rotates_on : {nb : ℕ} {one two three : List ℕ} {to gap k : ℕ} → 0 < gap → IsRotated nb one two to gap k
     → IsSwapped two three (128 * nb + 1 + (to + k)) (128 * nb + 1 + (to + k + gap)) → IsRotated nb one three to gap (k + 1)
-rotates_on {nb} {one} {three} {to} {gap} {k} some r s = record {
-  long = s.long ∙ r.long;
-  moved = λ j le lt. elim (cases_lt j (to + k)) [
-    | inl less ↦ s.others (128 * nb + 1 + j) (λ e. omega arith) (λ e. omega arith) ∙ r.moved j le less
-    | inr ge ↦ let e : to + k ≡ j = omega arith in
-        subst (λ (m : ℕ). slice_index three (128 * nb + 1 + m) ≡ slice_index one (128 * nb + 1 + (m + gap))) e
-        (s.first ∙ r.behind (to + k + gap) (omega arith))
-  ];
-  behind = λ j le. s.others (128 * nb + 1 + j) (λ e. omega arith) (λ e. omega arith) ∙ r.behind j (omega arith);
-  below = λ t lt. s.others t (λ e. omega arith) (λ e. omega arith) ∙ r.below t lt;
-}
+rotates_on {nb} {one} {three} {to} {gap} {k} some r s = grind (arith, s.others, s.first)
 
 -- the first lists are the front of more of them
 take_pieces : (f : ℕ → List ℕ) (first more : ℕ) → take (length (pieces f first)) (pieces f (first + more)) ≡ pieces f first
@@ -122,8 +79,7 @@ take_pieces f first (suc more) =
     ∙ (take-append-le (length (pieces f first)) (pieces f (first + more)) (f (first + more)) a ∙ take_pieces f first more)
 
 -- where some lists go, the rest is a splice of the whole
-pub pieces_cut : (f g : ℕ → List ℕ) (first gap n : ℕ) → ((i : ℕ) → i < first → g i ≡ f i)
-    → ((i : ℕ) → first ≤ i → i < first + n → g i ≡ f (i + gap))
+pub pieces_cut : (f g : ℕ → List ℕ) (first gap n : ℕ) → ((i : ℕ) → i < first → g i ≡ f i) → ((i : ℕ) → first ≤ i → i < first + n → g i ≡ f (i + gap))
     → pieces g (first + n) ≡ splice (pieces f (first + n + gap)) (length (pieces f first)) (length (pieces f (first + gap))) []
 pieces_cut f g first gap zero before behind =
     let e : first + 0 ≡ first = omega arith in
@@ -131,8 +87,7 @@ pieces_cut f g first gap zero before behind =
     let front : pieces g first ≡ pieces f first = same_pieces f g first before in
     let none : drop (length (pieces f (first + gap))) (pieces f (first + gap)) ≡ [] = drop_all (length (pieces f (first + gap))) (pieces f (first + gap))
     (omega arith) in
-    ap (pieces g) e ∙ (front ∙ sym
-    (ap (λ (m : ℕ). splice (pieces f m) (length (pieces f first)) (length (pieces f (first + gap))) []) d
+    ap (pieces g) e ∙ (front ∙ sym (ap (λ (m : ℕ). splice (pieces f m) (length (pieces f first)) (length (pieces f (first + gap))) []) d
     ∙ ((λ j. take_pieces f first gap j ++ none j) ∙ append-nil (pieces f first))))
 pieces_cut f g first gap (suc n) before behind =
     let e : first + suc n ≡ suc (first + n) = omega arith in
@@ -163,22 +118,18 @@ module _ {nb : ℕ} {one two : List ℕ} {first gap n : ℕ} (laid : IsLaidOut n
   moved_block : (k l : ℕ) → k < nb → slice_index two (128 * nb + 1 + l) ≡ slice_index one (128 * nb + 1 + k)
       → slice_index two l ≡ slice_index one k → block nb two l ≡ block nb one k
   moved_block k l lt word head =
-      let wide = laid.wide in
       let b = laid.bodies k lt in
       same_block nb one two k l (omega arith) out.long word head (λ m lm. out.region (body_at nb one k + m) (omega arith) (omega arith))
 
   -- the rows of the blocks that went are gone
   pub rows_taken : rows_in nb two ≡ splice (rows_in nb one) (count_to nb one first) (count_to nb one (first + gap)) []
   rows_taken =
-      let before = out.before in
-      let spare = laid.spare in
       let from = count_is first laid (omega arith) in
       let until = count_is (first + gap) laid (omega arith) in
-      ap (pieces (block nb two)) out.count
-      ∙ (pieces_cut (block nb one) (block nb two) first gap n
+      ap (pieces (block nb two)) out.count ∙ (pieces_cut (block nb one) (block nb two) first gap n
       (λ i l. moved_block i i (omega arith) (out.told i l) (out.heads i l))
       (λ i a b. moved_block (i + gap) i (omega arith) (out.later i a b) (out.later_heads i a b))
-      ∙ (λ j. splice (pieces (block nb one) (sym before j)) (from j) (until j) []))
+      ∙ (λ j. splice (pieces (block nb one) (sym out.before j)) (from j) (until j) []))
 
 -- the stores of a removal, one after another
 module _ {nb : ℕ} {one heads told two : List ℕ} {first end count : ℕ} (laid : IsLaidOut nb one) (some : first < end)
@@ -195,34 +146,19 @@ module _ {nb : ℕ} {one heads told two : List ℕ} {first end count : ℕ} (lai
   long_two = ap length stored ∙ (length-set told (128 * nb) (count - (end - first)) ∙ long_told)
 
   here : slice_index two (128 * nb) ≡ count - (end - first)
-  here =
-      let wide = laid.wide in
-      let l = long_told in
-      ap (λ (l : List ℕ). slice_index l (128 * nb)) stored ∙ get_or-set_same told (128 * nb) (count - (end - first)) 0 (omega arith)
+  here = let l = long_told in ap (λ (l : List ℕ). slice_index l (128 * nb)) stored ∙ get_or-set_same told (128 * nb) (count - (end - first)) 0 (omega arith)
 
   past : (s : ℕ) → count ≤ s → s < 128 * nb + 1 + first → s ≢ 128 * nb → slice_index two s ≡ slice_index one s
   past s le lt d = other s d ∙ (r.below s lt ∙ c.above s (omega arith))
 
   laid_out : IsLaidOut nb two
   laid_out =
-      let spare = laid.spare in
-      let wide = laid.wide in
-      let long = long_two in
-      let h = here in
-      let stays : (k : ℕ) → body_of nb two k ≡ body_of nb told k =
-      λ (k : ℕ). ap (λ (x : ℕ). x / 128) (other (128 * nb + 1 + k) (λ e. omega arith)) in
-      record {
-        wide = omega arith;
-        some = omega arith;
-        spare = omega arith;
-        bodies = λ k lt. let e = stays k in let b = bodies.there k lt in omega arith;
-        apart = λ k l a b e. bodies.apart k l a b (sym (stays k) ∙ (e ∙ stays l));
-      }
+      let stays : (k : ℕ) → body_of nb two k ≡ body_of nb told k = λ (k : ℕ). ap (λ (x : ℕ). x / 128) (other (128 * nb + 1 + k) (λ e. omega arith)) in
+      grind (arith, long_two, here, bodies.there, bodies.apart)
 
   -- what they come to
   pub is_out : IsTakenOut nb one two first (end - first) (count - end)
   is_out =
-      let spare = laid.spare in
       let h = here in
       record {
         laid = laid_out;

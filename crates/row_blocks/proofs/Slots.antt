@@ -1,15 +1,14 @@
 -- The slots in use: how many there are, which is the k-th, that all differ and lie below `128 * nb`, and that the rows
 -- are the words that stand there.
 use Rattle.std.proofs.Common.{◌≡◌, ℕ, zero, suc, ◌+◌, ◌*◌, ◌/◌, ◌%◌, ◌<◌, ◌≤◌, List, ◌∷◌, ◌++◌, length, get_or, take, drop}
-use Rattle.std.proofs.Common.{sym, refl, ap, ◌∙◌, subst, arith, inl, inr}
-use Rattle.std.proofs.lemmas.Bool.{cases_lt}
+use Rattle.std.proofs.Common.{sym, refl, ap, ◌∙◌, subst, arith}
 use Rattle.std.specs.Prelude.{slice_index, map}
 use Rattle.std.proofs.lemmas.List.{length-append, map-append, length-map, get_or-map, get_or-set_same, get_or-set_other, length-set}
 use Rattle.std.proofs.lemmas.Grind.{same_number_lists}
 use mathlib.Core.Logic.{dite}
 use native.Mathlib.Decide.{ℕ_discrete}
 use Rattle.std.specs.Prelude.{slice_set}
-use Rattle.row_blocks.specs.Blocks.{pieces, run, blocks_of, body_of, rows_of, body_at, slots_of, block, slots_in, rows_in, count_to, IsLaidOut}
+use Rattle.row_blocks.specs.Blocks.{pieces, run, blocks_of, rows_of, body_at, slots_of, block, slots_in, rows_in, count_to, IsLaidOut}
 use Rattle.row_blocks.proofs.Pieces.{at_piece, stands_at, same_pieces}
 use Rattle.row_blocks.proofs.Puts.{run_length, run_at, still_laid_out}
 
@@ -57,8 +56,6 @@ map_run words at n wide =
 -- the rows are the words in the slots
 pub rows_are : (nb : ℕ) (words : List ℕ) → IsLaidOut nb words → map (slice_index words) (slots_in nb words) ≡ rows_in nb words
 rows_are nb words laid =
-    let w = laid.wide in
-    let s = laid.spare in
     map_pieces (slice_index words) (slots_of nb words) (block nb words) (blocks_of nb words) (λ i lt.
     let b = laid.bodies i (omega arith) in
     ap (λ (l : List ℕ). slice_index words i ∷ l) (map_run words (body_at nb words i) (rows_of nb words i) (omega arith)))
@@ -91,56 +88,26 @@ pub record KthSlot (nb : ℕ) (words : List ℕ) (k : ℕ) : Type 0 where
 pub kth_slot : (nb : ℕ) (words : List ℕ) (k : ℕ) → k < length (slots_in nb words) → KthSlot nb words k
 kth_slot nb words k lt =
     let p = stands_at (blocks_of nb words) lt in
-    let there = p.there in
-    let below = p.below in
-    let at = p.at in
     let one = length-run (body_at nb words p.k) (rows_of nb words p.k) in
     let l = slots_length nb words p.k in
     record {
       i = p.k;
       j = p.j;
       is = subst (IsSlot nb words p.k p.j)
-          (sym (ap (slice_index (slots_in nb words)) at ∙ at_piece (slots_of nb words) p.k (blocks_of nb words) p.j there below))
-          (slot_at p.j there (omega arith));
+          (sym (ap (slice_index (slots_in nb words)) p.at ∙ at_piece (slots_of nb words) p.k (blocks_of nb words) p.j p.there p.below))
+          (slot_at p.j p.there (omega arith));
       at = omega arith;
     }
 
 -- all are below the block count's word
 pub slot_below : (nb : ℕ) (words : List ℕ) (i j s : ℕ) → IsLaidOut nb words → IsSlot nb words i j s → s < 128 * nb
-slot_below nb words i j s laid is =
-    let there = is.there in
-    let below = is.below in
-    let spare = laid.spare in
-    let b = laid.bodies i (omega arith) in
-    elim (cases_lt 0 j) [
-      | inl some ↦ let t = is.body some in omega arith
-      | inr none ↦ let h = is.head (omega arith) in omega arith
-    ]
+slot_below nb words i j s laid is = let b = laid.bodies i (omega arith) in grind arith
 
 -- and differ: one slot is one place of one block
 pub one_place : {nb : ℕ} {words : List ℕ} {i j k l s : ℕ} → IsLaidOut nb words → IsSlot nb words i j s → IsSlot nb words k l s → (i ≡ k) × (j ≡ l)
 one_place {nb} {words} {i} {j} {k} {l} laid one two =
-    let spare = laid.spare in
-    let a = one.there in
-    let b = two.there in
-    let low = one.below in
-    let high = two.below in
-    let p = laid.bodies i (omega arith) in
-    let q = laid.bodies k (omega arith) in
-    elim (cases_lt 0 j) [
-      | inl some ↦ let t = one.body some in
-          elim (cases_lt 0 l) [
-            | inl more ↦ let y = two.body more in
-                let body : body_of nb words i ≡ body_of nb words k = omega arith in
-                (laid.apart i k (omega arith) (omega arith) body, omega arith)
-            | inr none ↦ let x = two.head (omega arith) in absurd (omega arith)
-          ]
-      | inr none ↦ let h = one.head (omega arith) in
-          elim (cases_lt 0 l) [
-            | inl more ↦ let y = two.body more in absurd (omega arith)
-            | inr none_too ↦ let x = two.head (omega arith) in (omega arith, omega arith)
-          ]
-    ]
+    let p = laid.bodies i (omega arith) in let q = laid.bodies k (omega arith) in
+    grind (arith, laid.apart i k)
 
 -- so all slots differ
 pub slots_differ : (nb : ℕ) (words : List ℕ) (k l : ℕ) → IsLaidOut nb words → k < length (slots_in nb words) → l < length (slots_in nb words)
@@ -148,11 +115,8 @@ pub slots_differ : (nb : ℕ) (words : List ℕ) (k l : ℕ) → IsLaidOut nb wo
 slots_differ nb words k l laid a b e =
     let one = kth_slot nb words k a in
     let two = kth_slot nb words l b in
-    let at = one.at in
-    let to = two.at in
     let p = one_place laid one.is (subst (IsSlot nb words two.i two.j) (sym e) two.is) in
     let i : one.i ≡ two.i = p.0 in
-    let j : one.j ≡ two.j = p.1 in
     let c : count_to nb words one.i ≡ count_to nb words two.i = ap (count_to nb words) i in
     omega arith
 
@@ -166,10 +130,8 @@ map_set words slots k w lt wide apart =
     let a = length-map slots (slice_index two) in
     let b = length-map slots (slice_index words) in
     let c = length-set rows k w in
-    same_number_lists (map (slice_index two) slots) (slice_set rows k w) (omega arith) (λ m l.
-    get_or-map (slice_index two) slots m 0 0 (omega arith)
-    ∙ dite (ℕ_discrete m k)
-    (λ same. subst (λ (n : ℕ). slice_index two (slice_index slots n) ≡ get_or (slice_set rows k w) n 0) (sym same)
+    same_number_lists (map (slice_index two) slots) (slice_set rows k w) (omega arith) (λ m l. get_or-map (slice_index two) slots m 0 0 (omega arith)
+    ∙ dite (ℕ_discrete m k) (λ same. subst (λ (n : ℕ). slice_index two (slice_index slots n) ≡ get_or (slice_set rows k w) n 0) (sym same)
     (get_or-set_same words (slice_index slots k) w 0 wide ∙ sym (get_or-set_same rows k w 0 (omega arith))))
     (λ differ. get_or-set_other words (slice_index slots k) (slice_index slots m) w 0 (λ e. differ (apart m (omega arith) e))
     ∙ (sym (get_or-map (slice_index words) slots m 0 0 (omega arith)) ∙ sym (get_or-set_other rows k m w 0 differ))))
@@ -188,8 +150,7 @@ module _ (nb : ℕ) (words : List ℕ) (i j s w : ℕ) (laid : IsLaidOut nb word
   pub slots_stay : slots_in nb (slice_set words s w) ≡ slots_in nb words
   slots_stay =
       let count = layout_stays (128 * nb) (omega arith) in
-      ap (pieces (slots_of nb (slice_set words s w))) count
-      ∙ same_pieces (slots_of nb words) (slots_of nb (slice_set words s w)) (blocks_of nb words) (λ k lt.
+      ap (pieces (slots_of nb (slice_set words s w))) count ∙ same_pieces (slots_of nb words) (slots_of nb (slice_set words s w)) (blocks_of nb words) (λ k lt.
       let e = layout_stays (128 * nb + 1 + k) (omega arith) in
       ap (λ (x : ℕ). k ∷ run (nb + 127 * (x / 128)) (x % 128)) e)
 
@@ -201,11 +162,9 @@ stored nb words k w laid lt =
     let s : ℕ = slice_index slots k in
     let two : List ℕ = slice_set words s w in
     let at = kth_slot nb words k lt in
-    let wide = laid.wide in
     let below = slot_below nb words at.i at.j s laid at.is in
     let after : IsLaidOut nb two = laid_stored nb words at.i at.j s w laid at.is in
-    sym (rows_are nb two after)
-    ∙ (ap (map (slice_index two)) (slots_stay nb words at.i at.j s w laid at.is)
+    sym (rows_are nb two after) ∙ (ap (map (slice_index two)) (slots_stay nb words at.i at.j s w laid at.is)
     ∙ (map_set words slots k w lt (omega arith) (λ m l e. slots_differ nb words m k laid l lt e)
     ∙ ap (λ (x : List ℕ). slice_set x k w) (rows_are nb words laid)))
 
@@ -216,6 +175,5 @@ at_slot nb words i j there below =
     let l = slots_length nb words i in
     let one = length-run (body_at nb words i) (rows_of nb words i) in
     let at : count_to nb words i + j ≡ length (pieces (slots_of nb words) i) + j = omega arith in
-    subst (IsSlot nb words i j)
-    (sym (ap (slice_index (slots_in nb words)) at ∙ at_piece (slots_of nb words) i (blocks_of nb words) j there (omega arith)))
+    subst (IsSlot nb words i j) (sym (ap (slice_index (slots_in nb words)) at ∙ at_piece (slots_of nb words) i (blocks_of nb words) j there (omega arith)))
     (slot_at j there below)

@@ -1,6 +1,6 @@
 -- What a split leaves: the same rows, in one block more.
 use Rattle.std.proofs.Common.{◌≡◌, ◌≢◌, ℕ, zero, suc, ◌+◌, ◌-◌, ◌*◌, ◌/◌, ◌%◌, ◌<◌, ◌≤◌, List, ◌∷◌, ◌++◌, length, get_or, take, drop}
-use Rattle.std.proofs.Common.{sym, refl, ap, ◌∙◌, subst, arith, inl, inr}
+use Rattle.std.proofs.Common.{sym, ap, ◌∙◌, subst, arith, inl, inr}
 use Rattle.std.proofs.Math.Seq.{take-add}
 use Rattle.std.proofs.lemmas.Bool.{cases_lt}
 use Rattle.std.proofs.lemmas.List.{append_assoc, drop-drop, drop_more, length-set, get_or-set_same, get_or-set_other}
@@ -29,16 +29,14 @@ piece_splits f g k (suc n) lt before here behind = elim (cases_lt k n) [
 ]
 
 -- a row of a body, those before it and those behind
-pub cut_run : (words : List ℕ) (at before behind : ℕ) → at + before < length words
-    → take (before + (1 + behind)) (drop at words)
+pub cut_run : (words : List ℕ) (at before behind : ℕ) → at + before < length words → take (before + (1 + behind)) (drop at words)
     ≡ take before (drop at words) ++ (get_or words (at + before) 0 ∷ take behind (drop (at + (before + 1)) words))
 cut_run words at before behind wide =
     let d = drop-drop before at words in
     let m = drop_more words (at + before) 0 wide in
     let two : at + before + 1 ≡ at + (before + 1) = omega arith in
     let up : 1 + behind ≡ suc behind = omega arith in
-    take-add before (1 + behind) (drop at words)
-    ∙ ap (λ (l : List ℕ). take before (drop at words) ++ l)
+    take-add before (1 + behind) (drop at words) ∙ ap (λ (l : List ℕ). take before (drop at words) ++ l)
     (ap (take (1 + behind)) (d ∙ m) ∙ (λ j. take (up j) (get_or words (at + before) 0 ∷ drop (two j) words)))
 
 -- what stands after a split of a block at a place
@@ -53,8 +51,7 @@ pub record IsSplit (nb : ℕ) (one two : List ℕ) (i place : ℕ) : Type 0 wher
   pub heads : (k : ℕ) → k ≤ i → slice_index two k ≡ slice_index one k
   pub head : slice_index two (i + 1) ≡ slice_index one (body_at nb one i + (place - 1))
   pub later_heads : (k : ℕ) → i < k → k < blocks_of nb one → slice_index two (k + 1) ≡ slice_index one k
-  pub copied : (m : ℕ) → m < rows_of nb one i - place
-      → slice_index two (body_at nb one (blocks_of nb one) + m) ≡ slice_index one (body_at nb one i + place + m)
+  pub copied : (m : ℕ) → m < rows_of nb one i - place → slice_index two (body_at nb one (blocks_of nb one) + m) ≡ slice_index one (body_at nb one i + place + m)
   pub low : (s : ℕ) → nb ≤ s → s < body_at nb one (blocks_of nb one) → slice_index two s ≡ slice_index one s
   pub high : (s : ℕ) → body_at nb one (blocks_of nb one) + (rows_of nb one i - place) ≤ s → s < 128 * nb → slice_index two s ≡ slice_index one s
 
@@ -66,56 +63,18 @@ record ComesFrom (i count k m : ℕ) : Type 0 where
   free : count < k → m ≡ k
 
 comes_apart : {i count k l m : ℕ} → i < count → ComesFrom i count k m → ComesFrom i count l m → k ≡ l
-comes_apart there one two =
-    let a = one.low in
-    let b = one.at in
-    let c = one.later in
-    let d = one.free in
-    let e = two.low in
-    let f = two.at in
-    let g = two.later in
-    let h = two.free in
-    grind arith
+comes_apart there one two = grind arith
 
 module _ {nb : ℕ} {one two : List ℕ} {i place : ℕ} (laid : IsLaidOut nb one) (there : i < blocks_of nb one) (spare : blocks_of nb one < nb) (some : 0 < place)
     (within : place ≤ rows_of nb one i) (split : IsSplit nb one two i place) where
   -- the bodies are those that were, in another order
   comes : (k : ℕ) → k < nb → (m : ℕ) × (m < nb) × ComesFrom i (blocks_of nb one) k m × (body_of nb two k ≡ body_of nb one m)
   comes k lt = elim (cases_lt i k) [
-    | inr low ↦ (
-      k,
-      lt,
-      record { low = λ l. refl; at = λ e. absurd (omega arith); later = λ l. absurd (omega arith); free = λ l. refl },
-      elim (cases_lt k i) [
-        | inl less ↦ ap (λ (x : ℕ). x / 128) (split.told k less)
-        | inr ge ↦ let e : k ≡ i = omega arith in
-            let l = split.lower in
-            subst (λ (n : ℕ). body_of nb two n ≡ body_of nb one n) (sym e) (omega arith)
-      ],
-    )
-    | inl over ↦ dite (ℕ_discrete k (i + 1))
-        (λ e. (
-          blocks_of nb one,
-          spare,
-          record { low = λ l. absurd (omega arith); at = λ l. refl; later = λ l. absurd (omega arith); free = λ l. absurd (omega arith) },
-          let u = split.upper in
-              subst (λ (n : ℕ). body_of nb two n ≡ body_of nb one (blocks_of nb one)) (sym e) (omega arith),
-        ))
+    | inr low ↦ (k, lt, omega arith, grind (arith, split.told k, split.lower))
+    | inl over ↦ dite (ℕ_discrete k (i + 1)) (λ e. (blocks_of nb one, spare, omega arith, grind (arith, split.upper)))
         (λ differ. elim (cases_lt (blocks_of nb one) k) [
-          | inl free ↦ (
-            k,
-            lt,
-            record { low = λ l. refl; at = λ e. absurd (omega (arith, differ)); later = λ a b. absurd (omega arith); free = λ l. refl },
-            ap (λ (x : ℕ). x / 128) (split.free k free lt),
-          )
-          | inr used ↦ (
-            k - 1,
-            omega arith,
-            record { low = λ l. absurd (omega arith); at = λ e. absurd (omega (arith, differ)); later = λ a b. omega arith; free = λ l. absurd (omega arith) },
-            let up : k - 1 + 1 ≡ k = omega arith in
-                subst (λ (n : ℕ). body_of nb two n ≡ body_of nb one (k - 1)) up
-                (ap (λ (x : ℕ). x / 128) (split.later (k - 1) (omega (arith, differ)) (omega arith))),
-          )
+          | inl free ↦ (k, lt, omega (arith, differ), grind (arith, split.free k free lt))
+          | inr used ↦ (k - 1, omega arith, omega (arith, differ), grind (arith, differ, split.later (k - 1)))
         ])
   ]
 
@@ -123,8 +82,6 @@ module _ {nb : ℕ} {one two : List ℕ} {i place : ℕ} (laid : IsLaidOut nb on
   pub laid_split : IsLaidOut nb two
   laid_split =
       let wide = laid.wide in
-      let long = split.long in
-      let count = split.count in
       record {
         wide = omega arith;
         some = omega arith;
@@ -141,16 +98,13 @@ module _ {nb : ℕ} {one two : List ℕ} {i place : ℕ} (laid : IsLaidOut nb on
   body_same : (k m : ℕ) → k < blocks_of nb one → m < rows_of nb one k → slice_index two (body_at nb one k + m) ≡ slice_index one (body_at nb one k + m)
   body_same k m lt few =
       let b = laid.bodies k (omega arith) in
-      elim (elsewhere k (blocks_of nb one) m laid (omega arith) spare (λ e. omega arith) (omega arith)) [
-        | inl under ↦ split.low (body_at nb one k + m) (omega arith) under
-        | inr over ↦ split.high (body_at nb one k + m) (omega arith) (omega arith)
-      ]
+      let away = elsewhere k (blocks_of nb one) m laid (omega arith) spare (λ e. omega arith) (omega arith) in
+      grind (arith, split.low (body_at nb one k + m), split.high (body_at nb one k + m))
 
   -- blocks with the same body word and the same head are the same
   moved_block : (k l : ℕ) → k < blocks_of nb one → slice_index two (128 * nb + 1 + l) ≡ slice_index one (128 * nb + 1 + k)
       → slice_index two l ≡ slice_index one k → block nb two l ≡ block nb one k
   moved_block k l lt word head =
-      let wide = laid.wide in
       let b = laid.bodies k (omega arith) in
       same_block nb one two k l (omega arith) split.long word head (λ m few. body_same k m lt few)
 
@@ -182,33 +136,25 @@ module _ {nb : ℕ} {one two : List ℕ} {i place : ℕ} (laid : IsLaidOut nb on
       let second : block nb two (i + 1) ≡ slice_index one (at + (place - 1)) ∷ take (n - place) (drop (at + place) one) =
       (λ j. split.head j ∷ take (high_word j) (drop (nb + 127 * high_body j) two)) ∙ ap (λ (r : List ℕ). slice_index one (at + (place - 1)) ∷ r) rest in
       let cut : take n (drop at one) ≡ take (place - 1) (drop at one) ++ (slice_index one (at + (place - 1)) ∷ take (n - place) (drop (at + place) one)) =
-      ap (λ (x : ℕ). take x (drop at one)) (sym all)
-      ∙ (cut_run one at (place - 1) (n - place) (omega arith)
+      ap (λ (x : ℕ). take x (drop at one)) (sym all) ∙ (cut_run one at (place - 1) (n - place) (omega arith)
       ∙ ap (λ (x : ℕ). take (place - 1) (drop at one) ++ (slice_index one (at + (place - 1)) ∷ take (n - place) (drop x one))) from) in
-      ap (λ (r : List ℕ). slice_index one i ∷ r) cut
-      ∙ ((λ j. sym first j ++ sym second j) ∙ ap (λ (x : ℕ). block nb two i ++ block nb two x) next)
+      ap (λ (r : List ℕ). slice_index one i ∷ r) cut ∙ ((λ j. sym first j ++ sym second j) ∙ ap (λ (x : ℕ). block nb two i ++ block nb two x) next)
 
   -- and the rows are those that were
   pub rows_split : rows_in nb two ≡ rows_in nb one
   rows_split =
-      let count : blocks_of nb two ≡ suc (blocks_of nb one) = let e = split.count in omega arith in
-      ap (pieces (block nb two)) count
-      ∙ piece_splits (block nb one) (block nb two) i (blocks_of nb one) there
-      (λ k lt. moved_block k k (omega arith) (split.told k lt) (split.heads k (omega arith)))
-      halves
-      (λ k over lt. let up : k + 1 ≡ suc k = omega arith in
-      subst (λ (x : ℕ). block nb two x ≡ block nb one k) up
-      (moved_block k (k + 1) lt (split.later k over lt) (split.later_heads k over lt)))
+      let count : blocks_of nb two ≡ suc (blocks_of nb one) = omega arith in
+      ap (pieces (block nb two)) count ∙ piece_splits (block nb one) (block nb two) i (blocks_of nb one) there
+      (λ k lt. moved_block k k (omega arith) (split.told k lt) (split.heads k (omega arith))) halves (λ k over lt. let up : k + 1 ≡ suc k = omega arith in
+      subst (λ (x : ℕ). block nb two x ≡ block nb one k) up (moved_block k (k + 1) lt (split.later k over lt) (split.later_heads k over lt)))
 
 -- the rows that stay in their body stand as they stood
 pub lower_stays : {nb : ℕ} {one copy : List ℕ} (i place m : ℕ) → IsLaidOut nb one → i < blocks_of nb one → blocks_of nb one < nb → m < 127
     → IsCopied one copy (body_at nb one i + place) (body_at nb one (blocks_of nb one)) (rows_of nb one i - place)
     → slice_index copy (body_at nb one i + m) ≡ slice_index one (body_at nb one i + m)
 lower_stays {nb} {one} i place m laid there spare few c =
-    elim (elsewhere i (blocks_of nb one) m laid (omega arith) spare (λ e. omega arith) few) [
-      | inl under ↦ c.below (body_at nb one i + m) under
-      | inr over ↦ c.above (body_at nb one i + m) (omega arith)
-    ]
+    let away = elsewhere i (blocks_of nb one) m laid (omega arith) spare (λ e. omega arith) few in
+    grind (arith, c.below (body_at nb one i + m), c.above (body_at nb one i + m))
 
 -- the five stores of a split, one after another
 pub is_split : {nb : ℕ} {one copy heads told : List ℕ} {i place : ℕ} (lower : ℕ) → IsLaidOut nb one → i < blocks_of nb one → blocks_of nb one < nb → 0 < place
@@ -219,9 +165,7 @@ pub is_split : {nb : ℕ} {one copy heads told : List ℕ} {i place : ℕ} (lowe
     → IsSplit nb one (slice_set (slice_set told (128 * nb + 1 + i) lower) (128 * nb) (blocks_of nb one + 1)) i place
 is_split {nb} {one} {copy} {heads} {told} {i} {place} lower laid there spare some within c h t less =
     let long = c.long in
-    let copied = c.copied in
     let low = c.below in
-    let high = c.above in
     let n : ℕ = blocks_of nb one in
     let wide = laid.wide in
     let b = laid.bodies i (omega arith) in
@@ -240,28 +184,12 @@ is_split {nb} {one} {copy} {heads} {told} {i} {place} lower laid there spare som
     let region : (s : ℕ) → nb ≤ s → s < 128 * nb → slice_index two s ≡ slice_index copy s =
     λ (s : ℕ) (from : nb ≤ s) (l : s < 128 * nb). before s l ∙ h.above s (omega arith) in
     let was : (k : ℕ) → slice_index heads (128 * nb + 1 + k) ≡ slice_index one (128 * nb + 1 + k) =
-    λ (k : ℕ). h.above (128 * nb + 1 + k) (omega arith) ∙ high (128 * nb + 1 + k) (omega arith) in
-    record {
-      long = omega arith;
-      count = get_or-set_same three (128 * nb) (n + 1) 0 (omega arith);
-      told = λ k l. stays (128 * nb + 1 + k) (λ e. omega arith) (λ e. omega arith) ∙ (t.below (128 * nb + 1 + k) (omega arith) ∙ was k);
-      lower =
-          let e : slice_index two (128 * nb + 1 + i) ≡ lower = get_or-set_other three (128 * nb) (128 * nb + 1 + i) (n + 1) 0 (λ e. omega arith)
-          ∙ get_or-set_same told (128 * nb + 1 + i) lower 0 (omega arith) in
-          ap (λ (x : ℕ). x + (rows_of nb one i - place + 1)) e ∙ less;
-      upper = stays (128 * nb + 1 + (i + 1)) (λ e. omega arith) (λ e. omega arith) ∙ t.here;
-      later = λ k over l.
-          let at : 128 * nb + 1 + k + 1 ≡ 128 * nb + 1 + (k + 1) = omega arith in
-          stays (128 * nb + 1 + (k + 1)) (λ e. omega arith) (λ e. omega arith)
-          ∙ (ap (slice_index told) (sym at) ∙ (t.moved (128 * nb + 1 + k) (omega arith) (omega arith) ∙ was k));
-      free = λ k over l. stays (128 * nb + 1 + k) (λ e. omega arith) (λ e. omega arith) ∙ (t.above (128 * nb + 1 + k) (omega arith) ∙ was k);
-      heads = λ k l. before k (omega arith) ∙ (h.below k (omega arith) ∙ low k (omega arith));
-      head = before (i + 1) (omega arith) ∙ (h.here ∙ lower_stays i place (place - 1) laid there spare (omega arith) c);
-      later_heads = λ k over l. before (k + 1) (omega arith) ∙ (h.moved k (omega arith) l ∙ low k (omega arith));
-      copied = λ m l. region (body_at nb one n + m) (omega arith) (omega arith) ∙ copied m l;
-      low = λ s from l. region s from (omega arith) ∙ low s l;
-      high = λ s from l. region s (omega arith) l ∙ high s from;
-    }
+    λ (k : ℕ). h.above (128 * nb + 1 + k) (omega arith) ∙ c.above (128 * nb + 1 + k) (omega arith) in
+    let head = lower_stays i place (place - 1) laid there spare (omega arith) c in
+    let count = get_or-set_same three (128 * nb) (n + 1) 0 in
+    let low_word = get_or-set_other three (128 * nb) (128 * nb + 1 + i) (n + 1) 0 (λ e. omega arith)
+    ∙ get_or-set_same told (128 * nb + 1 + i) lower 0 (omega arith) in
+    grind (arith, stays, before, region, was)
 
 -- what was read of the layout says from where and to where rows are copied
 pub split_copied : (nb : ℕ) {one loaded copy : List ℕ} (i place : ℕ) {packed count free : ℕ} → loaded ≡ one → packed ≡ slice_index one (128 * nb + 1 + i)
@@ -292,9 +220,9 @@ split_done {nb} {one} {copy} {heads} {told} {i} {place} {packed} laid there spar
 
 -- how many rows the two halves have
 pub split_lower : {nb : ℕ} {one two : List ℕ} {i place : ℕ} → 0 < place → place ≤ rows_of nb one i → IsSplit nb one two i place → rows_of nb two i + 1 ≡ place
-split_lower some within split = let l = split.lower in omega arith
+split_lower some within split = omega arith
 
 -- and those of the upper half
 pub split_upper : {nb : ℕ} {one two : List ℕ} {i place : ℕ} → place ≤ rows_of nb one i → IsSplit nb one two i place
     → rows_of nb two (i + 1) + place ≡ rows_of nb one i
-split_upper within split = let u = split.upper in omega arith
+split_upper within split = omega arith

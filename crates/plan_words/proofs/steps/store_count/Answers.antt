@@ -10,14 +10,8 @@ store_as_uncounted-requires-clause-allowed c = let s = c.args.seat.now in let w 
 -- it was one step, which left that count
 pub returns : goal.returns
 returns c =
-    let t = c.store_as_uncounted.new.seat in
     let w = c.requires.writes in
     let made = c.store_as_uncounted.ensures.made in
     let r = count_stored w c.args.count made.0 c.store_as_uncounted.ensures.call made.1 in
-    record {
-      words = r.words_are;
-      count = r.count_is;
-      writes = writes_on w r.step.writing r.step.holds;
-      writing = r.step.writing;
-      taken = r.step.taken;
-    }
+    let writes = writes_on w r.step.writing r.step.holds in
+    assumption

@@ -30,18 +30,18 @@ pub write-requires-clause-fits : goal.write-requires-clause-fits
 write-requires-clause-fits c = let s = c.args.seat.now in
     let p = (row_place s.pass c.args.at c.requires.blocks c.requires.rows c.requires.there).number in
     let long = ap length (ap (λ n. rows_in n (known_words s.pass)) (sym c.requires.blocks) ∙ c.requires.rows) in
-    let first = c.requires.first in let end = c.requires.end in let inside = c.requires.inside in omega arith
+    omega arith
 
 -- a row before them stays, or one comes
 pub write-requires-clause-stays : goal.write-requires-clause-stays
 write-requires-clause-stays c = let s = c.args.seat.now in
     let p = (row_place s.pass c.args.at c.requires.blocks c.requires.rows c.requires.there).number in
-    let first = c.requires.first in let stays = c.requires.stays (search rules) in omega arith
+    let stays = c.requires.stays (search rules) in omega arith
 
 -- those that come are rows of the splice
 pub write-requires-clause-new : goal.write-requires-clause-new
 write-requires-clause-new c = let s = c.args.seat.now in
-    more_rows (plan_at s) c.requires.more (let end = c.requires.end in let inside = c.requires.inside in omega arith)
+    more_rows (plan_at s) c.requires.more (omega arith)
 
 -- and there is room for them
 pub write-requires-clause-room : goal.write-requires-clause-room

@@ -15,9 +15,7 @@ write_rows-requires-clause-rows c = sym (ap (λ (p : Splice). p.old) c.requires.
 
 -- the splice begins at one of them
 pub write_rows-requires-clause-there : goal.write_rows-requires-clause-there
-write_rows-requires-clause-there c =
-    let old = ap (λ (p : Splice). length p.old) c.requires.plan in
-    let there = c.requires.there in let count = c.requires.count in omega arith
+write_rows-requires-clause-there c = let old = ap (λ (p : Splice). length p.old) c.requires.plan in omega arith
 
 pub write_rows-requires-clause-first : goal.write_rows-requires-clause-first
 write_rows-requires-clause-first c = ap (λ (p : Splice). p.first) c.requires.plan
@@ -32,7 +30,7 @@ pub write_rows-requires-clause-inside : goal.write_rows-requires-clause-inside
 write_rows-requires-clause-inside c =
     let old = ap (λ (p : Splice). length p.old) c.requires.plan in
     let end = ap (λ (p : Splice). p.end) c.requires.plan in
-    let inside = c.requires.inside in let count = c.requires.count in omega arith
+    omega arith
 
 -- these rows come
 pub write_rows-requires-clause-more : goal.write_rows-requires-clause-more
@@ -50,7 +48,6 @@ write_count-requires-clause-left c =
     let from = number_at s.pass c.args.at in
     let same : plan_at c.write_rows.new.seat ≡ plan_at s = ap splice_in c.write_rows.ensures.writing.0.pending in
     let after = ap (λ (p : Splice). length (rows_after p)) (same ∙ c.requires.plan) in
-    let inside = c.requires.inside in let count = c.requires.count in
     let long = length-splice (known_rows s.pass) c.args.more.now from (from + c.args.gone) (omega arith) (omega arith) in
     omega arith
 

@@ -34,7 +34,5 @@ returns-clause-spliced g c =
 pub returns-clause-short : goal.returns-clause-short
 returns-clause-short g c =
     let ws = c.args.words.now in
-    let free = c.requires.free in
     stays_short c.args.blocks (g.W.Loads.words ws c.make_room-to.new.hand) (g.W.Loads.words ws c.insert_all.new.hand) c.make_room-to.result.block
-    (length c.args.more.now)
-    (omega arith) c.make_room-to.ensures.first c.make_room-to.ensures.short c.insert_all.ensures.grown c.insert_all.ensures.others
+    (length c.args.more.now) (omega arith) c.make_room-to.ensures.first c.make_room-to.ensures.short c.insert_all.ensures.grown c.insert_all.ensures.others

@@ -1,4 +1,4 @@
-use Rattle.std.proofs.Common.{ℕ, [], ◌∷◌, ◌≡◌, ◌+◌, All, length, take, refl, sym, ap, subst, ◌∙◌, arith}
+use Rattle.std.proofs.Common.{ℕ, [], ◌∷◌, ◌≡◌, ◌+◌, length, take, refl, sym, ap, subst, ◌∙◌, arith}
 use Rattle.std.specs.Prelude.{slice_index}
 use Rattle.std.specs.List.{splice}
 use Rattle.std.proofs.lemmas.List.{take_all}
@@ -32,7 +32,6 @@ rows-init g c = record {
 -- the row that comes is a row
 pub insert-requires-clause-row : goal.insert-requires-clause-row
 insert-requires-clause-row g c =
-    let lt = c.rows-test.true in
     c.rows.invariant.rows (slice_index c.args.more.now c.rows.k)
     (All-get_or (g.W.Loads.is_row c.args.words.now c.args.hand.now) c.args.more.now c.rows.k 0 (omega arith) c.requires.new)
 
@@ -44,25 +43,16 @@ rows-preserved g c =
     let one = g.W.Loads.words ws c.args.hand.now in
     let two = g.W.Loads.words ws c.rows.hand in
     let inv = c.rows.invariant in
-    let lt = c.rows-test.true in
     let i = c.args.at.block in
     let k = c.rows.k in
     let w = slice_index c.args.more.now k in
     let r : ℕ = rank nb one i c.args.at.place in
-    let there = c.requires.there in
-    let place = c.requires.place in
-    let spare = c.requires.laid.spare in
     let call = c.insert.ensures in
     let before = count_told nb one two i (λ j less. inv.others j (omega arith) (λ e. omega arith)) in
     let at : rank nb two i (c.args.at.place + k) ≡ r + k = omega arith in
     let long = length-rows_in nb one c.requires.laid in
     let next = count_next nb one i in
     let up = count_up nb one (i + 1) (blocks_of nb one) (omega arith) in
-    let grown = inv.grown in
-    let more = call.more in
-    let steps = inv.steps in
-    let step = call.steps in
-    let room = c.requires.room in
     let is = All-get_or (g.W.Loads.is_row ws c.args.hand.now) c.args.more.now k 0 (omega arith) c.requires.new in
     let P = g.W.Loads.is_row ws c.rows.hand in
     record {
@@ -88,8 +78,6 @@ returns-clause-spliced g c =
     let two = g.W.Loads.words c.args.words.now c.rows.hand in
     let r : ℕ = rank nb one c.args.at.block c.args.at.place in
     let more = c.args.more.now in
-    let out = c.rows-test.false in
-    let high = c.rows.invariant.high in
     let all : c.rows.k ≡ length more = omega arith in
     subst (λ (n : ℕ). rows_in nb two ≡ splice (rows_in nb one) r r (take n more)) all c.rows.invariant.spliced
     ∙ ap (splice (rows_in nb one) r r) (take_all (length more) more (omega arith))

@@ -9,8 +9,6 @@ cut_on-requires-2-clause-fits g c =
     let nb = c.args.blocks in
     let one = g.W.Loads.words c.args.words.now c.args.hand.now in
     let was = c.cut_first-left.ensures in
-    let there = c.requires.there in
-    let count = was.count in
     rest_fits (rows_in nb one) c.args.at.block (rank nb one c.args.at.block c.args.at.place) c.args.gone c.cut_first-left.result was.laid (omega arith)
     was.left was.spliced was.rest c.requires.fits
 
@@ -21,6 +19,5 @@ returns-clause-spliced g c =
     let one = g.W.Loads.words c.args.words.now c.args.hand.now in
     let two = g.W.Loads.words c.args.words.now c.cut_first-left.new.hand in
     let was = c.cut_first-left.ensures in
-    let fits = c.requires.fits in
     cut_whole (rows_in nb one) (rank nb one c.args.at.block c.args.at.place) c.args.gone c.cut_first-left.result (count_to nb two (c.args.at.block + 1))
     (omega arith) was.left was.spliced c.cut_on-2.ensures.spliced was.rest

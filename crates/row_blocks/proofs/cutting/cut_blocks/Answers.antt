@@ -8,18 +8,10 @@ use Rattle.row_blocks.proofs.cutting.cut_blocks.Goals as goal
 
 -- while rows are left to go, there is a block whose rows they are
 there : (g : Over) (c : In-whole g) → c.whole.end < blocks_of c.args.blocks (g.W.Loads.words c.args.words.now c.args.hand.now)
-there g c =
-    let inv = c.whole.invariant in
-    let left = inv.left in
-    let fits = c.requires.fits in
-    let some = c.whole-test.true in
-    block_there c.whole.end c.requires.laid inv.there (omega arith)
+there g c = block_there c.whole.end c.requires.laid c.whole.invariant.there (omega arith)
 
 pub body_of-body-requires-clause-there : goal.body_of-body-requires-clause-there
-body_of-body-requires-clause-there g c =
-    let t = there g (goal.at.body_of-body-requires-clause-there g c).In-whole in
-    let spare = c.requires.laid.spare in
-    omega arith
+body_of-body-requires-clause-there g c = let t = there g (goal.at.body_of-body-requires-clause-there g c).In-whole in omega arith
 
 pub delete-requires-clause-there : goal.delete-requires-clause-there
 delete-requires-clause-there g c =
@@ -31,7 +23,6 @@ delete-requires-clause-there g c =
 pub returns-then-left-body-clause-spliced : goal.returns-then-left-body-clause-spliced
 returns-then-left-body-clause-spliced g c =
     let t = there g (goal.at.returns-then-left-body-clause-spliced g c).In-whole in
-    let spare = c.requires.laid.spare in
     head_gone c.args.blocks (g.W.Loads.words c.args.words.now c.delete.new.hand) c.whole.end c.whole.left (omega arith)
     (c.body_of-body.ensures.words ∙ c.whole.invariant.words) c.delete.ensures.spliced c.delete.ensures.others c.whole.invariant.left
 
@@ -47,12 +38,6 @@ whole-preserved g c =
     let t = there g (goal.at.whole-preserved g c).In-whole in
     let next = count_next c.args.blocks one c.whole.end in
     let was = ap (λ (l : List ℕ). rows_of c.args.blocks l c.whole.end) inv.words in
-    let rows = c.body_of-body.ensures.rows in
-    let all = c.if-left-body.false in
-    let left = inv.left in
-    let from = inv.from in
-    let steps = inv.steps in
-    let step = c.body_of-body.ensures.step in
     record {
       words = c.body_of-body.ensures.words ∙ inv.words;
       from = omega arith;

@@ -10,12 +10,5 @@ returns-clause-rest g c = λ some.
     let i = c.args.at.block in
     let same = c.body_of-body.ensures.words in
     let was = ap (λ (l : List ℕ). rows_of nb l i) same in
-    let rows = c.body_of-body.ensures.rows in
-    let less = c.delete.ensures.less in
-    let cut = c.min-cut.ensures in
-    let there = c.requires.there in
-    let place = c.requires.place in
-    let behind = c.requires.behind in
-    let spare = c.requires.laid.spare in
     rest_gone nb (g.W.Loads.words c.args.words.now c.args.hand.now) (g.W.Loads.words c.args.words.now c.delete.new.hand) i c.args.at.place c.min-cut.result
     (omega arith) (λ k lt differ. c.delete.ensures.others k lt differ ∙ ap (λ (l : List ℕ). told nb l k) same) (omega arith) (omega arith)

@@ -22,6 +22,6 @@ returns-clause-spliced g c =
     let one = g.W.Loads.words ws c.args.hand.now in
     let two = g.W.Loads.words ws c.cut_blocks-end.new.hand in
     let was = c.cut_blocks-end.ensures in
-    let there : c.cut_blocks-end.result ≤ blocks_of nb one = let count = was.count in let le = was.there in omega arith in
+    let there : c.cut_blocks-end.result ≤ blocks_of nb one = omega arith in
     blocks_gone two (g.W.Loads.words ws c.take_out.new.hand) c.args.first c.cut_blocks-end.result (count_to nb one c.args.first + c.args.gone) c.requires.laid
     was.from there was.before was.spliced c.take_out.ensures.spliced

@@ -6,8 +6,7 @@ use Rattle.row_blocks.proofs.deleting.cut_block.Goals as goal
 -- behind the head rows of the body go
 pub returns-else-from-eq0-clause-cut : goal.returns-else-from-eq0-clause-cut
 returns-else-from-eq0-clause-cut g c =
-    let call = c.copy-else-from-eq0 in
-    cut_behind (search rules) c.requires.ordered c.requires.there c.requires.head c.requires.wide call.ensures.copied
+    cut_behind (search rules) c.requires.ordered c.requires.there c.requires.head c.requires.wide c.copy-else-from-eq0.ensures.copied
 
 -- or the head goes, and the first row of the body that stays takes its place
 pub returns-then-from-eq0-clause-cut : goal.returns-then-from-eq0-clause-cut
@@ -17,8 +16,6 @@ returns-then-from-eq0-clause-cut g c =
     let mid = g.W.Loads.words ws c.copy.new.hand in
     let two = g.W.Loads.words ws c.exchange.new.hand in
     let none : c.args.from ≡ 0 = search rules in
-    let ordered = c.requires.ordered in
-    let left = c.requires.left in
     subst (λ (p : ℕ). IsCutOut one two c.args.head c.args.at c.args.count p c.args.until) (sym none)
     (cut_front (omega arith) (omega arith) c.requires.head c.requires.wide c.load-first.ensures.word (subst
     (λ (l : List ℕ). IsCopied l mid (c.args.at + c.args.until) c.args.at (c.args.count - c.args.until)) c.load-first.ensures.words c.copy.ensures.copied)

@@ -15,17 +15,4 @@ pub returns : goal.returns
 returns g c =
     let done = rows_cut c.requires.laid c.requires.there c.requires.ordered c.requires.place c.requires.left c.load-packed.ensures.words
     c.load-packed.ensures.word c.cut_block.ensures.cut c.store_layout.ensures.words in
-    let few = done.left in
-    let left = c.requires.left in
-    let ordered = c.requires.ordered in
-    record {
-      laid = done.laid;
-      spliced = done.spliced;
-      count = done.count;
-      less = omega arith;
-      others = done.others;
-      may = c.store_layout.ensures.may;
-      rows = λ w r. c.store_layout.ensures.rows w (c.cut_block.ensures.rows w (c.load-packed.ensures.rows w r));
-      kept = g.W.Loads.steps_on _ _ _ _ (g.W.Loads.steps_on _ _ _ _ c.load-packed.ensures.kept c.cut_block.ensures.kept) c.store_layout.ensures.kept;
-      steps = omega arith;
-    }
+    search (arith, g.W.Loads.steps_on, c.load-packed.ensures.rows, c.cut_block.ensures.rows, c.store_layout.ensures.rows)

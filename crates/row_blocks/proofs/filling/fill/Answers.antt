@@ -8,20 +8,8 @@ next-init c =
     let nb = c.args.blocks in
     let call = c.lay_block.ensures in
     let each = c.rows_each-each.result in
-    let fits = c.rows_each-each.ensures.fits in
-    let low = c.min.ensures in
-    let first = c.min-first.ensures in
-    let laid : IsBlockLaid nb c.number.new.words c.lay_block.new.words c.args.rows.now 0 0 c.min-first.result = record {
-      long = call.length;
-      first = call.first;
-      others = call.others;
-      told = call.told;
-      heads = call.heads;
-      below = call.below;
-      above = call.above;
-    } in
+    let laid : IsBlockLaid nb c.number.new.words c.lay_block.new.words c.args.rows.now 0 0 c.min-first.result = assumption call in
     let before = nothing_laid c.number.ensures.length c.number.ensures.told c.number.ensures.below c.number.ensures.above in
-    let told = call.told in
     let two : nb - 1 - 1 ≡ nb - 2 = omega arith in
     let all : each * (nb - 1 - 1) ≡ each * (nb - 2) = ap (λ (m : ℕ). each * m) two in
     record {
@@ -42,31 +30,16 @@ next-preserved c =
     let taken = c.next.taken in
     let rows = c.args.rows.now in
     let inv = c.next.invariant in
-    let more = c.next-test.true in
     let call = c.lay_block-in-next.ensures in
-    let some = c.rows_each-each.ensures.some in
-    let most = c.rows_each-each.ensures.most in
-    let count = c.min-count.ensures in
-    let started = inv.started in
-    let high = inv.high in
-    let laid : IsBlockLaid nb c.next.words c.lay_block-in-next.new.words rows i taken c.min-count.result = record {
-      long = call.length;
-      first = call.first;
-      others = call.others;
-      told = call.told;
-      heads = call.heads;
-      below = call.below;
-      above = call.above;
-    } in
+    let laid : IsBlockLaid nb c.next.words c.lay_block-in-next.new.words rows i taken c.min-count.result = assumption call in
     let room = some_left c.rows_each-each.result (nb - 1 - i) (length rows - taken) (omega arith) inv.left in
-    let same = rows_same c.requires.wide high (omega arith) (omega arith) (omega arith) inv.filling laid 0 (omega arith) (λ e. omega arith) in
-    let low = inv.low in
+    let same = rows_same c.requires.wide inv.high (omega arith) (omega arith) (omega arith) inv.filling laid 0 (omega arith) (λ e. omega arith) in
     record {
-      filling = filled_to c.requires.wide high (omega arith) (omega arith) (omega arith) inv.filling laid (omega arith) (omega arith);
+      filling = filled_to c.requires.wide inv.high (omega arith) (omega arith) (omega arith) inv.filling laid (omega arith) (omega arith);
       used = call.used;
       started = omega arith;
       high = omega arith;
       within = omega arith;
-      left = left_on c.rows_each-each.result nb i (length rows) taken more inv.left count;
+      left = left_on c.rows_each-each.result nb i (length rows) taken c.next-test.true inv.left c.min-count.ensures;
       low = omega arith;
     }

@@ -5,19 +5,12 @@ use Rattle.row_blocks.proofs.filling.gather.Goals as goal
 
 -- there is room for one block more
 pub gather_block-requires-clause-room : goal.gather_block-requires-clause-room
-gather_block-requires-clause-room c =
-    let inv = c.next.invariant in
-    let lt = c.next-test.true in
-    let few = room_next c.args.out.now.items c.next.i c.requires.laid (omega arith) inv.all in
-    let room = c.requires.room in
-    let same = inv.capacity in
-    omega arith
+gather_block-requires-clause-room c = let few = room_next c.args.out.now.items c.next.i c.requires.laid (omega arith) c.next.invariant.all in omega arith
 
 -- it is read
 pub next-preserved : goal.next-preserved
 next-preserved c =
     let inv = c.next.invariant in
-    let lt = c.next-test.true in
     record {
       high = omega arith;
       all = gathered_next c.args.blocks c.args.words.now c.args.out.now.items c.next.i inv.all c.gather_block.ensures.rows;
@@ -27,8 +20,5 @@ next-preserved c =
 -- all are
 pub returns-clause-same : goal.returns-clause-same
 returns-clause-same c =
-    let inv = c.next.invariant in
-    let out = c.next-test.false in
-    let high = inv.high in
     let all : c.next.i ≡ blocks_of c.args.blocks c.args.words.now = omega arith in
-    inv.all ∙ ap (λ (n : ℕ). c.args.out.now.items ++ pieces (block c.args.blocks c.args.words.now) n) all
+    c.next.invariant.all ∙ ap (λ (n : ℕ). c.args.out.now.items ++ pieces (block c.args.blocks c.args.words.now) n) all

@@ -5,22 +5,14 @@ use Rattle.row_blocks.proofs.filling.gather_block.Goals as goal
 -- one row more
 pub body-preserved : goal.body-preserved
 body-preserved c =
-    let inv = c.body.invariant in
-    let lt = c.body-test.true in
-    let high = inv.high in
     let b = c.requires.laid.bodies c.args.i c.requires.there in
-    let wide = c.requires.laid.wide in
     record {
       high = omega arith;
-      all = c.push_reserved-in-body.ensures.items
-          ∙ gathered_on c.args.words.now c.push_reserved.new.self.items _ c.body.k inv.all (omega arith);
+      all = c.push_reserved-in-body.ensures.items ∙ gathered_on c.args.words.now c.push_reserved.new.self.items _ c.body.k c.body.invariant.all (omega arith);
       capacity = search rules;
     }
 
 -- all are there
 pub returns-clause-rows : goal.returns-clause-rows
 returns-clause-rows c =
-    let inv = c.body.invariant in
-    let out = c.body-test.false in
-    let high = inv.high in
-    gathered_block c.args.blocks c.args.words.now c.args.out.now.items c.args.i c.push_reserved.ensures.items inv.all (omega arith) (omega arith)
+    gathered_block c.args.blocks c.args.words.now c.args.out.now.items c.args.i c.push_reserved.ensures.items c.body.invariant.all (omega arith) (omega arith)

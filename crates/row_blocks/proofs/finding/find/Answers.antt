@@ -19,8 +19,7 @@ head g c =
     coe 0 1 (j. IsLast (c.load-used.ensures.words j) 0 (c.load-used.ensures.word j) c.args.page to.place to.word to.end) c.halve-heads.ensures.found
 
 -- nothing was stored meanwhile
-same : (g : Over) (c : After-halve-found g) → g.W.Loads.words c.args.words.now c.body_of-body.new.hand
-    ≡ g.W.Loads.words c.args.words.now c.args.hand.now
+same : (g : Over) (c : After-halve-found g) → g.W.Loads.words c.args.words.now c.body_of-body.new.hand ≡ g.W.Loads.words c.args.words.now c.args.hand.now
 same g c = c.body_of-body.ensures.words ∙ (c.halve-heads.ensures.words ∙ c.load-used.ensures.words)
 
 -- where the body of the block stands
@@ -55,9 +54,7 @@ end_is g c last =
     let i : ℕ = c.halve-heads.result.place in
     let h = head g c in
     let r = row g c in
-    let within = r.below in
     let count = rows g c in
-    let used = c.load-used.ensures.word in
     end_there i c.requires.laid h.below c.halve-found.result.place c.halve-found.result.end c.halve-heads.result.end (omega arith) c.requires.low r.follows
     (λ e. last (omega arith)) (λ lt. let next : 0 + (i + 1) ≡ i + 1 = omega arith in h.follows lt ∙ ap (λ (n : ℕ). slice_index one n / 64) next)
     (λ e. let b = c.halve-heads.ensures.last (omega arith) in omega arith)
@@ -68,7 +65,7 @@ returns-then-found-gt0-clause-block g c = let h = head g (goal.at.returns-then-f
 
 -- and has so many rows
 pub returns-then-found-gt0-clause-place : goal.returns-then-found-gt0-clause-place
-returns-then-found-gt0-clause-place g c = let r = row g (goal.at.returns-then-found-gt0-clause-place g c).After-halve-found in let b = r.below in omega arith
+returns-then-found-gt0-clause-place g c = let r = row g (goal.at.returns-then-found-gt0-clause-place g c).After-halve-found in omega arith
 
 -- a row of a body
 pub returns-then-found-gt0-clause-word : goal.returns-then-found-gt0-clause-word
@@ -77,7 +74,6 @@ returns-then-found-gt0-clause-word g c =
     let k = (goal.at.returns-then-found-gt0-clause-word g c).After-halve-found in
     let h = head g k in
     let r = row g k in
-    let b = r.below in
     let some = c.if-found-gt0.true in
     r.here some ∙ sym (row_there _ one c.halve-heads.result.place c.requires.laid h.below c.halve-found.result.place some (omega arith))
 
@@ -93,12 +89,7 @@ returns-then-found-gt0-clause-from g c = let r = row g (goal.at.returns-then-fou
 -- so many steps are made up to the body
 steps_to : (g : Over) (c : After-halve-found g) → (m : ℕ) → blocks_of c.args.blocks (g.W.Loads.words c.args.words.now c.args.hand.now) ≤ 2 ^ m
     → g.W.Loads.steps c.args.words.now c.body_of-body.new.hand ≤ g.W.Loads.steps c.args.words.now c.args.hand.now + (m + 2)
-steps_to g c m le =
-    let used = c.load-used.ensures.word in
-    let one = c.load-used.ensures.step in
-    let two = c.halve-heads.ensures.steps m (omega arith) in
-    let three = c.body_of-body.ensures.step in
-    omega arith
+steps_to g c m le = let two = c.halve-heads.ensures.steps m (omega arith) in omega arith
 
 -- any body takes seven
 steps_all : (g : Over) (c : After-halve-found g) → (m : ℕ) → blocks_of c.args.blocks (g.W.Loads.words c.args.words.now c.args.hand.now) ≤ 2 ^ m
@@ -115,8 +106,7 @@ steps_first : (g : Over) (c : After-halve-found g) → 0 ≡ c.halve-heads.resul
     → g.W.Loads.steps c.args.words.now c.halve-found.new.hand ≤ g.W.Loads.steps c.args.words.now c.args.hand.now + (m + 8)
 steps_first g c first m le =
     let one = g.W.Loads.words c.args.words.now c.args.hand.now in
-    let short : rows_of c.args.blocks one c.halve-heads.result.place < 64 =
-    subst (λ (i : ℕ). rows_of c.args.blocks one i < 64) first c.requires.short in
+    let short : rows_of c.args.blocks one c.halve-heads.result.place < 64 = subst (λ (i : ℕ). rows_of c.args.blocks one i < 64) first c.requires.short in
     let to = steps_to g c m le in
     let count = rows g c in
     let within = c.halve-found.ensures.steps 6 (omega arith) in
@@ -124,7 +114,7 @@ steps_first g c first m le =
 
 -- and the most blocks take eleven
 eleven : (g : Over) (c : After-halve-found g) → blocks_of c.args.blocks (g.W.Loads.words c.args.words.now c.args.hand.now) ≤ 2 ^ 11
-eleven g c = let spare = c.requires.laid.spare in let few = c.requires.few in omega arith
+eleven g c = omega arith
 
 -- the steps to a row of a body
 pub returns-then-found-gt0-clause-fewer : goal.returns-then-found-gt0-clause-fewer
@@ -155,19 +145,16 @@ returns-then-heads-gt0 g c =
     let k = (goal.at.returns-then-heads-gt0 g c).After-halve-found in
     let h = head g k in
     let r = row g k in
-    let within = r.below in
-    let behind = r.behind in
-    let end = c.min-end.ensures in
     let all = steps_all g k 11 (eleven g k) in
     let i : ℕ = c.halve-heads.result.place in
     let at : 0 + i ≡ i = omega arith in
-    let none : 0 ≡ c.halve-found.result.place = let z = c.if-found-gt0.false in omega arith in
+    let none : 0 ≡ c.halve-found.result.place = omega arith in
     record {
       block = h.below;
       place = omega arith;
       word = h.here c.if-heads-gt0.true ∙ (ap (slice_index one) at
           ∙ (sym (head_there nb one i c.requires.laid h.below) ∙ ap (λ (j : ℕ). slice_index (rows_in nb one) (rank nb one i j)) none));
-      end = end ∙ end_is g k c.halve-found.ensures.last;
+      end = c.min-end.ensures ∙ end_is g k c.halve-found.ensures.last;
       from = h.before c.if-heads-gt0.true;
       until = omega arith;
       words = c.halve-found.ensures.words ∙ same g k;
@@ -186,21 +173,16 @@ returns g c =
     let k = (goal.at.returns g c).After-halve-found in
     let h = head g k in
     let r = row g k in
-    let within = r.below in
-    let behind = r.behind in
-    let end = c.min-end.ensures in
-    let last = c.load-word.ensures.step in
-    let none : 0 ≡ c.halve-found.result.place = let z = c.if-found-gt0.false in omega arith in
-    let zero : 0 ≡ c.halve-heads.result.place = let z = c.if-heads-gt0.false in omega arith in
+    let none : 0 ≡ c.halve-found.result.place = omega arith in
+    let zero : 0 ≡ c.halve-heads.result.place = omega arith in
     let same_1 = c.halve-found.ensures.words ∙ same g k in
     let all = steps_first g k zero 11 (eleven g k) in
     let start = c.load-word.ensures.word ∙ ap (λ (l : List ℕ). slice_index l 0) same_1 in
     record {
       block = h.below;
       place = omega arith;
-      word = start ∙ (sym (head_there nb one 0 c.requires.laid c.requires.laid.some)
-          ∙ (λ j. slice_index (rows_in nb one) (rank nb one (zero j) (none j))));
-      end = end ∙ end_is g k c.halve-found.ensures.last;
+      word = start ∙ (sym (head_there nb one 0 c.requires.laid c.requires.laid.some) ∙ (λ j. slice_index (rows_in nb one) (rank nb one (zero j) (none j))));
+      end = c.min-end.ensures ∙ end_is g k c.halve-found.ensures.last;
       from = let low = ap (λ (w : ℕ). w / 64) start ∙ c.requires.first in omega arith;
       until = omega arith;
       words = c.load-word.ensures.words ∙ same_1;

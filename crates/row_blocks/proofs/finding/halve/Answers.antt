@@ -29,9 +29,6 @@ halve-preserved-then-read-page g c =
     let ws = c.args.words.now in
     let inv = c.halve.invariant in
     let load = c.load-read.ensures in
-    let test = c.halve-test.true in
-    let low = c.if-read-page.true in
-    let ordered = inv.ordered in
     let size : ℕ = c.halve.high - c.halve.low in
     let at : ℕ = c.args.from + (c.halve.low + size / 2) in
     record {
@@ -56,10 +53,6 @@ halve-preserved g c =
     let ws = c.args.words.now in
     let inv = c.halve.invariant in
     let load = c.load-read.ensures in
-    let test = c.halve-test.true in
-    let high = c.if-read-page.false in
-    let ordered = inv.ordered in
-    let there = inv.there in
     let size : ℕ = c.halve.high - c.halve.low in
     let at : ℕ = c.args.from + (c.halve.low + size / 2) in
     record {
@@ -83,11 +76,9 @@ pub returns-clause-found : goal.returns-clause-found
 returns-clause-found g c =
     let one = g.W.Loads.words c.args.words.now c.args.hand.now in
     let inv = c.halve.invariant in
-    let out = c.halve-test.false in
-    let ordered = inv.ordered in
     let next : c.halve.low + 1 ≡ c.halve.high = omega arith in
     record {
-      below = let t = inv.there in omega arith;
+      below = omega arith;
       here = inv.word;
       before = inv.from;
       behind = inv.end;
@@ -96,10 +87,7 @@ returns-clause-found g c =
 
 -- and where it is the last one, the words behind follow
 pub returns-clause-last : goal.returns-clause-last
-returns-clause-last g c =
-    let out = c.halve-test.false in
-    let ordered = c.halve.invariant.ordered in
-    λ e. c.halve.invariant.last (omega arith)
+returns-clause-last g c = λ e. c.halve.invariant.last (omega arith)
 
 -- as many steps as halvings
 pub returns-clause-steps : goal.returns-clause-steps

@@ -22,14 +22,4 @@ pub returns : goal.returns
 returns g c =
     let done = row_put c.requires.laid c.requires.there c.requires.room c.requires.place c.load-packed.ensures.words c.load-packed.ensures.word
     c.put_at.ensures.put c.store_layout.ensures.words in
-    record {
-      laid = done.laid;
-      spliced = done.spliced;
-      count = done.count;
-      more = done.left;
-      others = done.others;
-      may = c.store_layout.ensures.may;
-      rows = λ w r. c.store_layout.ensures.rows w (c.put_at.ensures.rows w (c.load-packed.ensures.rows w r));
-      kept = g.W.Loads.steps_on _ _ _ _ (g.W.Loads.steps_on _ _ _ _ c.load-packed.ensures.kept c.put_at.ensures.kept) c.store_layout.ensures.kept;
-      steps = omega arith;
-    }
+    search (arith, g.W.Loads.steps_on, c.load-packed.ensures.rows, c.put_at.ensures.rows, c.store_layout.ensures.rows)

@@ -5,10 +5,7 @@ use Rattle.row_blocks.proofs.inserting.put_at.Goals as goal
 
 -- behind the head a row comes into the body
 pub returns-else-place-eq0-clause-put : goal.returns-else-place-eq0-clause-put
-returns-else-place-eq0-clause-put g c =
-    let call = c.raise-else-place-eq0 in
-    let some = c.if-place-eq0.false in
-    put_behind (search rules) c.requires.there c.requires.head c.requires.wide call.ensures.pushed
+returns-else-place-eq0-clause-put g c = put_behind (search rules) c.requires.there c.requires.head c.requires.wide c.raise-else-place-eq0.ensures.pushed
 
 -- or it takes the place of the head
 pub returns-then-place-eq0-clause-put : goal.returns-then-place-eq0-clause-put

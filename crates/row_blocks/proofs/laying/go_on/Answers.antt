@@ -4,16 +4,8 @@ use Rattle.row_blocks.proofs.laying.go_on.Goals as goal
 
 -- a row stands behind the block, so there is one behind it
 pub body_of-body-requires-clause-there : goal.body_of-body-requires-clause-there
-body_of-body-requires-clause-there g c =
-    let count = c.requires.count in
-    let full = c.if-spot.false in
-    let spare = c.requires.laid.spare in
-    let next = next_there c.requires.laid c.requires.there c.requires.place (omega arith) c.requires.more in
-    omega arith
+body_of-body-requires-clause-there g c = let next = next_there c.requires.laid c.requires.there c.requires.place (omega arith) c.requires.more in omega arith
 
 -- and it is in use
 pub returns-clause-there : goal.returns-clause-there
-returns-clause-there g c =
-    let count = c.requires.count in
-    let full = c.if-spot.false in
-    next_there c.requires.laid c.requires.there c.requires.place (omega arith) c.requires.more
+returns-clause-there g c = next_there c.requires.laid c.requires.there c.requires.place (omega arith) c.requires.more

@@ -20,8 +20,6 @@ is_slot g c = record {
 pub exchange-requires : goal.exchange-requires
 exchange-requires g c =
     let below = slot_below _ _ _ _ _ c.requires.laid (is_slot g (goal.at.exchange-requires g c).After-slot_of-slot) in
-    let same = c.requires.blocks in
-    let wide = c.requires.laid.wide in
     record { may = c.requires.may; slot = omega arith; there = omega arith; row = c.requires.row }
 
 pub returns : goal.returns

@@ -37,7 +37,6 @@ rows-init g c = record {
 -- its block is there, its body stands there, and a row stands behind it
 pub go_on-here-requires : goal.go_on-here-requires
 go_on-here-requires g c =
-    let ws = c.args.words.now in
     let h = (goal.at.go_on-here-requires g c).In-rows in
     let lt : c.rows.k < length c.args.more.now = search rules in
     let s = spot g h in
@@ -49,7 +48,7 @@ go_on-here-requires g c =
       place = s.place;
       body = s.body;
       count = s.count;
-      more = spot_below (rank c.args.blocks (g.W.Loads.words ws c.args.hand.now) c.args.from.at.block c.args.from.at.place) c.rows.k
+      more = spot_below (rank c.args.blocks (g.W.Loads.words c.args.words.now c.args.hand.now) c.args.from.at.block c.args.from.at.place) c.rows.k
           (length c.args.more.now) c.requires.laid c.rows.invariant.laid (same g h) s lt c.requires.fits;
     }
 
@@ -68,7 +67,6 @@ lay_row-requires-clause-body g c = rw c.go_on-here.ensures.words c.go_on-here.en
 pub lay_row-requires-clause-row : goal.lay_row-requires-clause-row
 lay_row-requires-clause-row g c =
     let w = slice_index c.args.more.now c.rows.k in
-    let lt = c.rows-test.true in
     c.go_on-here.ensures.rows w (c.rows.invariant.rows w
     (All-get_or (g.W.Loads.is_row c.args.words.now c.args.hand.now) c.args.more.now c.rows.k 0 (omega arith) c.requires.more))
 
@@ -109,8 +107,6 @@ returns-clause-spliced g c =
     let two = g.W.Loads.words c.args.words.now c.rows.hand in
     let r : ℕ = rank nb one c.args.from.at.block c.args.from.at.place in
     let more = c.args.more.now in
-    let out = c.rows-test.false in
-    let high = c.rows.invariant.high in
     let all : c.rows.k ≡ length more = omega arith in
     subst (λ (n : ℕ). rows_in nb two ≡ splice (rows_in nb one) r (r + n) (take n more)) all c.rows.invariant.spliced
     ∙ ap (splice (rows_in nb one) r (r + length more)) (take_all (length more) more (omega arith))

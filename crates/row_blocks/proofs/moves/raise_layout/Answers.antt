@@ -5,43 +5,20 @@ use Rattle.row_blocks.proofs.moves.raise_layout.Goals as goal
 
 -- nothing has moved yet
 pub shift-init : goal.shift-init
-shift-init g c = record {
-  pushing = pushes_none;
-  low = omega arith;
-  high = c.requires.ordered;
-  may = c.requires.may;
-  rows = λ w r. r;
-  kept = g.W.Loads.no_step c.args.words.now c.args.hand.now;
-  steps = omega arith;
-}
+shift-init g c = search (arith, pushes_none, g.W.Loads.no_step)
 
 -- one word more has moved up
 pub shift-preserved : goal.shift-preserved
 shift-preserved g c =
     let inv = c.shift.invariant in
     let call = c.exchange_layout-stood in
-    let low = inv.low in
-    let over = c.shift-test.true in
-    let wide = c.requires.wide in
-    let steps = inv.steps in
-    let more = call.ensures.steps in
-    let to_end : c.shift.to ≤ c.args.until = inv.high in
-    record {
-      pushing = pushes_on low (omega arith) inv.pushing call.ensures.stood call.ensures.words;
-      low = omega arith;
-      high = omega arith;
-      may = call.ensures.may;
-      rows = λ w r. call.ensures.rows w (inv.rows w r);
-      kept = g.W.Loads.steps_on _ _ _ _ inv.kept call.ensures.kept;
-      steps = omega arith;
-    }
+    let pushing = pushes_on inv.low (omega arith) inv.pushing call.ensures.stood call.ensures.words in
+    search (arith, g.W.Loads.steps_on, call.ensures.rows, inv.rows)
 
 -- the last word that was carried is laid
 pub returns-clause-pushed : goal.returns-clause-pushed
 returns-clause-pushed g c =
     let inv = c.shift.invariant in
-    let out = c.shift-test.false in
-    let high = inv.high in
     let at_end : c.shift.to ≡ c.args.until = omega arith in
     let one = g.W.Loads.words c.args.words.now c.args.hand.now in
     let two = g.W.Loads.words c.args.words.now c.shift.hand in

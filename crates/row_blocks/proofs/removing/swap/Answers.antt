@@ -9,9 +9,6 @@ use Rattle.row_blocks.proofs.removing.swap.Goals as goal
 done : (g : Over) (c : After-store_layout g) → IsSwapped (g.W.Loads.words c.args.words.now c.args.hand.now)
     (g.W.Loads.words c.args.words.now c.store_layout.new.hand) (128 * c.args.blocks + 1 + c.args.one) (128 * c.args.blocks + 1 + c.args.other)
 done g c =
-    let one = c.requires.one in
-    let other = c.requires.other in
-    let wide = c.requires.wide in
     swap_done (128 * c.args.blocks + 1 + c.args.one) (128 * c.args.blocks + 1 + c.args.other) (omega arith) (omega arith) c.load-first.ensures.words
     c.load-first.ensures.word c.exchange_layout-second.ensures.stood c.exchange_layout-second.ensures.words c.store_layout.ensures.words
 

@@ -10,7 +10,6 @@ use Rattle.row_blocks.proofs.removing.take_out.Goals as goal
 pub copy-requires-clause-rows : goal.copy-requires-clause-rows
 copy-requires-clause-rows g c =
     let ws = c.args.words.now in
-    let count = c.load-count.ensures.word in
     λ m lt. first_loaded _ _ (c.args.end + m) c.requires.laid (omega arith) (g.W.Loads.is_row ws c.args.hand.now) (g.W.Loads.is_row ws c.load-count.new.hand)
     c.load-count.ensures.rows c.load-count.ensures.words c.requires.rows
 
@@ -20,16 +19,11 @@ returns g c =
     let ws = c.args.words.now in
     let nb = c.args.blocks in
     let one = g.W.Loads.words ws c.args.hand.now in
-    let some = c.requires.some in
-    let spare = c.requires.laid.spare in
-    let count = c.load-count.ensures.word in
     let copied = coe 0 1 (j. IsCopied (c.load-count.ensures.words j) (g.W.Loads.words ws c.copy.new.hand) c.args.end c.args.first
     (c.load-count.result - c.args.end)) c.copy.ensures.copied in
-    let done = is_out c.requires.laid some c.requires.there c.requires.left count copied c.rotate.ensures.rotated
+    let done = is_out c.requires.laid c.requires.some c.requires.there c.requires.left c.load-count.ensures.word copied c.rotate.ensures.rotated
     c.rotate.ensures.bodies c.store_layout.ensures.words in
     let at : c.args.first + (c.args.end - c.args.first) ≡ c.args.end = omega arith in
-    let before = done.before in
-    let after = done.count in
     let moved = g.W.Loads.steps_on _ _ _ _ (g.W.Loads.steps_on _ _ _ _ c.load-count.ensures.kept c.copy.ensures.kept) c.rotate.ensures.kept in
     record {
       laid = done.laid;

@@ -24,14 +24,10 @@ split_near-requires g c =
     }
 
 pub returns-clause-same : goal.returns-clause-same
-returns-clause-same g c =
-    let same = c.body_of-body.ensures.words ∙ c.load-count.ensures.words in
-    rw same at c.split_near.ensures.same
+returns-clause-same g c = let same = c.body_of-body.ensures.words ∙ c.load-count.ensures.words in rw same at c.split_near.ensures.same
 
 pub returns-clause-rank : goal.returns-clause-rank
-returns-clause-rank g c =
-    let same = c.body_of-body.ensures.words ∙ c.load-count.ensures.words in
-    rw same at c.split_near.ensures.rank
+returns-clause-rank g c = let same = c.body_of-body.ensures.words ∙ c.load-count.ensures.words in rw same at c.split_near.ensures.rank
 
 -- all steps are one
 pub returns-clause-kept : goal.returns-clause-kept

@@ -8,7 +8,6 @@ use Rattle.row_blocks.proofs.rooms.split_near.Goals as goal
 -- block 0 has at most 64 rows still
 short : (g : Over) (c : After-split g) → rows_of c.args.blocks (g.W.Loads.words c.args.words.now c.split.new.hand) 0 < 64
 short g c =
-    let told = c.requires.rows_told in
     first_short c.args.blocks (g.W.Loads.words c.args.words.now c.args.hand.now) (g.W.Loads.words c.args.words.now c.split.new.hand) c.args.at.block
     c.split.ensures.before c.split.ensures.lower c.requires.short (omega arith)
 
@@ -29,15 +28,11 @@ returns-clause-short g c = short g (goal.at.returns-clause-short g c).After-spli
 
 -- which is the next block
 pub returns-clause-there : goal.returns-clause-there
-returns-clause-there g c =
-    let there = c.requires.there in
-    let count = c.split.ensures.count in
-    omega arith
+returns-clause-there g c = omega arith
 
 -- as many rows stand before the position
 pub returns-clause-rank : goal.returns-clause-rank
 returns-clause-rank g c =
-    let above = c.if-at-low.false in
     let high = high_rank c.args.blocks (g.W.Loads.words c.args.words.now c.args.hand.now) (g.W.Loads.words c.args.words.now c.split.new.hand) c.args.at.block
     c.split.ensures.before c.split.ensures.lower in
     omega arith

@@ -40,9 +40,6 @@ raise-requires-clause-row g c =
     let one = g.W.Loads.words ws c.args.hand.now in
     let i = c.args.i in
     let laid = c.requires.laid in
-    let bodies = laid.bodies in
-    let some = c.requires.some in
-    let within = c.requires.place in
     let same_1 = c.load-count.ensures.words in
     let same_2 = c.load-packed.ensures.words ∙ same_1 in
     let same_3 = c.load-free.ensures.words ∙ same_2 in
@@ -51,8 +48,7 @@ raise-requires-clause-row g c =
     let free = c.load-free.ensures.word ∙ ap (λ (l : List ℕ). slice_index l (128 * nb + 1 + c.load-count.result)) same_2 in
     let copied = split_copied nb i c.args.place same_3 read c.load-count.ensures.word free c.copy.ensures.copied in
     let at : ℕ = body_at nb one i + (c.args.place - 1) in
-    let here : c.load-head.result ≡ slice_index one at =
-    c.load-head.ensures.word
+    let here : c.load-head.result ≡ slice_index one at = c.load-head.ensures.word
     ∙ (ap (λ (x : ℕ). slice_index (g.W.Loads.words ws c.copy.new.hand) (nb + 127 * (x / 128) + (c.args.place - 1))) read
     ∙ lower_stays i c.args.place (c.args.place - 1) laid c.requires.there c.requires.free (omega arith) copied) in
     subst (g.W.Loads.is_row ws c.load-head.new.hand) (sym here)
@@ -64,12 +60,9 @@ pub raise-requires-clause-rows : goal.raise-requires-clause-rows
 raise-requires-clause-rows g c =
     let ws = c.args.words.now in
     let one = g.W.Loads.words ws c.args.hand.now in
-    let count = c.load-count.ensures.word in
     let same_3 = c.load-free.ensures.words ∙ (c.load-packed.ensures.words ∙ c.load-count.ensures.words) in
-    let spare = c.requires.free in
     λ s from until.
-    let here : slice_index (g.W.Loads.words ws c.load-head.new.hand) s ≡ slice_index one s =
-    ap (λ (l : List ℕ). slice_index l s) c.load-head.ensures.words
+    let here : slice_index (g.W.Loads.words ws c.load-head.new.hand) s ≡ slice_index one s = ap (λ (l : List ℕ). slice_index l s) c.load-head.ensures.words
     ∙ (c.copy.ensures.copied.below s (omega arith) ∙ ap (λ (l : List ℕ). slice_index l s) same_3) in
     subst (g.W.Loads.is_row ws c.load-head.new.hand) (sym here)
     (c.load-head.ensures.rows _ (c.copy.ensures.rows _ (c.load-free.ensures.rows _ (c.load-packed.ensures.rows _ (c.load-count.ensures.rows _

@@ -16,7 +16,7 @@ laid table blocks count s may = subst (λ (n : ℕ). IsLaidOut n (known_words s.
 
 -- of which there are few
 pub find-found-requires-clause-few : goal.find-found-requires-clause-few
-find-found-requires-clause-few c = let few = c.requires.may.holds.few in let blocks = c.requires.may.blocks_are in omega arith
+find-found-requires-clause-few c = omega arith
 
 pub find-found-requires-clause-laid : goal.find-found-requires-clause-laid
 find-found-requires-clause-laid c = laid _ _ _ c.args.hand.now c.requires.may
@@ -36,14 +36,12 @@ find-found-requires-clause-short c =
 -- no row starts above the limit
 pub find-found-requires-clause-low : goal.find-found-requires-clause-low
 find-found-requires-clause-low c =
-    let may = c.requires.may in
-    low_known c.args.hand.now.pass may.blocks_are (kind_at (areas_from (known_rows c.args.hand.now.pass))) may.list.show
+    low_known c.args.hand.now.pass c.requires.may.blocks_are (kind_at (areas_from (known_rows c.args.hand.now.pass))) c.requires.may.list.show
 
 -- the row that was found is one of those that are known
 pub returns-clause-there : goal.returns-clause-there
 returns-clause-there c =
-    let may = c.requires.may in
-    number_low c.args.hand.now.pass may.blocks_are c.find-found.result.at (laid _ _ _ c.args.hand.now may) c.find-found.ensures.block
+    number_low c.args.hand.now.pass c.requires.may.blocks_are c.find-found.result.at (laid _ _ _ c.args.hand.now c.requires.may) c.find-found.ensures.block
     c.find-found.ensures.place
 
 -- its word

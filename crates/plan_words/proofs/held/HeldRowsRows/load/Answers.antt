@@ -8,7 +8,7 @@ use Rattle.plan_words.proofs.held.HeldRowsRows.load.Goals as goal
 
 -- there are few blocks
 pub row_at-requires-clause-few : goal.row_at-requires-clause-few
-row_at-requires-clause-few c = let few = c.requires.may.holds.few in let blocks = c.requires.may.blocks_are in omega arith
+row_at-requires-clause-few c = omega arith
 
 -- the words are laid out
 pub row_at-requires-clause-laid : goal.row_at-requires-clause-laid
@@ -16,12 +16,10 @@ row_at-requires-clause-laid c = subst (λ (n : ℕ). IsLaidOut n (known_words c.
 
 -- and a row stands at the position
 pub row_at-requires-clause-there : goal.row_at-requires-clause-there
-row_at-requires-clause-there c =
-    (row_place c.args.hand.now.pass c.args.at c.requires.may.blocks_are refl c.requires.there).there
+row_at-requires-clause-there c = (row_place c.args.hand.now.pass c.args.at c.requires.may.blocks_are refl c.requires.there).there
 
 pub row_at-requires-clause-place : goal.row_at-requires-clause-place
-row_at-requires-clause-place c =
-    (row_place c.args.hand.now.pass c.args.at c.requires.may.blocks_are refl c.requires.there).place
+row_at-requires-clause-place c = (row_place c.args.hand.now.pass c.args.at c.requires.may.blocks_are refl c.requires.there).place
 
 -- its word
 pub returns-clause-word : goal.returns-clause-word

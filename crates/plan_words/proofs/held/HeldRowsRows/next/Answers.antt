@@ -10,7 +10,7 @@ use Rattle.plan_words.proofs.held.HeldRowsRows.next.Goals as goal
 
 -- there are few blocks
 pub next-requires-clause-few : goal.next-requires-clause-few
-next-requires-clause-few c = let few = c.requires.may.holds.few in let blocks = c.requires.may.blocks_are in omega arith
+next-requires-clause-few c = omega arith
 
 -- the words are laid out
 pub next-requires-clause-laid : goal.next-requires-clause-laid
@@ -18,12 +18,10 @@ next-requires-clause-laid c = subst (λ (n : ℕ). IsLaidOut n (known_words c.ar
 
 -- and a row stands at the position
 pub next-requires-clause-there : goal.next-requires-clause-there
-next-requires-clause-there c =
-    (row_place c.args.hand.now.pass c.args.at c.requires.may.blocks_are refl c.requires.there).there
+next-requires-clause-there c = (row_place c.args.hand.now.pass c.args.at c.requires.may.blocks_are refl c.requires.there).there
 
 pub next-requires-clause-place : goal.next-requires-clause-place
-next-requires-clause-place c =
-    (row_place c.args.hand.now.pass c.args.at c.requires.may.blocks_are refl c.requires.there).place
+next-requires-clause-place c = (row_place c.args.hand.now.pass c.args.at c.requires.may.blocks_are refl c.requires.there).place
 
 -- the one behind it has the next number
 pub returns-clause-next : goal.returns-clause-next

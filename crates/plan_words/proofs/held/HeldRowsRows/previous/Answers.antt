@@ -7,7 +7,7 @@ use Rattle.plan_words.proofs.held.HeldRowsRows.previous.Goals as goal
 
 -- there are few blocks
 pub previous-requires-clause-few : goal.previous-requires-clause-few
-previous-requires-clause-few c = let few = c.requires.may.holds.few in let blocks = c.requires.may.blocks_are in omega arith
+previous-requires-clause-few c = omega arith
 
 -- the words are laid out
 pub previous-requires-clause-laid : goal.previous-requires-clause-laid
@@ -15,19 +15,14 @@ previous-requires-clause-laid c = subst (λ (n : ℕ). IsLaidOut n (known_words 
 
 -- and a row stands at the position
 pub previous-requires-clause-there : goal.previous-requires-clause-there
-previous-requires-clause-there c =
-    (row_place c.args.hand.now.pass c.args.at c.requires.may.blocks_are refl c.requires.there).there
+previous-requires-clause-there c = (row_place c.args.hand.now.pass c.args.at c.requires.may.blocks_are refl c.requires.there).there
 
 pub previous-requires-clause-place : goal.previous-requires-clause-place
-previous-requires-clause-place c =
-    (row_place c.args.hand.now.pass c.args.at c.requires.may.blocks_are refl c.requires.there).place
+previous-requires-clause-place c = (row_place c.args.hand.now.pass c.args.at c.requires.may.blocks_are refl c.requires.there).place
 
 -- with one before it
 pub previous-requires-clause-less : goal.previous-requires-clause-less
-previous-requires-clause-less c =
-    let number = (row_place c.args.hand.now.pass c.args.at c.requires.may.blocks_are refl c.requires.there).number in
-    let less = c.requires.less in
-    omega arith
+previous-requires-clause-less c = let number = (row_place c.args.hand.now.pass c.args.at c.requires.may.blocks_are refl c.requires.there).number in omega arith
 
 -- which has the number before
 pub returns-clause-previous : goal.returns-clause-previous
@@ -35,5 +30,4 @@ returns-clause-previous c =
     let blocks = c.requires.may.blocks_are in
     let number = (row_place c.args.hand.now.pass c.args.at blocks refl c.requires.there).number in
     let before = number_known c.args.hand.now.pass blocks c.previous.result c.previous.ensures.there c.previous.ensures.place in
-    let rank = c.previous.ensures.rank in
     omega arith

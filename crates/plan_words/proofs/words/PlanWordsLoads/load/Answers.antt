@@ -4,13 +4,8 @@ use Rattle.plan_words.proofs.words.PlanWordsLoads.load.Goals as goal
 
 -- the places are few
 pub overflow_cast-place : goal.overflow_cast-place
-overflow_cast-place c =
-    let h = c.requires.may.0.holds in
-    let long = known_long h.knows in
-    let there = c.requires.there in let few = h.few in omega arith
+overflow_cast-place c = let long = known_long c.requires.may.0.holds.knows in omega arith
 
 -- and each is one of the words that the seat knows
 pub load_word-requires-clause-place : goal.load_word-requires-clause-place
-load_word-requires-clause-place c =
-    let long = known_long c.requires.may.0.holds.knows in
-    let there = c.requires.there in omega arith
+load_word-requires-clause-place c = let long = known_long c.requires.may.0.holds.knows in omega arith
