@@ -3,8 +3,8 @@
 use Rattle.std.proofs.Common.{◌≡◌, ℕ, List, [], ◌∷◌, ◌++◌, get_or, length, refl, ap, subst, arith}
 use Rattle.std.specs.Prelude.{None, slice_index}
 use Rattle.area_rows.specs.Seated.{TableId}
-use Rattle.space_model.specs.declared.areas.Area.{Area}
 use Rattle.area_rows.specs.Callers.{CallerView, AreNewCallers}
+use Rattle.space_model.specs.declared.areas.Area.{Area}
 
 -- a caller of the table that holds nothing and may draw so many numbers
 pub record IsNew (table : TableId) (left : ℕ) (c : CallerView) : Type 0 where

@@ -16,8 +16,8 @@ use Rattle.space_model.specs.Areas.{kind_at}
 use Rattle.space_model.specs.History.{StateAfter}
 use Rattle.space_model.specs.Held.{HoldsSomeArea}
 use Rattle.lock_core.specs.declared.range.Held.{Held}
-use Rattle.range_rw.specs.Contract.{SeatState, IsLockCall, IsRelease, Record, client_trace}
 use Rattle.lock_core.specs.declared.range.Mode.TheVariants.{Reader}
+use Rattle.range_rw.specs.Contract.{SeatState, IsLockCall, IsRelease, Record, client_trace}
 use Rattle.area_guard.specs.declared.guard.Look.{Look}
 use Rattle.area_guard.specs.declared.guard.Pass.{Pass}
 use Rattle.area_guard.specs.declared.guard.Pending.{Pending}
@@ -25,41 +25,35 @@ use Rattle.area_rows.specs.declared.row.Row.{Row}
 use Rattle.area_rows.specs.AreaPlans.{IsOneKind}
 use Rattle.area_rows.specs.Seated.{TableId}
 use Rattle.area_rows.specs.Rows.{blocks_by, number_place}
-use Rattle.area_rows.specs.History.{StartsWith, Runs, whole_count, planned_calls, IsAtRest, HoldsFor, rest_of}
 use Rattle.area_rows.specs.Reads.{IsHeldPage}
-use Rattle.area_rows.specs.Callers.{CallerView, CountsWhole, IsReading, IsLook, IsDrawn, IsStoredRow, RowIs, Shows}
+use Rattle.area_rows.specs.History.{StartsWith, Runs, whole_count, planned_calls, IsAtRest, HoldsFor, rest_of}
 use Rattle.area_rows.specs.Called.{IsCalled, IsLastPlace}
-use Rattle.area_rows.specs.Callers.{keeps_on}
+use Rattle.area_rows.specs.Callers.{CallerView, CountsWhole, IsReading, IsLook, IsDrawn, IsNumbered, IsStoredRow, RowIs, Shows, keeps_on}
 use Rattle.row_plans.proofs.RowLists.{some_none}
 use Rattle.area_protect.specs.declared.steps.Request.{Request}
 use Rattle.area_protect.specs.Attempts.{IsChanged}
 use Rattle.area_protect.specs.Looks.{IsAfter, HasWhole, HasMade, LooksFirst, HasLooked, IsLookedAt}
-use Rattle.area_protect.proofs.Looking.{longer}
+use Rattle.area_protect.proofs.Looking.{longer, look_shows}
 
 -- pages that the row of the first one doesn't hold, or that aren't mapped there, are not of one kind
-pub other_kind : (held : Held) (pages : Span) (row : Row) (words : List ℕ) (state : List Area) → held.range.lo ≡ pages.lo
-    → held.range.hi ≡ pages.hi → RowIs (Some held) pages.lo row words state → row.lo ≤ pages.lo → pages.lo < row.hi
-    → (row.kind ≡ None) ⊎ (row.hi < pages.hi) → IsOneKind state pages.lo pages.hi → ⊥
-other_kind held pages row words state lo hi is from until why one =
+pub other_kind : (held : Held) (pages : Span) {row : Row} {words : List ℕ} {state : List Area} → held.range.lo ≡ pages.lo → held.range.hi ≡ pages.hi
+    → RowIs (Some held) pages.lo row words state → row.lo ≤ pages.lo → pages.lo < row.hi → (row.kind ≡ None) ⊎ (row.hi < pages.hi)
+    → IsOneKind state pages.lo pages.hi → ⊥
+other_kind held pages {row} {state} lo hi is from until why one =
     let order = pages.ordered in
     let here : IsHeldPage (Some held) pages.lo = (held, refl, omega arith, omega arith) in
     let first : kind_at state pages.lo ≡ row.kind = is.kind pages.lo here from until in
-    ⊎_elim
-    (λ none. some_none one.0 (kind_at state pages.lo) (first ∙ none) (one.1 pages.lo (omega arith) (omega arith)))
-    (λ short.
+    ⊎_elim (λ none. some_none one.0 (kind_at state pages.lo) (first ∙ none) (one.1 pages.lo (omega arith) (omega arith))) (λ short.
     let behind : IsHeldPage (Some held) row.hi = (held, refl, omega arith, omega arith) in
-    is.next behind (one.1 row.hi (omega arith) short ∙ (sym (one.1 pages.lo (omega arith) (omega arith)) ∙ first)))
-    why
+    is.next behind (one.1 row.hi (omega arith) short ∙ (sym (one.1 pages.lo (omega arith) (omega arith)) ∙ first))) why
 
 -- so at a look under these pages they were not of one kind
-pub other_shown : (seat : SeatState Pass) (held : Option Held) (h : Held) (page : ℕ) (pages : Span) (row : Row) → held ≡ Some h
-    → h.range.lo ≡ pages.lo → h.range.hi ≡ pages.hi → page ≡ pages.lo → Shows seat (RowIs held page row) → row.lo ≤ page
-    → page < row.hi → (row.kind ≡ None) ⊎ (row.hi < pages.hi)
+pub other_shown : (seat : SeatState Pass) {held : Option Held} (h : Held) {page : ℕ} (pages : Span) (row : Row) → held ≡ Some h → h.range.lo ≡ pages.lo
+    → h.range.hi ≡ pages.hi → page ≡ pages.lo → Shows seat (RowIs held page row) → row.lo ≤ page → page < row.hi → (row.kind ≡ None) ⊎ (row.hi < pages.hi)
     → Shows seat (λ _ state. ¬ IsOneKind state pages.lo pages.hi)
-other_shown seat held h page pages row is lo hi first shows from until why start history state words m =
-    other_kind h pages row words state lo hi (subst (λ (z : Option Held × ℕ). RowIs z.0 z.1 row words state)
-    (λ i. (is i, first i)) (shows start history state words m)) (subst (λ n. row.lo ≤ n) first from)
-    (subst (λ n. n < row.hi) first until) why
+other_shown seat h pages row is lo hi first shows from until why start history state words m =
+    other_kind h pages lo hi (subst (λ (z : Option Held × ℕ). RowIs z.0 z.1 row words state) (λ i. (is i, first i)) (shows start history state words m))
+    (subst (λ n. row.lo ≤ n) first from) (subst (λ n. n < row.hi) first until) why
 
 -- what a numbered call left is written, at the latest by a store of one row
 pub record IsFinished (drawn after : SeatState Pass) : Type 0 where
@@ -90,8 +84,8 @@ nothing_to_store n rest = record {
 }
 
 -- the store of one row writes what a call left to be written
-pub stored_one : (n w : SeatState Pass) (index : ℕ) → IsStoredRow n index w → IsFinished n w
-stored_one n w index s = record {
+pub stored_one : {n w : SeatState Pass} {index : ℕ} → IsStoredRow n index w → IsFinished n w
+stored_one {index} s = record {
   rest = s.rest;
   start = s.start;
   seen = s.seen;
@@ -105,12 +99,11 @@ stored_one n w index s = record {
 }
 
 -- planning, numbering, storing and giving back are one call of a caller that held nothing before
-pub called_area : (b r n w d : CallerView) (e : Entry) (line : ℕ) (call : Call) (span : Span) (pending : Pending)
-    → IsReading b.seat r.seat → r.left ≡ b.left → e.line ≡ line → e.call ≡ call → e.under ≡ OverArea span → IsNamedReply e.reply
-    → IsDrawn r.seat e pending n.seat → n.left + 1 ≡ r.left
+pub called_area : (b r n w d : CallerView) {e : Entry} {line : ℕ} {call : Call} (span : Span) {pending : Pending} → IsReading b.seat r.seat → r.left ≡ b.left
+    → e.line ≡ line → e.call ≡ call → e.under ≡ OverArea span → IsNamedReply e.reply → IsDrawn r.seat e pending n.seat → n.left + 1 ≡ r.left
     → IsFinished n.seat w.seat → w.left ≡ n.left → IsRelease rest_of w.seat d.seat → d.left ≡ w.left
     → IsCalled (record b { seat = record b.seat { held = None } }) line call e d
-called_area b r n w d e line call span pending reading same line_is call_is under named drawn left finished stored_left release same_left =
+called_area b r n w d {e} span reading same line_is call_is under named drawn left finished stored_left release same_left =
     let num = drawn.numbered in
     let taken : n.seat.trace.taken ≡ r.seat.trace.taken + 1 = ap (λ (t : Record). t.taken) drawn.trace in
     record {
@@ -135,78 +128,73 @@ called_area b r n w d e line call span pending reading same line_is call_is unde
         number = release.number ∙ (finished.number ∙ (num.number ∙ reading.number));
         held = release.held;
       };
-      last = ⊎_elim
-          (λ same_trace. record {
-            place = number_place (blocks_by r.seat.table);
-            step = r.seat.trace.taken;
-            word = subst (λ u. IsLastPlace (blocks_by b.seat.table) u (number_place (blocks_by r.seat.table))) (sym under)
-                (inl (ap (λ (t : TableId). number_place (blocks_by t)) reading.table));
-            client = release.client ∙ (ap (λ (t : Record). t.client) same_trace ∙ ap (λ (t : Record). t.client) drawn.trace);
-            since = reading.taken;
-            until = let m = release.least in let t = ap (λ (t : Record). t.taken) same_trace in omega arith;
-          })
-          (λ one. record {
-            place = 3 + one.0;
-            step = n.seat.trace.taken;
-            word = subst (λ u. IsLastPlace (blocks_by b.seat.table) u (3 + one.0)) (sym under) (inr (omega arith));
-            client = release.client ∙ ap (λ (t : Record). t.client) one.1;
-            since = let m = reading.taken in omega arith;
-            until = let m = release.least in let t : w.seat.trace.taken ≡ n.seat.trace.taken + 1 = ap (λ (t : Record). t.taken) one.1 in omega arith;
-          })
-          finished.trace;
+      last = ⊎_elim (λ same_trace. record {
+        place = number_place (blocks_by r.seat.table);
+        step = r.seat.trace.taken;
+        word = subst (λ u. IsLastPlace (blocks_by b.seat.table) u (number_place (blocks_by r.seat.table))) (sym under)
+            (inl (ap (λ (t : TableId). number_place (blocks_by t)) reading.table));
+        client = release.client ∙ (ap (λ (t : Record). t.client) same_trace ∙ ap (λ (t : Record). t.client) drawn.trace);
+        since = reading.taken;
+        until = let m = release.least in let t = ap (λ (t : Record). t.taken) same_trace in omega arith;
+      }) (λ one. record {
+        place = 3 + one.0;
+        step = n.seat.trace.taken;
+        word = subst (λ u. IsLastPlace (blocks_by b.seat.table) u (3 + one.0)) (sym under) (inr (omega arith));
+        client = release.client ∙ ap (λ (t : Record). t.client) one.1;
+        since = let m = reading.taken in omega arith;
+        until = let m = release.least in let t : w.seat.trace.taken ≡ n.seat.trace.taken + 1 = ap (λ (t : Record). t.taken) one.1 in omega arith;
+      }) finished.trace;
       written = ap (λ (p : Pass). p.pending) release.pass ∙ finished.rest;
       left = ap (λ k. k + 1) (same_left ∙ stored_left) ∙ (left ∙ same);
     }
 
 -- a range that is given back leaves what was seen
-module _ (d e : SeatState Pass) (release : IsRelease rest_of d e) where
+module _ {d e : SeatState Pass} (release : IsRelease rest_of d e) where
   seen_back : e.pass.seen ≡ d.pass.seen
   seen_back = ap (λ (p : Pass). p.seen) release.pass
 
   start_back : e.pass.start ≡ d.pass.start
   start_back = ap (λ (p : Pass). p.start) release.pass
 
-  -- the state after so many entries is as it was before the range was given back
-  pub after_back : (m : ℕ) (what : List Area → Type 0) → IsAfter d m what → IsAfter e m what
-  after_back m what t = (t.0, subst (λ (z : List Area × List Entry). StateAfter z.0 (take m z.1) t.0) (λ i. (sym start_back i, sym seen_back i)) t.1, t.2)
+  -- what a look showed of the state is so still when the range was given back
+  pub after_back : {s : SeatState Pass} {found : ℕ} (what : List Area → Type 0) → IsLook s found d → Shows s (λ _ state. what state) → IsAfter e found what
+  after_back {s} {found} what look shows =
+      let t = look_shows what look shows in
+      (t.0, subst (λ (z : List Area × List Entry). StateAfter z.0 (take found z.1) t.0) (λ i. (sym start_back i, sym seen_back i)) t.1, t.2)
 
   -- so many of the first entries are under everything as before the range was given back
   pub whole_back : (m n : ℕ) → HasWhole d m n → HasWhole e m n
   whole_back m n t = ap (λ l. whole_count (take m l)) seen_back ∙ t
 
 -- the look that is made between holding and giving back: it is the only one, and was made under what was held
-abbrev looked_of : (a b c d e : CallerView) (found : ℕ) → IsLockCall a.seat b.seat → IsReading b.seat c.seat → IsLook c.seat found d.seat
+abbrev looked_of : (a b c d e : CallerView) {found : ℕ} → IsLockCall a.seat b.seat → IsReading b.seat c.seat → IsLook c.seat found d.seat
     → IsRelease rest_of d.seat e.seat → Look
-looked_of a b c d e found lock reading look release = record { found = length d.seat.pass.seen; held = c.seat.held }
+looked_of a b c d e {found} lock reading look release = record { found = length d.seat.pass.seen; held = c.seat.held }
 
-looks_round : (a b c d e : CallerView) (found : ℕ) (lock : IsLockCall a.seat b.seat) (reading : IsReading b.seat c.seat)
-    (look : IsLook c.seat found d.seat) (release : IsRelease rest_of d.seat e.seat)
-    → HasMade a.seat (looked_of a b c d e found lock reading look release ∷ []) e.seat
-looks_round a b c d e found lock reading look release = ap (λ (p : Pass). p.looks) release.pass
-    ∙ (ap (λ (p : Pass). p.looks) look.step.pass
+looks_round : (a b c d e : CallerView) {found : ℕ} (lock : IsLockCall a.seat b.seat) (reading : IsReading b.seat c.seat) (look : IsLook c.seat found d.seat)
+    (release : IsRelease rest_of d.seat e.seat) → HasMade a.seat (looked_of a b c d e lock reading look release ∷ []) e.seat
+looks_round a b c d e {found} lock reading look release = ap (λ (p : Pass). p.looks) release.pass ∙ (ap (λ (p : Pass). p.looks) look.step.pass
     ∙ ap (λ l. record { found = length d.seat.pass.seen; held = c.seat.held } ∷ l) (reading.looks ∙ ap (λ (p : Pass). p.looks) lock.pass))
 
 -- so it is the first look where none was made before
-pub first_round : (a b c d e : CallerView) (found lo hi : ℕ) → IsLockCall a.seat b.seat
-    → b.seat.held ≡ Some (record { range = record { lo = lo; hi = hi }; mode = Reader }) → IsReading b.seat c.seat
-    → IsLook c.seat found d.seat → IsRelease rest_of d.seat e.seat → LooksFirst a.seat lo hi e.seat
-first_round a b c d e found lo hi lock held reading look release = (
+pub first_round : (a b c d e : CallerView) {found : ℕ} (lo hi : ℕ) → IsLockCall a.seat b.seat
+    → b.seat.held ≡ Some (record { range = record { lo = lo; hi = hi }; mode = Reader }) → IsReading b.seat c.seat → IsLook c.seat found d.seat
+    → IsRelease rest_of d.seat e.seat → LooksFirst a.seat lo hi e.seat
+first_round a b c d e {found} lo hi lock held reading look release = (
   [],
   record { found = length d.seat.pass.seen; held = c.seat.held },
-  looks_round a b c d e found lock reading look release,
+  looks_round a b c d e lock reading look release,
   reading.held ∙ held,
 )
 
 -- holding, reading, looking and giving back are a look
-pub looked_round : (a b c d e : CallerView) (found : ℕ) → IsLockCall a.seat b.seat → b.left ≡ a.left → IsAtRest b.seat.pass
-    → IsReading b.seat c.seat → c.left ≡ b.left → IsLook c.seat found d.seat → d.left ≡ c.left → IsRelease rest_of d.seat e.seat
-    → e.left ≡ d.left
+pub looked_round : (a b c d e : CallerView) {found : ℕ} → IsLockCall a.seat b.seat → b.left ≡ a.left → IsAtRest b.seat.pass → IsReading b.seat c.seat
+    → c.left ≡ b.left → IsLook c.seat found d.seat → d.left ≡ c.left → IsRelease rest_of d.seat e.seat → e.left ≡ d.left
     → HasLooked a e × IsLookedAt a.seat found e.seat
-looked_round a b c d e found lock same_b rest reading same_c look same_d release same_e =
+looked_round a b c d e {found} lock same_b rest reading same_c look same_d release same_e =
     let more : StartsWith e.seat.pass.seen a.seat.pass.seen =
     subst (λ (z : List Entry × List Entry). StartsWith z.0 z.1)
-    (λ i. (sym (ap (λ (p : Pass). p.seen) release.pass) i, (reading.seen ∙ ap (λ (p : Pass). p.seen) lock.pass) i))
-    look.more in
+    (λ i. (sym (ap (λ (p : Pass). p.seen) release.pass) i, (reading.seen ∙ ap (λ (p : Pass). p.seen) lock.pass) i)) look.more in
     let counted : length e.seat.pass.seen ≡ found = ap (λ (p : Pass). length p.seen) release.pass ∙ look.count in (
       record {
         table = release.table ∙ (look.step.table ∙ (reading.table ∙ lock.table));
@@ -214,7 +202,7 @@ looked_round a b c d e found lock same_b rest reading same_c look same_d release
         start = ap (λ (p : Pass). p.start) release.pass ∙ (ap (λ (p : Pass). p.start) look.step.pass ∙ (reading.start ∙ ap (λ (p : Pass). p.start) lock.pass));
         mine = ap (λ (p : Pass). p.mine) release.pass ∙ (ap (λ (p : Pass). p.mine) look.step.pass ∙ (reading.mine ∙ ap (λ (p : Pass). p.mine) lock.pass));
         more = more;
-        looks = (looked_of a b c d e found lock reading look release ∷ [], looks_round a b c d e found lock reading look release);
+        looks = (looked_of a b c d e lock reading look release ∷ [], looks_round a b c d e lock reading look release);
         rest = ap (λ (p : Pass). p.pending) release.pass ∙ (ap (λ (p : Pass). p.pending) look.step.pass ∙ (reading.read.pending ∙ rest));
         taken = let l = lock.taken in let r = reading.taken in
             let t : d.seat.trace.taken ≡ c.seat.trace.taken + 1 = ap (λ (x : Record). x.taken) look.step.trace in
@@ -224,11 +212,7 @@ looked_round a b c d e found lock same_b rest reading same_c look same_d release
       (
         (let l = longer a.seat.pass.seen e.seat.pass.seen more in omega arith),
         (let c = counted in omega arith),
-        (
-          looked_of a b c d e found lock reading look release ∷ [],
-          looks_round a b c d e found lock reading look release,
-          inl (look.count),
-        ),
+        (looked_of a b c d e lock reading look release ∷ [], looks_round a b c d e lock reading look release, inl (look.count)),
       ),
     )
 
@@ -263,8 +247,8 @@ held_and_read a b c lock same_b rest reading same_c = record {
 }
 
 -- so many entries are under everything as were at the look before, while the caller holds its area
-pub counts_on : (b c : SeatState Pass) (n : ℕ) → IsReading b c → CountsWhole b n → CountsWhole c n
-counts_on b c n reading counts start history state words m =
+pub counts_on : {b c : SeatState Pass} (n : ℕ) → IsReading b c → CountsWhole b n → CountsWhole c n
+counts_on {b} {c} n reading counts start history state words m =
     let same : planned_calls c.pass.pending ≡ planned_calls b.pass.pending = ap planned_calls reading.read.pending in
     let h = counts start history state words (record {
       grants = m.grants;
@@ -279,32 +263,32 @@ counts_on b c n reading counts start history state words m =
     }) in
     omega arith
 
+-- what was seen before a numbered entry is the history that it found
+pub before_entry : {r n : SeatState Pass} {e : Entry} (num : IsNumbered r e n) → take e.number n.pass.seen ≡ num.history
+before_entry {e} num = ap (take e.number) num.seen ∙ (take-append-le e.number num.history (e ∷ []) (let c = num.counted in omega arith)
+    ∙ take_all e.number num.history (let c = num.counted in omega arith))
+
 -- and at the draw they are those before the entry
-pub drawn_counts : (r n : SeatState Pass) (e : Entry) (pending : Pending) (k : ℕ) → IsDrawn r e pending n → IsAtRest r.pass
-    → CountsWhole r k → HasWhole n e.number k
-drawn_counts r n e pending k drawn rest counts =
+pub drawn_counts : {r n : SeatState Pass} {e : Entry} {pending : Pending} (k : ℕ) → IsDrawn r e pending n → IsAtRest r.pass → CountsWhole r k
+    → HasWhole n e.number k
+drawn_counts {r} {n} {e} k drawn rest counts =
     let num = drawn.numbered in
-    let all : take e.number n.pass.seen ≡ num.history = ap (take e.number) num.seen
-    ∙ (take-append-le e.number num.history (e ∷ []) (let c = num.counted in omega arith)
-    ∙ take_all e.number num.history (let c = num.counted in omega arith)) in
     let c : k + planned_calls r.pass.pending ≡ whole_count num.history = counts r.pass.start num.history num.state drawn.words drawn.moment in
     let none : planned_calls r.pass.pending ≡ 0 = ap planned_calls rest in
-    ap whole_count all ∙ (let z : whole_count num.history ≡ k = omega arith in z)
+    ap whole_count (before_entry num) ∙ (let z : whole_count num.history ≡ k = omega arith in z)
 
 -- so a change over the area that the caller holds got its entry, whether a row was to be stored or not
-pub changed_area : (b r n w d : CallerView) (q : Request) (e : Entry) (span : Span) (pending : Pending) → IsReading b.seat r.seat
-    → r.left ≡ b.left → IsAtRest b.seat.pass → e.line ≡ q.line → e.call ≡ Protect q.addr q.len q.prot → e.under ≡ OverArea span
-    → IsNamedReply e.reply → IsDrawn r.seat e pending n.seat → n.left + 1 ≡ r.left
-    → IsFinished n.seat w.seat → w.left ≡ n.left → IsRelease rest_of w.seat d.seat → d.left ≡ w.left → IsChanged b q d e
-changed_area b r n w d q e span pending reading same rest line_is call_is under named drawn left finished stored_left release same_left = record {
-  called = called_area b r n w d e q.line (Protect q.addr q.len q.prot) span pending reading same line_is call_is under named
-      drawn left finished stored_left release same_left;
+pub changed_area : (b r n w d : CallerView) (q : Request) {e : Entry} (span : Span) {pending : Pending} → IsReading b.seat r.seat → r.left ≡ b.left
+    → IsAtRest b.seat.pass → e.line ≡ q.line → e.call ≡ Protect q.addr q.len q.prot → e.under ≡ OverArea span → IsNamedReply e.reply
+    → IsDrawn r.seat e pending n.seat → n.left + 1 ≡ r.left → IsFinished n.seat w.seat → w.left ≡ n.left → IsRelease rest_of w.seat d.seat → d.left ≡ w.left
+    → IsChanged b q d e
+changed_area b r n w d q {e} span reading same rest line_is call_is under named drawn left finished stored_left release same_left = record {
+  called = called_area b r n w d span reading same line_is call_is under named drawn left finished stored_left release same_left;
   area = subst HoldsSomeArea (sym under) tt;
   whole = λ k counts.
-      let drew : HasWhole n.seat e.number k = drawn_counts r.seat n.seat e pending k drawn (reading.read.pending ∙ rest)
-      (counts_on b.seat r.seat k reading counts) in
+      let drew : HasWhole n.seat e.number k = drawn_counts k drawn (reading.read.pending ∙ rest) (counts_on k reading counts) in
       let stored : HasWhole w.seat e.number k = ap (λ l. whole_count (take e.number l)) finished.seen ∙ drew in
-      whole_back w.seat d.seat release e.number k stored;
+      whole_back release e.number k stored;
   looks = ap (λ (p : Pass). p.looks) release.pass ∙ (finished.looks ∙ (drawn.looks ∙ reading.looks));
 }
 

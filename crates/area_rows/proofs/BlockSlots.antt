@@ -1,7 +1,7 @@
 -- The slots by a layout: the slot of a place of a block is one of them, behind a place comes the next one of its block
 -- or the head of the next block, and behind the last place of the last block none.
-use Rattle.std.proofs.Common.{◌≡◌, ℕ, zero, suc, ◌+◌, ◌-◌, ◌*◌, ◌/◌, ◌%◌, ◌<◌, ◌≤◌, List, length, get_or}
-use Rattle.std.proofs.Common.{sym, ap, ◌∙◌, subst, arith, Bool, false, ne_eqb, inl, inr}
+use Rattle.std.proofs.Common.{◌≡◌, ℕ, zero, suc, ◌+◌, ◌-◌, ◌*◌, ◌/◌, ◌%◌, ◌<◌, ◌≤◌, List, length, get_or, sym, ap, ◌∙◌, subst, arith, Bool, false, ne_eqb, inl}
+use Rattle.std.proofs.Common.{inr}
 use Rattle.std.proofs.lemmas.List.{length-append}
 use Rattle.std.proofs.lemmas.Bool.{cases_lt}
 use Rattle.std.specs.Prelude.{◌==◌, if◌then◌else◌, Some, None, slice_index}
@@ -18,12 +18,10 @@ pub head_slot : (layout : List ℕ) (i : ℕ) → slot_at layout (128 * i) ≡ i
 head_slot layout i =
     let place : (128 * i) % 128 ≡ 0 = omega arith in
     let block : 128 * i / 128 ≡ i = omega arith in
-    (λ k. if place k == 0 then block k
-    else (length layout - 2 + 127 * (slice_index layout (2 + block k) / 128) + place k - 1))
+    (λ k. if place k == 0 then block k else (length layout - 2 + 127 * (slice_index layout (2 + block k) / 128) + place k - 1))
 
 -- and behind the head so many words behind the beginning of the body
-pub body_slot : (layout : List ℕ) (i m : ℕ) → m < 127
-    → slot_at layout (128 * i + (m + 1)) ≡ length layout - 2 + 127 * (slice_index layout (2 + i) / 128) + m
+pub body_slot : (layout : List ℕ) (i m : ℕ) → m < 127 → slot_at layout (128 * i + (m + 1)) ≡ length layout - 2 + 127 * (slice_index layout (2 + i) / 128) + m
 body_slot layout i m lt =
     let n : ℕ = 128 * i + (m + 1) in
     let place : (128 * i + (m + 1)) % 128 ≡ m + 1 = omega arith in
@@ -78,8 +76,7 @@ next_in_block layout i j in_use le =
     )
 
 -- and behind the last one of a block the head of the next
-pub next_head : (layout : List ℕ) (i : ℕ) → i + 1 < slice_index layout 1
-    → AreNeighbours (slots_of layout) (slot_at layout (128 * i + rows_by layout i)) (i + 1)
+pub next_head : (layout : List ℕ) (i : ℕ) → i + 1 < slice_index layout 1 → AreNeighbours (slots_of layout) (slot_at layout (128 * i + rows_by layout i)) (i + 1)
 next_head layout i in_use =
     let n : ℕ = length (pieces (block_slots layout) i) in
     let long = block_long layout i in
@@ -104,9 +101,9 @@ last_place layout i last =
     (n + rows_by layout i, slot_here layout i (rows_by layout i) (omega arith) (omega arith), omega arith)
 
 -- the slot of a place of a block, from its body word
-pub place_slot : (layout : List ℕ) (nb i j told slot : ℕ) → length layout ≡ nb + 2 → slice_index layout (2 + i) ≡ told → j < 128
+pub place_slot : (layout : List ℕ) (nb i j : ℕ) {told : ℕ} (slot : ℕ) → length layout ≡ nb + 2 → slice_index layout (2 + i) ≡ told → j < 128
     → (j ≡ 0 → slot ≡ i) → (0 < j → slot + 1 ≡ nb + 127 * (told / 128) + j) → slot_at layout (128 * i + j) ≡ slot
-place_slot layout nb i j told slot long is low head body = elim (cases_lt 0 j) [
+place_slot layout nb i j slot long is low head body = elim (cases_lt 0 j) [
   | inl some_place ↦
       let up : 128 * i + (j - 1 + 1) ≡ 128 * i + j = omega arith in
       let at = body_slot layout i (j - 1) (omega arith) in
@@ -121,17 +118,17 @@ place_slot layout nb i j told slot long is low head body = elim (cases_lt 0 j) [
 
 module _ (layout : List ℕ) (i j : ℕ) (in_use : i < slice_index layout 1) where
   -- before a place of a block comes the place before it
-  pub place_before : (slot : ℕ) → 0 < j → j ≤ rows_by layout i → slot_at layout (128 * i + (j - 1)) ≡ slot
+  pub place_before : {slot : ℕ} → 0 < j → j ≤ rows_by layout i → slot_at layout (128 * i + (j - 1)) ≡ slot
       → IsPreviousOf (slots_of layout) (slot_at layout (128 * i + j)) (Some slot)
-  place_before slot some_place le is =
+  place_before some_place le is =
       let up : 128 * i + (j - 1 + 1) ≡ 128 * i + j = omega arith in
       subst (λ (z : ℕ × ℕ). AreNeighbours (slots_of layout) z.0 z.1) (λ k. (is k, ap (slot_at layout) up k))
       (next_in_block layout i (j - 1) in_use (omega arith))
 
   -- before a head the last place of the block before
-  pub block_before : (slot : ℕ) → 0 < i → j ≡ 0 → slot_at layout (128 * (i - 1) + rows_by layout (i - 1)) ≡ slot
+  pub block_before : {slot : ℕ} → 0 < i → j ≡ 0 → slot_at layout (128 * (i - 1) + rows_by layout (i - 1)) ≡ slot
       → IsPreviousOf (slots_of layout) (slot_at layout (128 * i + j)) (Some slot)
-  block_before slot more head is =
+  block_before more head is =
       let up : i - 1 + 1 ≡ i = omega arith in
       let at : 128 * i ≡ 128 * i + j = omega arith in
       let own : i - 1 + 1 ≡ slot_at layout (128 * i + j) = up ∙ (sym (head_slot layout i) ∙ ap (slot_at layout) at) in
@@ -145,25 +142,23 @@ module _ (layout : List ℕ) (i j : ℕ) (in_use : i < slice_index layout 1) whe
       slot_here layout 0 0 some_block (omega arith) ∙ ap (λ (n : ℕ). some (slot_at layout n)) at
 
   -- behind a place of a block comes the next place
-  pub place_behind : (slot : ℕ) → j < rows_by layout i → slot_at layout (128 * i + (j + 1)) ≡ slot
+  pub place_behind : {slot : ℕ} → j < rows_by layout i → slot_at layout (128 * i + (j + 1)) ≡ slot
       → IsNextOf (slots_of layout) (slot_at layout (128 * i + j)) (Some slot)
-  place_behind slot lt is =
-      subst (λ (n : ℕ). AreNeighbours (slots_of layout) (slot_at layout (128 * i + j)) n) is (next_in_block layout i j in_use (omega arith))
+  place_behind lt is = subst (λ (n : ℕ). AreNeighbours (slots_of layout) (slot_at layout (128 * i + j)) n) is (next_in_block layout i j in_use (omega arith))
 
   -- behind the last one the next head
   pub block_behind : j ≡ rows_by layout i → i + 1 < slice_index layout 1 → IsNextOf (slots_of layout) (slot_at layout (128 * i + j)) (Some (i + 1))
-  block_behind last more =
-      subst (λ (n : ℕ). AreNeighbours (slots_of layout) (slot_at layout (128 * i + n)) (i + 1)) (sym last) (next_head layout i more)
+  block_behind last more = subst (λ (n : ℕ). AreNeighbours (slots_of layout) (slot_at layout (128 * i + n)) (i + 1)) (sym last) (next_head layout i more)
 
   -- and behind the last one of the last block none
   pub none_behind : j ≡ rows_by layout i → i + 1 ≡ slice_index layout 1 → IsNextOf (slots_of layout) (slot_at layout (128 * i + j)) None
   none_behind last end = subst (λ (n : ℕ). IsLastOf (slots_of layout) (slot_at layout (128 * i + n))) (sym last) (last_place layout i end)
 
 -- a place behind the head is a slot
-pub body_there : (layout : List ℕ) (nb i told from place : ℕ) → length layout ≡ nb + 2 → slice_index layout (2 + i) ≡ told
+pub body_there : (layout : List ℕ) (nb i : ℕ) {told : ℕ} (from place : ℕ) → length layout ≡ nb + 2 → slice_index layout (2 + i) ≡ told
     → i < slice_index layout 1 → 0 < place → place ≤ told % 128 → from + 1 ≡ nb + 127 * (told / 128) → IsOneOf (slots_of layout) (from + place)
-body_there layout nb i told from place long is in_use some_place le begins =
+body_there layout nb i from place long is in_use some_place le begins =
     let rows = ap (λ (x : ℕ). x % 128) is in
     let slot : slot_at layout (128 * i + place) ≡ from + place =
-    place_slot layout nb i place told (from + place) long is (omega arith) (λ none. absurd (omega arith)) (λ some_more. omega arith) in
+    place_slot layout nb i place (from + place) long is (omega arith) (λ none. absurd (omega arith)) (λ some_more. omega arith) in
     subst (IsOneOf (slots_of layout)) slot (slot_of_place layout i place in_use (omega arith))

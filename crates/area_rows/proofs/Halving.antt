@@ -4,8 +4,8 @@ use Rattle.std.proofs.Common.{◌≡◌, ℕ, zero, suc, ◌+◌, ◌-◌, ◌*�
 use Rattle.std.proofs.Math.Nat.{pow-suc}
 use Rattle.std.proofs.lemmas.Bool.{cases_lt}
 use Rattle.area_guard.specs.declared.guard.ReadRow.{ReadRow}
-use Rattle.row_plans.specs.RowWords.{row_start}
 use Rattle.area_guard.specs.Reads.{HasRead}
+use Rattle.row_plans.specs.RowWords.{row_start}
 use Rattle.area_rows.specs.Halving.{IsOnSameSide, StartsBehind, IsAmong}
 
 -- among all rows that there are
@@ -20,10 +20,8 @@ all_rows rows page count last at word some_rows = record {
 -- a row that was read behind the page isn't found before it
 not_behind : (rows : List ReadRow) (page count last : ℕ) (at : ℕ → ℕ) (index word end : ℕ) → index < count → IsOnSameSide rows (at index) word page
     → row_start word ≤ page → StartsBehind rows page count last at index end → ⊥
-not_behind rows page count last at index word end there side low behind = ⊎_elim
-    (λ none. absurd (let e = none.0 in omega arith))
-    (λ t. let back : row_start t.0 ≤ page = (side t.0 t.1).1 low in let over = t.2 in absurd (omega arith))
-    behind
+not_behind rows page count last at index word end there side low behind = ⊎_elim (λ none. absurd (let e = none.0 in omega arith))
+    (λ t. let back : row_start t.0 ≤ page = (side t.0 t.1).1 low in let over = t.2 in absurd (omega arith)) behind
 
 -- what was read stays so while more is read
 pub behind_on : (rows : List ReadRow) (read : ReadRow) (page count last : ℕ) (at : ℕ → ℕ) (place end : ℕ)
@@ -37,11 +35,7 @@ module _ (rows : List ReadRow) (page count last : ℕ) (at : ℕ → ℕ) (base 
   pub upper : IsOnSameSide rows (at (base + half)) read page → row_start read ≤ page
       → IsAmong (record { index = at (base + half); word = read } ∷ rows) page count last at (base + half) (size - half) read end
   upper side low =
-      let next = among.behind.0 in
-      let above = among.behind.1 in
-      let within = among.behind.2 in
-      let near = among.behind.3 in
-      let there = among.there in
+      let next = among.behind.0 in let above = among.behind.1 in let within = among.behind.2 in let near = among.behind.3 in let there = among.there in
       let after : base + half < next = elim (cases_lt (base + half) next) [
         | inl lt ↦ lt
         | inr ge ↦ let here : next ≡ base + half = omega arith in
@@ -75,10 +69,8 @@ module _ (rows : List ReadRow) (page count last : ℕ) (at : ℕ → ℕ) (base 
 
 -- one step of the search
 pub narrowed : (rows : List ReadRow) (page count last : ℕ) (at : ℕ → ℕ) (base size word end read start next kept stop : ℕ)
-    → IsAmong rows page count last at base size word end → 1 < size
-    → IsOnSameSide rows (at (base + size / 2)) read page → start ≡ row_start read
-    → (start ≤ page → (next ≡ base + size / 2) × (kept ≡ read) × (stop ≡ end))
-    → (page < start → (next ≡ base) × (kept ≡ word) × (stop ≡ start))
+    → IsAmong rows page count last at base size word end → 1 < size → IsOnSameSide rows (at (base + size / 2)) read page → start ≡ row_start read
+    → (start ≤ page → (next ≡ base + size / 2) × (kept ≡ read) × (stop ≡ end)) → (page < start → (next ≡ base) × (kept ≡ word) × (stop ≡ start))
     → IsAmong (record { index = at (base + size / 2); word = read } ∷ rows) page count last at next (size - size / 2) kept stop
 narrowed rows page count last at base size word end read start next kept stop among more side is up down =
     let after : List ReadRow = record { index = at (base + size / 2); word = read } ∷ rows in
@@ -112,13 +104,9 @@ found_until rows page count last at place word end among until =
 
 -- and the end is where the row at the next place starts, or what is behind all
 pub found_end : (rows : List ReadRow) (page count last : ℕ) (at : ℕ → ℕ) (place word end : ℕ) → IsAmong rows page count last at place 1 word end
-    → ((place + 1 ≡ count) × (end ≡ last))
-    ⊎ ((next : ℕ) × HasRead rows (at (place + 1)) next × (end ≡ row_start next) × (place + 1 < count))
+    → ((place + 1 ≡ count) × (end ≡ last)) ⊎ ((next : ℕ) × HasRead rows (at (place + 1)) next × (end ≡ row_start next) × (place + 1 < count))
 found_end rows page count last at place word end among =
-    let above = among.behind.1 in
-    let within = among.behind.2 in
+    let above = among.behind.1 in let within = among.behind.2 in
     let here : among.behind.0 ≡ place + 1 = omega arith in
-    ⊎_elim
-    (λ none. inl (sym here ∙ none.0, none.1))
-    (λ t. inr (t.0, subst (λ (n : ℕ). HasRead rows (at n) t.0) here t.1, t.3, subst (λ (n : ℕ). n < count) here t.4))
-    among.behind.4
+    ⊎_elim (λ none. inl (sym here ∙ none.0, none.1))
+    (λ t. inr (t.0, subst (λ (n : ℕ). HasRead rows (at n) t.0) here t.1, t.3, subst (λ (n : ℕ). n < count) here t.4)) among.behind.4

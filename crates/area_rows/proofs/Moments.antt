@@ -23,20 +23,20 @@ use Rattle.area_guard.specs.declared.guard.ReadRow.{ReadRow}
 use Rattle.area_guard.specs.declared.guard.Pass.{Pass}
 use Rattle.area_guard.specs.declared.guard.Pending.{Pending}
 use Rattle.area_guard.specs.declared.guard.Pending.TheVariants.{AtRest, Planned, OneRow}
-use Rattle.row_plans.specs.RowWords.{row_start}
-use Rattle.row_plans.specs.RowLists.{rows_start, ShowFrom, IsBareGap, areas_from}
 use Rattle.area_guard.specs.Rows.{rows_in, RowsShow}
 use Rattle.area_guard.specs.Slots.{rows_many, shows_others}
-use Rattle.row_plans.specs.Plans.{PlanShows, IsRowList}
 use Rattle.area_guard.specs.Reads.{everything, IsHeldPage, HasRead, StillStands}
-use Rattle.area_guard.specs.History.{planned_calls, own_planned, planned_count, LagsAt, IsShown, RowsStandFor}
-use Rattle.area_guard.specs.History.{IsRunningSpace, HasHistory, HoldsPages, Backs, AreBacked, IsAtRest, Here}
-use Rattle.area_rows.specs.Callers.{IsHeldPages, IsMoment}
+use Rattle.area_guard.specs.History.{IsRunningSpace, HasHistory, HoldsPages, Backs, IsAtRest, Here, planned_calls, own_planned, planned_count, LagsAt, IsShown}
+use Rattle.area_guard.specs.History.{RowsStandFor}
 use Rattle.area_guard.specs.Parts.{planned_set}
 use Rattle.area_guard.specs.Writes.{everything_pages, clash}
 use Rattle.area_guard.specs.Beside.{apart_pages}
 use Rattle.area_guard.specs.RowStores.{in_span}
+use Rattle.row_plans.specs.RowWords.{row_start}
+use Rattle.row_plans.specs.RowLists.{rows_start, ShowFrom, IsBareGap, areas_from}
+use Rattle.row_plans.specs.Plans.{PlanShows, IsRowList}
 use Rattle.row_plans.proofs.RowLists.{starts_low, areas_back}
+use Rattle.area_rows.specs.Callers.{IsHeldPages, IsMoment}
 
 -- what is held is a range
 pub held_some : (held : Option Held) → IsSome held → (h : Held) × (held ≡ Some h)
@@ -61,21 +61,20 @@ shows_agree page (w ∷ rest) kinds other same s =
     (s.0, s.1, s.2, λ p from below. same p (omega arith) ∙ s.3 p from below, shows_agree (rows_start rest) rest kinds other same s.4)
 
 -- rows that show kinds show any others that are the same at each page below the limit
-pub rows_agree : (words : List ℕ) (kinds other : ℕ → Option Kind) → ((p : ℕ) → p < LIMIT → other p ≡ kinds p) → RowsShow words kinds → RowsShow words other
-rows_agree words kinds other same s = shows_others words kinds s other (shows_agree 0 (rows_in words) kinds other same s.show)
+pub rows_agree : {words : List ℕ} {kinds : ℕ → Option Kind} (other : ℕ → Option Kind) → ((p : ℕ) → p < LIMIT → other p ≡ kinds p) → RowsShow words kinds
+    → RowsShow words other
+rows_agree {words} {kinds} other same s = shows_others words kinds s other (shows_agree 0 (rows_in words) kinds other same s.show)
 
 -- rows that show the kinds of an area list are that list's
-pub row_list : (rows : List ℕ) (A : List Area) → PlanShows rows (kind_at A) → areas_from rows ≡ A → IsRowList rows
-row_list rows A shows is = subst (λ (B : List Area). PlanShows rows (kind_at B)) (sym is) shows
+pub row_list : {rows : List ℕ} {A : List Area} → PlanShows rows (kind_at A) → areas_from rows ≡ A → IsRowList rows
+row_list {rows} shows is = subst (λ (B : List Area). PlanShows rows (kind_at B)) (sym is) shows
 
 -- a row that was read stands still
 pub stands : (held : Option Held) (words : List ℕ) (rows : List ReadRow) (i w : ℕ) → All (StillStands held words) rows
     → HasRead rows i w → StillStands held words (record { index = i; word = w })
 stands held words [] i w all h = absurd h
-stands held words (r ∷ rest) i w all h = ⊎_elim
-    (λ t. subst (λ (z : ℕ × ℕ). StillStands held words (record { index = z.0; word = z.1 })) (λ k. (t.0 k, t.1 k))
-    (All-head (StillStands held words) r rest all))
-    (λ t. stands held words rest i w (All-tail (StillStands held words) r rest all) t) h
+stands held words (r ∷ rest) i w all h = ⊎_elim (λ t. subst (λ (z : ℕ × ℕ). StillStands held words (record { index = z.0; word = z.1 })) (λ k. (t.0 k, t.1 k))
+    (All-head (StillStands held words) r rest all)) (λ t. stands held words rest i w (All-tail (StillStands held words) r rest all) t) h
 
 -- where no caller has a plan to write, their count is 0
 pub none_planned : (passes : List Pass) → ((other : ℕ) (x : Pass) → get_elem? passes other ≡ some x → planned_calls x.pending ≡ 0) → planned_count passes ≡ 0
@@ -89,88 +88,70 @@ rest_of_other grants state worker other AtRest exclusive differ h b = refl
 rest_of_other grants state worker other (Planned plan) exclusive differ h b = absurd (clash grants other worker exclusive (λ e. differ (sym e)) b.0 h)
 rest_of_other grants state worker other (OneRow c) exclusive differ h b = refl
 
-module _ (grants : Grants) (words : List ℕ) (state : List Area) (passes : List Pass) (worker : ℕ) (p : Pass)
-    (exclusive : IsExclusive grants) (backed : AreBacked grants words state passes) (at : get_elem? passes worker ≡ some p) where
+module _ {grants : Grants} {words : List ℕ} {passes : List Pass} {worker : ℕ} (here : Here grants words passes worker) where
+  open here use {state, exclusive, backed, own}
+
   -- while a caller holds pages no other has a plan to write
-  pub only_own_plan : HoldsPages grants worker → planned_count passes ≡ planned_calls p.pending
+  pub only_own_plan : HoldsPages grants worker → planned_count passes ≡ planned_calls here.pass.pending
   only_own_plan h =
-      let rests : Pass = record p { pending = AtRest } in
+      let rests : Pass = record here.pass { pending = AtRest } in
       let all : (other : ℕ) (x : Pass) → get_elem? (set passes worker rests) other ≡ some x → planned_calls x.pending ≡ 0 = λ other x there. ⊎_elim
       (λ t. ap (λ (z : Pass). planned_calls z.pending) (sym t.1))
-      (λ t. rest_of_other grants state worker other x.pending exclusive t.0 h (backed other x t.1).pending)
-      (at_set passes worker other rests x there) in
+      (λ t. rest_of_other grants state worker other x.pending exclusive t.0 h (backed other x t.1).pending) (at_set passes worker other rests x there) in
       let none = none_planned (set passes worker rests) all in
-      let s : planned_count (set passes worker rests) + planned_calls p.pending ≡ planned_count passes + 0 = planned_set passes worker p rests at in
+      let s : planned_count (set passes worker rests) + planned_calls here.pass.pending ≡ planned_count passes + 0 =
+      planned_set passes worker here.pass rests own in
       omega arith
 
   -- while a caller at rest holds pages, nobody has a plan to write
-  pub nobody_plans : IsAtRest p → HoldsPages grants worker → planned_count passes ≡ 0
+  pub nobody_plans : IsAtRest here.pass → HoldsPages grants worker → planned_count passes ≡ 0
   nobody_plans rest h = only_own_plan h ∙ ap planned_calls rest
 
   -- no row of another lags behind at a page that a caller holds
   keeps_off : (held : Option Held) → get_elem? grants worker ≡ some held → (page : ℕ) → IsHeldPage held page
       → (other : ℕ) (pending : Pending) → (other ≡ worker → ⊥) → Backs grants state other pending → LagsAt pending page → ⊥
-  keeps_off held has page here other AtRest differ b lags = lags
-  keeps_off held has page here other (Planned plan) differ b lags = lags
-  keeps_off held has page here other (OneRow c) differ b lags =
-      apart_pages grants other worker c.span exclusive (λ e. differ (sym e)) b.0 held has page here (in_span c page b.1 lags)
+  keeps_off held has page at other AtRest differ b lags = lags
+  keeps_off held has page at other (Planned plan) differ b lags = lags
+  keeps_off held has page at other (OneRow c) differ b lags =
+      apart_pages grants other worker c.span exclusive (λ e. differ (sym e)) b.0 held has page at (in_span c page b.1 lags)
 
-  -- and none of its own where it is at rest
-  nowhere : IsAtRest p → (held : Option Held) → get_elem? grants worker ≡ some held → (page : ℕ) → IsHeldPage held page
-      → (other : ℕ) (x : Pass) → get_elem? passes other ≡ some x → LagsAt x.pending page → ⊥
-  nowhere rest held has page here other x there lags = dite (ℕ_discrete other worker)
-      (λ same.
-      let mine : x ≡ p = some-injective x p (sym there ∙ (ap (get_elem? passes) same ∙ at)) in
-      subst (λ (z : Pending). LagsAt z page) (ap (λ (y : Pass). y.pending) mine ∙ rest) lags)
-      (λ differ. keeps_off held has page here other x.pending differ (backed other x there).pending lags)
-
-  -- so the rows show the state there
-  pub shows_held : IsAtRest p → (held : Option Held) → get_elem? grants worker ≡ some held → (kinds : ℕ → Option Kind)
+  -- and none of its own where it is at rest, so the rows show the state there
+  pub shows_held : IsAtRest here.pass → (held : Option Held) → get_elem? grants worker ≡ some held → {kinds : ℕ → Option Kind}
       → IsShown state passes kinds → (page : ℕ) → IsHeldPage held page → kinds page ≡ kind_at state page
-  shows_held rest held has kinds shown page here = shown.elsewhere page (λ other x there lags. nowhere rest held has page here other x there lags)
+  shows_held rest held has shown page at = shown.elsewhere page (λ other x there lags. dite (ℕ_discrete other worker) (λ same.
+      let mine : x ≡ here.pass = some-injective x here.pass (sym there ∙ (ap (get_elem? passes) same ∙ own)) in
+      subst (λ (z : Pending). LagsAt z page) (ap (λ (y : Pass). y.pending) mine ∙ rest) lags)
+      (λ differ. keeps_off held has page at other x.pending differ (backed other x there).pending lags))
 
--- every page is held where everything is
-in_everything : (page : ℕ) → page < LIMIT → IsHeldPage (Some everything) page
-in_everything page low = (everything, refl, omega arith, low)
+  -- where a caller at rest holds everything and knows all row words, they show the state
+  pub rows_are : {rows : List ℕ} → Holds grants worker everything → IsAtRest here.pass → rows_in words ≡ rows
+      → PlanShows rows (kind_at state) × (areas_from rows ≡ state)
+  rows_are {rows} held rest is =
+      let s : RowsStandFor state passes words = here.running.rows (nobody_plans rest (everything, held, everything_pages)) in
+      let few = s.2.few in let some_row = s.2.some in
+      let count : length rows ≡ slice_index words 2 = ap length (sym is) ∙ rows_many words s.0 s.2 in
+      let agree : (page : ℕ) → page < LIMIT → kind_at state page ≡ s.0 page =
+      λ page low. sym (shows_held rest (Some everything) held s.1 page (everything, refl, omega arith, low)) in
+      let show : ShowFrom 0 rows (kind_at state) = shows_agree 0 rows s.0 (kind_at state) agree (subst (λ (l : List ℕ). ShowFrom 0 l s.0) is s.2.show) in
+      let gaps : All IsBareGap rows = subst (All IsBareGap) is s.2.gaps in
+      (record { some = omega arith; few = omega arith; show = show; gaps = gaps }, areas_back rows state show here.running.in_order)
 
--- where a caller at rest holds everything and knows all row words, they show the state
-pub rows_are : (grants : Grants) (start : List Area) (history : List Entry) (state : List Area) (words : List ℕ)
-    (passes : List Pass) (worker : ℕ) (p : Pass) (rows : List ℕ) → IsRunningSpace start history state words passes
-    → AreBacked grants words state passes → IsExclusive grants → get_elem? passes worker ≡ some p
-    → Holds grants worker everything → IsAtRest p → rows_in words ≡ rows → PlanShows rows (kind_at state) × (areas_from rows ≡ state)
-rows_are grants start history state words passes worker p rows r backed exclusive at held rest is =
-    let pages : HoldsPages grants worker = (everything, held, everything_pages) in
-    let s : RowsStandFor state passes words = r.rows (nobody_plans grants words state passes worker p exclusive backed at rest pages) in
-    let few = s.2.few in
-    let some_row = s.2.some in
-    let count : length rows ≡ slice_index words 2 = ap length (sym is) ∙ rows_many words s.0 s.2 in
-    let agree : (page : ℕ) → page < LIMIT → kind_at state page ≡ s.0 page =
-    λ page low. sym (shows_held grants words state passes worker p exclusive backed at rest (Some everything) held s.0 s.1
-    page (in_everything page low)) in
-    let show : ShowFrom 0 rows (kind_at state) = shows_agree 0 rows s.0 (kind_at state) agree (subst (λ (l : List ℕ). ShowFrom 0 l s.0) is s.2.show) in
-    let gaps : All IsBareGap rows = subst (All IsBareGap) is s.2.gaps in
-    (record { some = omega arith; few = omega arith; show = show; gaps = gaps }, areas_back rows state show r.in_order)
+-- a moment of a caller's seat is one of its worker
+abbrev pub here_of : {seat : SeatState Pass} {start : List Area} {history : List Entry} {state : List Area} {words : List ℕ}
+    (m : IsMoment seat start history state words) → Here m.grants words m.passes seat.number
+here_of {start = start} {history} {state} m =
+    record { start = start; history = history; state = state; pass = m.pass; running = m.running; backed = m.backed; exclusive = m.exclusive; own = m.own }
 
 -- the moment of a step
-abbrev pub here_at : (grants : Grants) (words : List ℕ) (passes : List Pass) (seat : ℕ) (held : Option Held) (pass : Pass)
+abbrev pub here_at : {grants : Grants} {words : List ℕ} {passes : List Pass} {seat : ℕ} {held : Option Held} {pass : Pass}
     → Moment HasHistory seat held pass grants words passes → Here grants words passes seat
-here_at grants words passes seat held pass m =
-    record {
-      start = m.met.0;
-      history = m.met.1;
-      state = m.met.2;
-      pass = pass;
-      running = m.met.3;
-      backed = m.met.4;
-      exclusive = m.exclusive;
-      own = m.own;
-    }
+here_at {pass} m =
+    record { start = m.met.0; history = m.met.1; state = m.met.2; pass = pass; running = m.met.3; backed = m.met.4; exclusive = m.exclusive; own = m.own }
 
 -- the moment of a step, as its caller's seat has it
-pub moment_of : (grants : Grants) (words : List ℕ) (passes : List Pass) (seat : ℕ) (here : Here grants words passes seat)
-    (s : SeatState Pass) → get_elem? grants seat ≡ some s.held → s.number ≡ seat → here.pass ≡ s.pass
-    → IsMoment s s.pass.start here.history here.state words
-moment_of grants words passes seat here s granted n same = record {
+pub moment_of : {grants : Grants} {words : List ℕ} {passes : List Pass} {seat : ℕ} (here : Here grants words passes seat) (s : SeatState Pass)
+    → get_elem? grants seat ≡ some s.held → s.number ≡ seat → here.pass ≡ s.pass → IsMoment s s.pass.start here.history here.state words
+moment_of {grants} {words} {passes} {seat} here s granted n same = record {
   grants = grants;
   passes = passes;
   pass = here.pass;

@@ -1,7 +1,6 @@
 -- Slots beside each other, and what the words of rows say by their slots: of words that show kinds each row tells the
 -- kind of its pages, up to the start of the row in the next slot.
-use Rattle.std.proofs.Common.{◌≡◌, ◌≢◌, ℕ, zero, suc, ◌+◌, ◌-◌, ◌<◌, ◌≤◌, List, drop, length, get_or, sym, refl}
-use Rattle.std.proofs.Common.{ap, ◌∙◌, subst, arith, ◌⊎◌, inl, inr, ⊎_elim}
+use Rattle.std.proofs.Common.{◌≡◌, ◌≢◌, ℕ, zero, suc, ◌+◌, ◌-◌, ◌<◌, ◌≤◌, List, drop, length, get_or, sym, refl, ap, ◌∙◌, subst, arith, ◌⊎◌, inl, inr, ⊎_elim}
 use Rattle.std.proofs.lemmas.List.{drop_all}
 use Rattle.std.specs.Prelude.{Option, Some, None, slice_index}
 use Rattle.page_types.specs.declared.TheConstants.{LIMIT}
@@ -10,15 +9,14 @@ use mathlib.Core.Option.{some, some-injective, some-ne-none}
 use lib.ListN.{get_elem?}
 use Rattle.lock_core.proofs.ByPlace.{below, there}
 use Rattle.area_guard.specs.declared.guard.ReadRow.{ReadRow}
-use Rattle.row_plans.specs.RowWords.{row_start, row_kind}
-use Rattle.row_plans.specs.RowLists.{rows_start}
-use Rattle.area_guard.specs.Rows.{slots_of, slots_in, rows_in, AreNeighbours, IsOneOf, IsFirstOf, IsLastOf, IsNextOf, IsPreviousOf}
-use Rattle.area_guard.specs.Rows.{IsSlot, IsNext, RowsShow}
 use Rattle.area_guard.specs.Reads.{slots_by, HasRead}
 use Rattle.area_guard.specs.History.{StillLaid}
 use Rattle.area_guard.specs.Slots.{slots_many, rows_are, slots_apart}
-use Rattle.area_rows.specs.Callers.{IsEndIn, IsReadBefore, IsReadBehind, IsKindIn}
+use Rattle.area_guard.specs.Rows.{slots_of, slots_in, rows_in, AreNeighbours, IsOneOf, IsFirstOf, IsLastOf, IsNextOf, IsPreviousOf, IsSlot, IsNext, RowsShow}
+use Rattle.row_plans.specs.RowWords.{row_start, row_kind}
+use Rattle.row_plans.specs.RowLists.{rows_start}
 use Rattle.row_plans.proofs.RowLists.{row_says}
+use Rattle.area_rows.specs.Callers.{IsEndIn, IsReadBefore, IsReadBehind, IsKindIn}
 use Rattle.area_rows.proofs.Moments.{first_start}
 use Rattle.area_rows.proofs.OneRow.{next_is}
 
@@ -34,12 +32,12 @@ pub first_or_behind : (slots : List ℕ) (slot : ℕ) → IsOneOf slots slot →
 first_or_behind slots slot is = first_by slots slot is.0 is.1
 
 -- the slot before one of them is one of them
-pub previous_in : (slots : List ℕ) (slot n : ℕ) (previous : Option ℕ) → previous ≡ Some n → IsPreviousOf slots slot previous → IsOneOf slots n
-previous_in slots slot n previous same are = let a = subst (IsPreviousOf slots slot) same are in (a.0, a.1)
+pub previous_in : (slots : List ℕ) (slot n : ℕ) {previous : Option ℕ} → previous ≡ Some n → IsPreviousOf slots slot previous → IsOneOf slots n
+previous_in slots slot n same are = let a = subst (IsPreviousOf slots slot) same are in (a.0, a.1)
 
 -- and so is the one behind it
-pub next_in : (slots : List ℕ) (slot n : ℕ) (next : Option ℕ) → next ≡ Some n → IsNextOf slots slot next → IsOneOf slots n
-next_in slots slot n next same are = let a = subst (IsNextOf slots slot) same are in (a.0 + 1, a.2)
+pub next_in : (slots : List ℕ) (slot n : ℕ) {next : Option ℕ} → next ≡ Some n → IsNextOf slots slot next → IsOneOf slots n
+next_in slots slot n same are = let a = subst (IsNextOf slots slot) same are in (a.0 + 1, a.2)
 
 -- the kind of the row before, from the slot before and the word that was read there
 pub before_of : (rows : List ReadRow) (slots : List ℕ) (slot : ℕ) (previous : Option ℕ) (kind : Option Kind)
@@ -66,14 +64,13 @@ pub record WordSays (words : List ℕ) (kinds : ℕ → Option Kind) (slot : ℕ
   pub below : row_start (slice_index words (3 + slot)) < LIMIT
   -- from its start up to that of the next row, or to the limit, all pages have its kind
   pub within : (p : ℕ) → row_start (slice_index words (3 + slot)) ≤ p → p < LIMIT
-      → ((next : ℕ) → IsNext words slot next → p < row_start (slice_index words (3 + next)))
-      → kinds p ≡ row_kind (slice_index words (3 + slot))
+      → ((next : ℕ) → IsNext words slot next → p < row_start (slice_index words (3 + next))) → kinds p ≡ row_kind (slice_index words (3 + slot))
   -- the next row starts behind it
   pub rises : (next : ℕ) → IsNext words slot next → row_start (slice_index words (3 + slot)) < row_start (slice_index words (3 + next))
   -- and has another kind
   pub differs : (next : ℕ) → IsNext words slot next → row_kind (slice_index words (3 + slot)) ≢ row_kind (slice_index words (3 + next))
 
-module _ (words : List ℕ) (kinds : ℕ → Option Kind) (s : RowsShow words kinds) where
+module _ {words : List ℕ} {kinds : ℕ → Option Kind} (s : RowsShow words kinds) where
   -- there is a row at the place of each slot
   pub row_there : (k slot : ℕ) → get_elem? (slots_in words) k ≡ some slot → k < length (rows_in words)
   row_there k slot at = let lt = below (slots_in words) k slot at in let many = slots_many words kinds s in omega arith
@@ -103,9 +100,7 @@ module _ (words : List ℕ) (kinds : ℕ → Option Kind) (s : RowsShow words ki
       let here : get_or rows is.0 0 ≡ slice_index words (3 + slot) = rows_are words kinds s is.0 slot is.1 in
       record {
         below = subst (λ (w : ℕ). row_start w < LIMIT) here r.below;
-        within = λ p from low next. subst (λ (w : ℕ). kinds p ≡ row_kind w) here
-            (r.within p (subst (λ (w : ℕ). row_start w ≤ p) (sym here) from) low
-            (λ more.
+        within = λ p from low next. subst (λ (w : ℕ). kinds p ≡ row_kind w) here (r.within p (subst (λ (w : ℕ). row_start w ≤ p) (sym here) from) low (λ more.
             let n = there (slots_in words) (is.0 + 1) (let many = slots_many words kinds s in omega arith) in
             subst (λ (w : ℕ). p < row_start w) (sym (rows_are words kinds s (is.0 + 1) n.0 n.1)) (next n.0 (is.0, is.1, n.1))));
         rises = λ next after. subst (λ (z : ℕ × ℕ). row_start z.0 < row_start z.1)
@@ -120,12 +115,8 @@ module _ (words : List ℕ) (kinds : ℕ → Option Kind) (s : RowsShow words ki
     -- the page before the row isn't of its kind
     pub before_row : 0 < row_start (slice_index words (3 + slot))
         → kinds (row_start (slice_index words (3 + slot)) - 1) ≢ row_kind (slice_index words (3 + slot))
-    before_row more e = ⊎_elim
-        (λ first. let z = first_row slot first in absurd (omega arith))
-        (λ t.
-        let v = word_says t.0 (t.1.0, t.1.1) in
-        let up = v.rises slot t.1 in
-        let last = row_start (slice_index words (3 + slot)) - 1 in
+    before_row more e = ⊎_elim (λ first. let z = first_row slot first in absurd (omega arith)) (λ t.
+        let v = word_says t.0 (t.1.0, t.1.1) in let up = v.rises slot t.1 in let last = row_start (slice_index words (3 + slot)) - 1 in
         v.differs slot t.1 (sym (v.within last (omega arith) (let b = (word_says slot used).below in omega arith)
         (λ next after. subst (λ (n : ℕ). last < row_start (slice_index words (3 + n))) (next_same t.0 slot next t.1 after) (omega arith))) ∙ e))
         (first_or_behind (slots_in words) slot used)
@@ -134,20 +125,14 @@ module _ (words : List ℕ) (kinds : ℕ → Option Kind) (s : RowsShow words ki
     pub behind_row : (next : ℕ) → IsNext words slot next → kinds (row_start (slice_index words (3 + next))) ≢ row_kind (slice_index words (3 + slot))
     behind_row next after same =
         let v = word_says next (after.0 + 1, after.2) in
-        (word_says slot used).differs next after
-        (sym same ∙ v.within (row_start (slice_index words (3 + next))) (omega arith) v.below (λ n on. v.rises n on))
+        (word_says slot used).differs next after (sym same ∙ v.within (row_start (slice_index words (3 + next))) (omega arith) v.below (λ n on. v.rises n on))
 
   -- in the list of all rows the one behind a row starts where this one ends
   pub end_is : (k slot hi : ℕ) → get_elem? (slots_in words) k ≡ some slot → IsEndIn words slot hi → rows_start (drop (suc k) (rows_in words)) ≡ hi
-  end_is k slot hi at ends = ⊎_elim
-      (λ t.
+  end_is k slot hi at ends = ⊎_elim (λ t.
       let same = slots_apart words kinds s t.1.0 k slot t.1.1 at in
       let e : suc k ≡ t.1.0 + 1 = omega arith in
       ap (λ (n : ℕ). rows_start (drop n (rows_in words))) e ∙ (next_is (rows_in words) (t.1.0 + 1) (row_there (t.1.0 + 1) t.0 t.1.2)
-      ∙ (ap row_start (rows_are words kinds s (t.1.0 + 1) t.0 t.1.2) ∙ t.2)))
-      (λ t.
-      let same = slots_apart words kinds s t.0.0 k slot t.0.1 at in
-      let many = slots_many words kinds s in
-      let end = t.0.2 in
-      ap rows_start (drop_all (suc k) (rows_in words) (omega arith)) ∙ sym t.1)
-      ends
+      ∙ (ap row_start (rows_are words kinds s (t.1.0 + 1) t.0 t.1.2) ∙ t.2))) (λ t.
+      let same = slots_apart words kinds s t.0.0 k slot t.0.1 at in let many = slots_many words kinds s in let end = t.0.2 in
+      ap rows_start (drop_all (suc k) (rows_in words) (omega arith)) ∙ sym t.1) ends

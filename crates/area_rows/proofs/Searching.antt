@@ -1,8 +1,8 @@
 -- What the two searches have found, over the heads and in a block, is a row and its end as they were read.
 use Rattle.std.proofs.Common.{◌≡◌, ℕ, ◌+◌, ◌-◌, ◌*◌, ◌/◌, ◌<◌, ◌≤◌, List, length, sym, ap, ◌∙◌, subst, arith, inl, inr, ⊎_elim}
+use Rattle.std.proofs.lemmas.Bool.{cases_lt}
 use Rattle.std.specs.Prelude.{slice_index}
 use Rattle.page_types.specs.declared.TheConstants.{LIMIT}
-use Rattle.std.proofs.lemmas.Bool.{cases_lt}
 use Rattle.row_plans.specs.RowWords.{row_start, row_kind}
 use Rattle.area_guard.specs.declared.guard.ReadRow.{ReadRow}
 use Rattle.area_guard.specs.Rows.{slots_of, slot_at}
@@ -24,17 +24,8 @@ module _ (heads body rows : List ReadRow) (layout : List ℕ) (page i j from hea
 
   -- behind the last place of a block comes the next head, as it was read, or none
   behind_block : end ≡ stop → IsRowEnd rows (slots_of layout) (slot_at layout (128 * i + rows_by layout i)) end
-  behind_block same =
-      ⊎_elim
-      (λ none. inr (last_place layout i none.0, same ∙ none.1))
-      (λ t. let at : 0 + (i + 1) ≡ i + 1 = omega arith in
-      inl (
-        i + 1,
-        next_head layout i t.3,
-        t.0,
-        keep_all (i + 1) t.0 (keep (i + 1) t.0 (subst (λ (n : ℕ). HasRead heads n t.0) at t.1)),
-        same ∙ t.2,
-      ))
+  behind_block same = ⊎_elim (λ none. inr (last_place layout i none.0, same ∙ none.1)) (λ t. let at : 0 + (i + 1) ≡ i + 1 = omega arith in
+      inl (i + 1, next_head layout i t.3, t.0, keep_all (i + 1) t.0 (keep (i + 1) t.0 (subst (λ (n : ℕ). HasRead heads n t.0) at t.1)), same ∙ t.2))
       (found_end heads page (slice_index layout 1) LIMIT (slots_on 0) i head stop first)
 
   -- behind another place comes the next place
@@ -53,17 +44,14 @@ module _ (heads body rows : List ReadRow) (layout : List ℕ) (page i j from hea
 
   -- the row ends where the next one starts, or at the limit
   pub end_read : IsRowEnd rows (slots_of layout) (slot_at layout (128 * i + j)) end
-  end_read = ⊎_elim
-      (λ out.
+  end_read = ⊎_elim (λ out.
       let last : rows_by layout i ≡ j = let e = out.0 in omega arith in
       subst (λ (n : ℕ). IsRowEnd rows (slots_of layout) (slot_at layout (128 * i + n)) end) last (behind_block out.1))
-      (λ t. let lt = t.3 in behind_place t.0 (omega arith) t.1 t.2)
-      (found_end body page (rows_by layout i + 1) stop (slots_on from) j word end second)
+      (λ t. let lt = t.3 in behind_place t.0 (omega arith) t.1 t.2) (found_end body page (rows_by layout i + 1) stop (slots_on from) j word end second)
 
   -- the row at the place where both searches ended is in a slot of the layout, as it was read
-  pub row_read : (row : Row) (own : ℕ) → row.index ≡ 128 * i + j → row.hi ≡ end → row.lo ≡ row_start own → row.kind ≡ row_kind own
-      → (0 < j → own ≡ word) → (j ≡ 0 → 0 < i → own ≡ head) → (j ≡ 0 → i ≡ 0 → HasRead rows 0 own)
-      → IsReadIn rows (slots_of layout) (slot_at layout row.index) row
+  pub row_read : (row : Row) (own : ℕ) → row.index ≡ 128 * i + j → row.hi ≡ end → row.lo ≡ row_start own → row.kind ≡ row_kind own → (0 < j → own ≡ word)
+      → (j ≡ 0 → 0 < i → own ≡ head) → (j ≡ 0 → i ≡ 0 → HasRead rows 0 own) → IsReadIn rows (slots_of layout) (slot_at layout row.index) row
   row_read row own at ends lo kind in_body at_head at_first =
       let in_use : i < slice_index layout 1 = let t = first.there in omega arith in
       let le : j ≤ rows_by layout i = let t = second.there in omega arith in

@@ -4,8 +4,8 @@ use Rattle.std.specs.Prelude.{◌↔◌, All, Option, Some, None, IsSome, slice_
 use mathlib.Core.Option.{some, some-injective}
 use lib.ListN.{get_elem?}
 use Rattle.page_types.specs.declared.TheConstants.{LIMIT}
+use Rattle.page_types.specs.declared.pages.Span.{Span}
 use Rattle.page_types.specs.Named.{IsNamedCall}
-use Rattle.atomic_table.specs.Seated.{TableId}
 use Rattle.lock_core.specs.declared.range.Held.{Held}
 use Rattle.lock_core.specs.Grants.{Grants, Holds}
 use Rattle.lock_core.specs.Client.{loads, adds, IsAllowed, IsMade}
@@ -14,40 +14,36 @@ use Rattle.space_model.specs.declared.areas.Area.{Area}
 use Rattle.space_model.specs.declared.entries.Entry.{Entry}
 use Rattle.space_model.specs.declared.entries.Under.{Under}
 use Rattle.space_model.specs.declared.entries.Under.TheVariants.{Area as OverArea, Whole}
-use Rattle.page_types.specs.declared.pages.Span.{Span}
 use Rattle.area_guard.specs.declared.guard.Change.{Change}
 use Rattle.area_guard.specs.declared.guard.Note.{Note}
-use Rattle.area_guard.specs.declared.guard.ReadRow.{ReadRow}
 use Rattle.area_guard.specs.declared.guard.Pass.{Pass}
 use Rattle.area_guard.specs.declared.guard.Pending.{Pending}
 use Rattle.area_guard.specs.declared.guard.Splice.{Splice}
-use Rattle.row_plans.specs.declared.planning.Cut.{Cut}
-use Rattle.area_guard.specs.Rows.{blocks_by, number_place, slots_of, slot_at, slots_to, IsOneOf, room_of, rows_in}
 use Rattle.area_guard.specs.Slots.{first_slot}
+use Rattle.area_guard.specs.Keeping.{no_note}
+use Rattle.area_guard.specs.Rows.{blocks_by, number_place, slots_to, IsOneOf, room_of, rows_in}
+use Rattle.area_guard.specs.History.MayAdd.{draw, raise}
+use Rattle.area_guard.specs.Parts.{none_is}
+use Rattle.area_guard.specs.History.{rows_after, Runs, StartsWith, planned_calls, RowsStandFor, HasHistory, Allowed, Here, MayLoad, MayAdd, IsAtRest, IsRight}
+use Rattle.area_guard.specs.History.{Leaves, FitsIn, HoldsFor, pending_of, entry_of, after_look, after_step, after_sequence, after_row, after_draw}
 use Rattle.area_guard.specs.declared.guard.Pending.TheVariants.{AtRest, Planned, OneRow}
+use Rattle.area_guard.specs.History.MayLoad.{number, glance, sequence, layout, row}
+use Rattle.area_guard.specs.Reads.{everything, slots_by, layout_by, IsHeldPage, HasRead, words_of, known_rows, known_words, KnowsRows, StillStands}
+use Rattle.area_guard.specs.Draws.{draw_pending, draw_mine, draw_seen, draw_start, draw_drew, draw_looks, draw_since, draw_blocks, draw_most, plan_fits}
+use Rattle.row_plans.specs.declared.planning.Cut.{Cut}
 use Rattle.row_plans.specs.RowWords.{row_start}
 use Rattle.row_plans.specs.Plans.{IsRowList}
 use Rattle.area_rows.specs.Halving.{IsOnSameSide}
-use Rattle.area_guard.specs.Reads.{everything, slots_by, layout_by, IsHeldPage, HasRead, words_of, known_rows, known_words, KnowsRows, StillStands}
-use Rattle.row_blocks.specs.declared.positions.Position.{Position}
-use Rattle.row_blocks.specs.Blocks.{IsLaidOut, blocks_of, rows_of, rows_in as rows_by}
-use Rattle.plan_words.specs.Places.{number_in, number_at}
-use Rattle.area_guard.specs.History.{Runs, StartsWith, planned_calls, RowsStandFor, HasHistory, Allowed, Here, MayLoad}
-use Rattle.area_guard.specs.History.{MayAdd, IsAtRest, IsRight, Leaves, FitsIn, HoldsFor, HoldsJust, pending_of, entry_of}
-use Rattle.area_guard.specs.History.{after_look, after_step, after_sequence, after_row, after_draw, rows_after}
-use Rattle.area_guard.specs.History.MayLoad.{number, glance, sequence, layout, row}
-use Rattle.area_guard.specs.History.MayAdd.{draw, raise}
-use Rattle.area_rows.specs.Callers.{CallerView, HasSameRows, plan_of, IsKnown, HasToWrite, HasToStore, IsReadIn, IsReadRound, IsReadBefore, IsReadBehind}
-use Rattle.area_rows.specs.Callers.{AreInReach, IsHeldPages, IsMoment, Shows, KeepsRead, KeepsRows, CountsWhole}
-use Rattle.area_rows.specs.Callers.{IsReading, IsLook, IsNumbered, IsDrawn, IsClientStep}
-use Rattle.area_guard.specs.Draws.{draw_pending, draw_mine, draw_seen, draw_start, draw_drew, draw_looks, draw_since, draw_blocks, draw_most, plan_fits}
-use Rattle.area_guard.specs.Keeping.{no_note}
-use Rattle.area_guard.specs.Parts.{none_is}
+use Rattle.area_rows.specs.Callers.{IsMoment, Shows, KeepsRead, KeepsRows, CountsWhole, IsReading, IsLook, IsNumbered, IsDrawn, IsClientStep, CallerView}
+use Rattle.area_rows.specs.Callers.{HasSameRows, plan_of, IsKnown, HasToWrite, HasToStore, IsReadRound, IsHeldPages}
 use Rattle.area_rows.proofs.Reading.{step_reads}
 use Rattle.area_rows.proofs.Neighbours.{slot_now, first_row, word_says}
-use Rattle.area_rows.proofs.Moments.{held_some, held_pages, row_list, stands, only_own_plan, nobody_plans, rows_are, here_at, moment_of}
+use Rattle.area_rows.proofs.Moments.{held_some, held_pages, row_list, stands, only_own_plan, nobody_plans, rows_are, here_of, here_at, moment_of}
+use Rattle.row_blocks.specs.declared.positions.Position.{Position}
+use Rattle.row_blocks.specs.Blocks.{rows_in as rows_by}
+use Rattle.plan_words.specs.Places.{number_in, number_at}
 
-module _ (own : Option Held → Type 0) (free held : Type 0) (words : List ℕ) (history : List Entry) (p after : Pass) where
+module _ {own : Option Held → Type 0} {free held : Type 0} {words : List ℕ} {history : List Entry} {p after : Pass} where
   -- what a load tells of the pass
   look_tells : (place : ℕ) → place ≡ number_place p.blocks → MayLoad own free held words history place p after
       → (h : Option Held) × own h × (after ≡ after_look history h p)
@@ -70,8 +66,7 @@ module _ (own : Option Held → Type 0) (free held : Type 0) (words : List ℕ) 
   row_tells index slot (glance f e is) = absurd (omega arith)
   row_tells index slot (sequence h e is) = absurd (omega arith)
   row_tells index slot (layout h at is) = absurd (⊎_elim (λ two. omega arith) (λ t. let a = t.0 in omega arith) at)
-  row_tells index slot (row i h few e is) =
-      let same : i ≡ index = omega arith in is ∙ (λ k. after_row (same k) (slice_index words (3 + same k)) p)
+  row_tells index slot (row i h few e is) = let same : i ≡ index = omega arith in is ∙ (λ k. after_row (same k) (slice_index words (3 + same k)) p)
 
 draw_keeps : (history : List Entry) (e : Entry) (pending : Pending) (held : Option Held) (p : Pass) → KeepsRows pending p (after_draw history e pending held p)
 draw_keeps history e AtRest held p = tt
@@ -80,30 +75,22 @@ draw_keeps history e (OneRow c) held p = (refl, refl)
 
 -- a caller that holds a range remembers the sequence word
 pub may_sequence : (note : Note) (seat : ℕ) (held : Option Held) (pass : Pass) → IsHeldPages held → IsAllowed HasHistory Allowed note seat held pass (loads 1)
-may_sequence note seat None pass pages grants words passes m lt small =
-    (after_step pass, (here_at grants words passes seat None pass m, glance m.grant refl refl))
+may_sequence note seat None pass pages grants words passes m lt small = (after_step pass, (here_at m, glance m.grant refl refl))
 may_sequence note seat (Some h) pass pages grants words passes m lt small = (
   after_sequence (slice_index words 1) pass,
-  (
-    here_at grants words passes seat (Some h) pass m,
-    sequence (h, m.grant, pages h refl) refl refl,
-  ),
+  (here_at m, sequence (h, m.grant, pages h refl) refl refl),
 )
 
 module _ (note : Note) (seat : ℕ) (held : Option Held) (pass : Pass) where
   -- the guard allows a load of the number word at any time
   pub may_look : (place : ℕ) → place ≡ number_place pass.blocks → IsAllowed HasHistory Allowed note seat held pass (loads place)
-  may_look place at grants words passes m lt small =
-      (after_look m.met.1 held pass, (here_at grants words passes seat held pass m, number held m.grant at refl))
+  may_look place at grants words passes m lt small = (after_look m.met.1 held pass, (here_at m, number held m.grant at refl))
 
   -- a load of a row, while pages are held
   pub may_row : (index : ℕ) → index < 128 * pass.blocks → IsSome held → IsHeldPages held → IsAllowed HasHistory Allowed note seat held pass (loads (3 + index))
   may_row index few some_held pages grants words passes m lt small = (
     after_row index (slice_index words (3 + index)) pass,
-    (
-      here_at grants words passes seat held pass m,
-      row index (held_pages grants seat held m.grant some_held pages) few refl refl,
-    ),
+    (here_at m, row index (held_pages grants seat held m.grant some_held pages) few refl refl),
   )
 
   -- a draw of a number, by a caller at rest that holds what the entry names and whose reply is right
@@ -113,8 +100,8 @@ module _ (note : Note) (seat : ℕ) (held : Option Held) (pass : Pass) where
       → Shows s (λ (words : List ℕ) (state : List Area). (left : List Area) × IsRight state note.call note.reply note.under left
       × Leaves state note.under note.pending left) → IsAllowed HasHistory Allowed note seat held pass (adds place 1)
   may_draw place at s n h p few named rest holds shows grants words passes m lt small =
-      let here = here_at grants words passes seat held pass m in
-      let right = shows _ here.history here.state words (moment_of grants words passes seat here s (m.grant ∙ ap some (sym h)) n (sym p)) in (
+      let here = here_at m in
+      let right = shows _ here.history here.state words (moment_of here s (m.grant ∙ ap some (sym h)) n (sym p)) in (
         after_draw here.history (entry_of (length here.history) seat note) note.pending held pass,
         (
           refl,
@@ -124,38 +111,28 @@ module _ (note : Note) (seat : ℕ) (held : Option Held) (pass : Pass) where
       )
 
   -- at a moment at which a caller at rest holds pages the rows show kinds
-  pub rows_here : (grants : Grants) (words : List ℕ) (passes : List Pass) (here : Here grants words passes seat) → IsSome held
-      → IsHeldPages held → get_elem? grants seat ≡ some held → IsAtRest here.pass → RowsStandFor here.state passes words
-  rows_here grants words passes here some_held pages at rest =
-      here.running.rows (nobody_plans grants words here.state passes seat here.pass here.exclusive here.backed here.own rest
-      (held_pages grants seat held at some_held pages))
+  pub rows_here : {grants : Grants} {words : List ℕ} {passes : List Pass} (here : Here grants words passes seat) → IsSome held → IsHeldPages held
+      → get_elem? grants seat ≡ some held → IsAtRest here.pass → RowsStandFor here.state passes words
+  rows_here {grants} {words} {passes} here some_held pages at rest = here.running.rows (nobody_plans here rest (held_pages grants seat held at some_held pages))
 
   -- and where it holds everything all rows of the moment are a list of rows
-  pub whole_list : (grants : Grants) (words : List ℕ) (passes : List Pass) (here : Here grants words passes seat) → IsAtRest here.pass
+  pub whole_list : {grants : Grants} {words : List ℕ} {passes : List Pass} (here : Here grants words passes seat) → IsAtRest here.pass
       → Holds grants seat everything → IsRowList (rows_in words)
-  whole_list grants words passes here rest holds =
-      let are = rows_are grants here.start here.history here.state words passes seat here.pass (rows_in words) here.running here.backed
-      here.exclusive here.own holds rest refl in
-      row_list (rows_in words) here.state are.0 are.1
+  whole_list {grants} here rest holds = let are = rows_are here holds rest refl in row_list are.0 are.1
 
   module _ (found : ℕ) (after : Pass) where
-    -- a load of a row is kept in the pass: the first one starts at page 0, and each that is counted below the limit
+    -- of the rows that are loaded the first one starts at page 0, and each that is counted below the limit
     pub reads : (index : ℕ) → index < 128 * pass.blocks → IsSome held → IsHeldPages held → IsAtRest pass
         → IsMade HasHistory Allowed note seat held pass (loads (3 + index)) found after
-        → (after ≡ after_row index found pass) × (index ≡ 0 → row_start found ≡ 0)
-        × (IsOneOf (slots_by pass.laid) index → row_start found < LIMIT)
+        → (index ≡ 0 → row_start found ≡ 0) × (IsOneOf (slots_by pass.laid) index → row_start found < LIMIT)
     reads index slot some_held pages rest s =
         let m = s.3 in let here = s.5.0 in
         let same : here.pass ≡ pass = some-injective here.pass pass (sym here.own ∙ m.own) in
-        let rows : RowsStandFor here.state s.2 s.1 = rows_here s.0 s.1 s.2 here some_held pages m.grant (ap (λ (x : Pass). x.pending) same ∙ rest) in
+        let rows : RowsStandFor here.state s.2 s.1 = rows_here here some_held pages m.grant (ap (λ (x : Pass). x.pending) same ∙ rest) in
         let e = s.4 in (
-          row_tells _ _ _ s.1 here.history here.pass after index (subst (λ (x : Pass). index < 128 * x.blocks) (sym same) slot) s.5.1
-              ∙ (λ i. after_row index (e i) (same i)),
-          λ none. ap row_start (sym e ∙ ap (λ n. slice_index s.1 (3 + n)) none)
-              ∙ first_row s.1 rows.0 rows.2 0 (first_slot s.1 rows.0 rows.2),
-          λ there. subst (λ w. row_start w < LIMIT) e (word_says s.1 rows.0 rows.2 index
-              (slot_now s.1 here.pass.laid index (here.running.parts seat here.pass here.own).laid
-              (subst (λ (x : Pass). IsOneOf (slots_by x.laid) index) (sym same) there))).below,
+          λ none. ap row_start (sym e ∙ ap (λ n. slice_index s.1 (3 + n)) none) ∙ first_row rows.2 0 (first_slot s.1 rows.0 rows.2),
+          λ there. subst (λ w. row_start w < LIMIT) e (word_says rows.2 index (slot_now s.1 here.pass.laid index
+              (here.running.parts seat here.pass here.own).laid (subst (λ (x : Pass). IsOneOf (slots_by x.laid) index) (sym same) there))).below,
         )
 
     -- a row that was read before starts on the same side of each held page
@@ -168,17 +145,15 @@ module _ (note : Note) (seat : ℕ) (held : Option Held) (pass : Pass) where
         let still = stands held s.1 here.pass.rows index old stood (subst (λ (x : Pass). HasRead x.rows index old) (sym same) has) in
         subst (λ w. (row_start old ≤ page) ↔ (row_start w ≤ page)) s.4 (still.side page h)
 
-    drawn_as : (place : ℕ) (t u : SeatState Pass) → place ≡ number_place (blocks_by t.table) → t.number ≡ seat → t.held ≡ held → t.pass ≡ pass
-        → u.pass ≡ after → IsClientCall t place u
-        → (s : IsMade HasHistory Allowed note seat held pass (adds place 1) found after) → MayAdd s.0 s.1 s.2 seat note s.5.1 place after
-        → IsDrawn t (entry_of found seat note) note.pending u
+    drawn_as : (place : ℕ) (t u : SeatState Pass) → place ≡ number_place (blocks_by t.table) → t.number ≡ seat → t.held ≡ held → t.pass ≡ pass → u.pass ≡ after
+        → IsClientCall t place u → (s : IsMade HasHistory Allowed note seat held pass (adds place 1) found after)
+        → MayAdd s.0 s.1 s.2 seat note s.5.1 place after → IsDrawn t (entry_of found seat note) note.pending u
     drawn_as place t u at n h p q call s (raise rows e pends written is) = absurd (omega arith)
     drawn_as place t u at n h p q call s (draw e d is) =
         let m = s.3 in let here = s.5.1 in
         let same : here.pass ≡ pass = some-injective here.pass pass (sym here.own ∙ m.own) in
         let part = here.running.parts seat here.pass here.own in
-        let num : length here.history ≡ found =
-        sym here.running.number ∙ (ap (slice_index s.1) (sym (e ∙ ap number_place part.room.0)) ∙ s.4) in
+        let num : length here.history ≡ found = sym here.running.number ∙ (ap (slice_index s.1) (sym (e ∙ ap number_place part.room.0)) ∙ s.4) in
         let old : here.pass ≡ t.pass = same ∙ sym p in
         let f : Entry = entry_of found seat note in
         let new : u.pass ≡ after_draw here.history f note.pending d.held.0 t.pass = q
@@ -208,7 +183,7 @@ module _ (note : Note) (seat : ℕ) (held : Option Held) (pass : Pass) where
         record {
           numbered = num_is;
           words = s.1;
-          moment = moment_of s.0 s.1 s.2 seat here t granted n old;
+          moment = moment_of here t granted n old;
           drew = drew ∙ held_then;
           looks = ap (λ (x : Pass). x.looks) new ∙ draw_looks here.history f d.held.0 t.pass note.pending;
           since = ap (λ (x : Pass). x.since) new ∙ draw_since here.history f d.held.0 t.pass note.pending;
@@ -230,35 +205,37 @@ module _ (note : Note) (seat : ℕ) (held : Option Held) (pass : Pass) where
         → IsDrawn t (entry_of found seat note) note.pending u
     draws place t u at n h p q call s = drawn_as place t u at n h p q call s s.5.2
 
+-- a call of the lock's client word is one step, which leaves the pass that is told
+pub step_of : {s u : SeatState Pass} {place : ℕ} {left_pass : Pass} → IsClientCall s place u → u.pass ≡ left_pass → IsClientStep s place left_pass u
+step_of call is = record {
+  table = call.table;
+  number = call.number;
+  held = call.held;
+  pools = call.pools;
+  further = call.further;
+  pass = is;
+  trace = call.trace;
+}
+
 -- a load of the number word is a look
-pub look_is : (place : ℕ) (s u : SeatState Pass) (found : ℕ) → s.pass.blocks ≡ blocks_by s.table → place ≡ number_place (blocks_by s.table)
+pub look_is : (place : ℕ) {s u : SeatState Pass} (found : ℕ) → s.pass.blocks ≡ blocks_by s.table → place ≡ number_place (blocks_by s.table)
     → IsClientCall s place u → IsMade HasHistory Allowed no_note s.number s.held s.pass (loads place) found u.pass → IsLook s found u
-look_is place s u found blocks at call made =
+look_is place {s} {u} found blocks at call made =
     let m = made.3 in let here = made.5.0 in
     let same : here.pass ≡ s.pass = some-injective here.pass s.pass (sym here.own ∙ m.own) in
     let part = here.running.parts s.number here.pass here.own in
     let there : place ≡ number_place here.pass.blocks = at ∙ ap number_place (sym (ap (λ (x : Pass). x.blocks) same ∙ blocks)) in
-    let told = look_tells (HoldsJust made.0 s.number) _ _ made.1 here.history here.pass u.pass place there made.5.1 in
+    let told = look_tells place there made.5.1 in
     let held : told.0 ≡ s.held = some-injective told.0 s.held (sym told.1 ∙ m.grant) in
     let is : u.pass ≡ after_look here.history s.held s.pass = told.2 ∙ (λ i. after_look here.history (held i) (same i)) in
     let seen : u.pass.seen ≡ here.history = ap (λ (x : Pass). x.seen) is in
     record {
       state = here.state;
       words = made.1;
-      moment = subst (λ h. IsMoment s s.pass.start h here.state made.1) (sym seen) (moment_of made.0 made.1 made.2 s.number here s m.grant refl same);
-      step = record {
-        table = call.table;
-        number = call.number;
-        held = call.held;
-        pools = call.pools;
-        further = call.further;
-        pass = is ∙ ap (λ h. after_look h s.held s.pass) (sym seen);
-        trace = call.trace ∙ ap (client_trace s.trace) at;
-      };
-      more = subst (λ h. StartsWith h s.pass.seen) (sym seen)
-          (subst (λ (x : Pass). StartsWith here.history x.seen) same part.seen);
-      count = ap length seen ∙ (sym here.running.number
-          ∙ (ap (slice_index made.1) (sym (there ∙ ap number_place part.room.0)) ∙ made.4));
+      moment = subst (λ h. IsMoment s s.pass.start h here.state made.1) (sym seen) (moment_of here s m.grant refl same);
+      step = step_of (subst (λ (n : ℕ). IsClientCall s n u) at call) (is ∙ ap (λ h. after_look h s.held s.pass) (sym seen));
+      more = subst (λ h. StartsWith h s.pass.seen) (sym seen) (subst (λ (x : Pass). StartsWith here.history x.seen) same part.seen);
+      count = ap length seen ∙ (sym here.running.number ∙ (ap (slice_index made.1) (sym (there ∙ ap number_place part.room.0)) ∙ made.4));
     }
 
 -- a pass that remembers the sequence word still has what it had read
@@ -273,102 +250,62 @@ counts_whole : (u : SeatState Pass) (found : ℕ) → u.pass.sequence ≡ Some f
 counts_whole u found known some_held pages start history state words m =
     let part = m.running.parts u.number m.pass m.own in
     let word : slice_index words 1 ≡ found = part.sequence found (m.read.sequence found known) in
-    let only = only_own_plan m.grants words state m.passes u.number m.pass m.exclusive m.backed m.own
-    (held_pages m.grants u.number u.held m.granted some_held pages) in
+    let only = only_own_plan (here_of m) (held_pages m.grants u.number u.held m.granted some_held pages) in
     let mine : planned_calls m.pass.pending ≡ planned_calls u.pass.pending = ap planned_calls m.read.pending in
-    let s = m.running.sequence in
-    omega arith
+    let s = m.running.sequence in omega arith
 
 -- a load of the sequence word is a reading, and while a range is held it counts the entries under everything
-pub sequence_is : (s u : SeatState Pass) (found : ℕ) → IsHeldPages s.held → IsClientCall s 1 u
-    → IsMade HasHistory Allowed no_note s.number s.held s.pass (loads 1) found u.pass
-    → IsReading s u × (IsSome s.held → CountsWhole u found)
-sequence_is s u found pages call made =
+pub sequence_is : {s u : SeatState Pass} (found : ℕ) → IsHeldPages s.held → IsClientCall s 1 u
+    → IsMade HasHistory Allowed no_note s.number s.held s.pass (loads 1) found u.pass → IsReading s u × (IsSome s.held → CountsWhole u found)
+sequence_is {s} {u} found pages call made =
     let m = made.3 in let here = made.5.0 in
     let same : here.pass ≡ s.pass = some-injective here.pass s.pass (sym here.own ∙ m.own) in
     let part = here.running.parts s.number here.pass here.own in
     let again : (k : ℕ) → s.pass.sequence ≡ Some k → found ≡ k = λ k e. sym made.4 ∙ part.sequence k (ap (λ (x : Pass). x.sequence) same ∙ e) in
-    ⊎_elim
-    (λ t.
+    ⊎_elim (λ t.
     let is : u.pass ≡ after_step s.pass = t.1 ∙ ap after_step same in
     let free : s.held ≡ None = some-injective s.held None (sym m.grant ∙ t.0) in (
-      step_reads s u 1 (after_step s.pass) (record {
-        table = call.table;
-        number = call.number;
-        held = call.held;
-        pools = call.pools;
-        further = call.further;
-        pass = is;
-        trace = call.trace;
-      }) refl refl refl refl (keeps_all s.pass),
+      step_reads (step_of call is) refl refl refl refl (keeps_all s.pass),
       λ some_held. let h = held_some s.held some_held in absurd (none_is h.0 (sym free ∙ h.1)),
-    ))
-    (λ is_then.
+    )) (λ is_then.
     let is : u.pass ≡ after_sequence found s.pass = is_then ∙ (λ i. after_sequence (made.4 i) (same i)) in (
-      step_reads s u 1 (after_sequence found s.pass)
-          (record {
-            table = call.table;
-            number = call.number;
-            held = call.held;
-            pools = call.pools;
-            further = call.further;
-            pass = is;
-            trace = call.trace;
-          }) refl refl refl refl (remembers s.pass found again),
+      step_reads (step_of call is) refl refl refl refl (remembers s.pass found again),
       λ some_held. counts_whole u found (ap (λ (x : Pass). x.sequence) is) (subst IsSome (sym call.held) some_held) (subst IsHeldPages (sym call.held) pages),
-    ))
-    (sequence_tells _ _ _ made.1 here.history here.pass u.pass made.5.1)
+    )) (sequence_tells made.5.1)
 
 -- a pass that has read the same over as many blocks knows the same
-pub knows_on : (p q : Pass) → q.laid ≡ p.laid → q.rows ≡ p.rows → q.blocks ≡ p.blocks → KnowsRows p → KnowsRows q
-knows_on p q same_laid same_rows same_blocks knows =
-    let words : known_words q ≡ known_words p = λ i. words_of (same_rows i) (slots_to (same_blocks i)) ++ drop 1 (layout_by (same_laid i)) in
-    let rows : known_rows q ≡ known_rows p = λ i. rows_by (same_blocks i) (words i) in
-    let both : ◌≡◌ {A = ℕ × List ℕ} (p.blocks, known_words p) (q.blocks, known_words q) = λ i. (sym same_blocks i, sym words i) in
-    let k = knows.words in
+pub knows_on : {p : Pass} (q : Pass) → q.laid ≡ p.laid → q.rows ≡ p.rows → q.blocks ≡ p.blocks → KnowsRows p → KnowsRows q
+knows_on {p} q same_laid same_rows same_blocks knows =
+    let k : KnowsRows (record p { laid = q.laid; rows = q.rows; blocks = q.blocks }) =
+    coe 1 0 (i. KnowsRows (record p { laid = same_laid i; rows = same_rows i; blocks = same_blocks i })) knows in
     record {
-      words = record {
-        layout = k.layout;
-        laid = same_laid ∙ k.laid;
-        long = subst (λ (n : ℕ). length k.layout ≡ n + 2) (sym same_blocks) k.long;
-        slots = subst (λ (z : ℕ × List ReadRow). (slot : ℕ) → slot < 128 * z.0 → (word : ℕ) × HasRead z.1 slot word)
-            (λ i. (sym same_blocks i, sym same_rows i)) k.slots;
-      };
-      blocks = record {
-        laid = subst (λ (z : ℕ × List ℕ). IsLaidOut z.0 z.1) both knows.blocks.laid;
-        free = subst (λ (z : ℕ × List ℕ). blocks_of z.0 z.1 < z.0) both knows.blocks.free;
-        short = subst (λ (z : ℕ × List ℕ). rows_of z.0 z.1 0 < 64) both knows.blocks.short;
-      };
-      counted = ap (λ (l : Option (List ℕ)). slice_index (layout_by l) 0) same_laid ∙ (knows.counted ∙ ap length (sym rows));
+      words = record { layout = k.words.layout; laid = k.words.laid; long = k.words.long; slots = k.words.slots };
+      blocks = record { laid = k.blocks.laid; free = k.blocks.free; short = k.blocks.short };
+      counted = k.counted;
     }
 
 -- a caller that has drawn a number under everything has its plan to write
-pub writes_plan : (before after : CallerView) (e : Entry) (under : Under) → HasSameRows before after → before.seat.held ≡ Some everything
-    → IsDrawn before.seat e (pending_of under (plan_of before) before.change) after.seat → under ≡ Whole
-    → IsKnown before → 0 < length (rows_after (plan_of before)) → HasToWrite after
-writes_plan before after e under same held d whole known some_row =
+pub writes_plan : {before after : CallerView} {e : Entry} {under : Under} → HasSameRows before after → before.seat.held ≡ Some everything
+    → IsDrawn before.seat e (pending_of under (plan_of before) before.change) after.seat → under ≡ Whole → IsKnown before
+    → 0 < length (rows_after (plan_of before)) → HasToWrite after
+writes_plan {before} {after} {under} same held d whole known some_row =
     let is : pending_of under (plan_of before) before.change ≡ Planned (plan_of before) =
     ap (λ (w : Under). pending_of w (plan_of before) before.change) whole in
     let k : KeepsRows (Planned (plan_of before)) before.seat.pass after.seat.pass =
     subst (λ (q : Pending). KeepsRows q before.seat.pass after.seat.pass) is d.keeps in
-    let fits : length (rows_after (plan_of before)) ≤ room_of after.seat.pass.blocks =
-    subst (λ (q : Pending). FitsIn q after.seat.pass.blocks) is d.fits in
-    let words : known_words after.seat.pass ≡ known_words before.seat.pass =
-    λ i. words_of (k.1 i) (slots_to (d.blocks i)) ++ drop 1 (layout_by (k.0 i)) in
+    let fits : length (rows_after (plan_of before)) ≤ room_of after.seat.pass.blocks = subst (λ (q : Pending). FitsIn q after.seat.pass.blocks) is d.fits in
+    let words : known_words after.seat.pass ≡ known_words before.seat.pass = λ i. words_of (k.1 i) (slots_to (d.blocks i)) ++ drop 1 (layout_by (k.0 i)) in
     let rows : known_rows after.seat.pass ≡ known_rows before.seat.pass = λ i. rows_by (d.blocks i) (words i) in
-    let from : number_at after.seat.pass after.cut.at ≡ number_at before.seat.pass before.cut.at =
-    λ i. number_in (d.blocks i) (words i) (same.cut i).at in
+    let from : number_at after.seat.pass after.cut.at ≡ number_at before.seat.pass before.cut.at = λ i. number_in (d.blocks i) (words i) (same.cut i).at in
     let gone : after.cut.gone ≡ before.cut.gone = ap (λ (x : Cut Position). x.gone) same.cut in
     let more : length after.more ≡ length before.more = ap length same.more in
-    let plan : plan_of after ≡ plan_of before =
-    λ i. record { old = rows i; first = from i; end = from i + (same.cut i).gone; more = same.more i } in
-    let long = ap length rows in
-    let at = known.at in let there = known.there in let grows = known.grows in
+    let plan : plan_of after ≡ plan_of before = λ i. record { old = rows i; first = from i; end = from i + (same.cut i).gone; more = same.more i } in
+    let long = ap length rows in let at = known.at in let there = known.there in let grows = known.grows in
     record {
       held = d.numbered.held ∙ held;
       pending = d.writes ∙ (is ∙ ap Planned (sym plan));
       known = record {
-        rows = knows_on before.seat.pass after.seat.pass k.0 k.1 d.blocks known.rows;
+        rows = knows_on after.seat.pass k.0 k.1 d.blocks known.rows;
         list = subst IsRowList (sym rows) known.list;
         counted = same.count ∙ (known.counted ∙ ap length (sym rows));
         at = omega arith;
@@ -381,63 +318,47 @@ writes_plan before after e under same held d whole known some_row =
     }
 
 -- what was read round a change is read still where the range and the rows are the same
-pub round_on : (a b : SeatState Pass) (change : Change) → b.table ≡ a.table → b.held ≡ a.held → b.pass.laid ≡ a.pass.laid
+pub round_on : {a : SeatState Pass} (b : SeatState Pass) {change : Change} → b.table ≡ a.table → b.held ≡ a.held → b.pass.laid ≡ a.pass.laid
     → b.pass.rows ≡ a.pass.rows → b.pass.blocks ≡ a.pass.blocks → IsReadRound a change → IsReadRound b change
-round_on a b change same_table same_held same_laid same_rows same_blocks r =
+round_on {a} b {change} same_table same_held same_laid same_rows same_blocks was =
+    let pass : Pass = record a.pass { laid = b.pass.laid; rows = b.pass.rows; blocks = b.pass.blocks } in
+    let r : IsReadRound (record a { table = b.table; held = b.held; pass = pass }) change = coe 1 0 (i. IsReadRound (record a {
+      table = same_table i;
+      held = same_held i;
+      pass = record a.pass { laid = same_laid i; rows = same_rows i; blocks = same_blocks i };
+    }) change) was in
     let read = r.read in
     record {
       row = r.row;
       next = r.next;
       before = r.before;
       behind = r.behind;
-      held = same_held ∙ r.held;
+      held = r.held;
       round = r.round;
       pages = r.pages;
       limit = r.limit;
-      read = record {
-        layout = read.layout;
-        laid = same_laid ∙ read.laid;
-        block = let lt = read.block in let kept = same_blocks in omega arith;
-        place = read.place;
-        in_slot = subst (λ (l : List ReadRow). IsReadIn l (slots_of read.layout) (slot_at read.layout r.row.index) r.row) (sym same_rows) read.in_slot;
-      };
-      reach = subst (λ (t : TableId). AreInReach t (slots_of read.layout)) (sym same_table) r.reach;
+      read = record { layout = read.layout; laid = read.laid; block = read.block; place = read.place; in_slot = read.in_slot };
+      reach = r.reach;
       kind = r.kind;
       named = r.named;
-      read_before = subst (λ (l : List ReadRow). IsReadBefore l (slots_of read.layout) (slot_at read.layout r.row.index) r.before)
-          (sym same_rows) r.read_before;
-      read_behind = subst (λ (l : List ReadRow). IsReadBehind l (slots_of read.layout) (slot_at read.layout r.row.index) r.next r.behind)
-          (sym same_rows) r.read_behind;
+      read_before = r.read_before;
+      read_behind = r.read_behind;
       store = r.store;
     }
 
 -- a caller that has drawn a number over its area has the row that it has chosen to store
-pub writes_row : (before after : CallerView) (e : Entry) (under : Under) (span : Span) (change : Change)
-    → after.change ≡ before.change → IsDrawn before.seat e (pending_of under (plan_of before) before.change) after.seat
-    → under ≡ OverArea span → before.change ≡ Some change → IsReadRound before.seat change → HasToStore after change
-writes_row before after e under span change same d over chosen round =
+pub writes_row : (before after : CallerView) {e : Entry} {under : Under} (span : Span) {change : Change} → after.change ≡ before.change
+    → IsDrawn before.seat e (pending_of under (plan_of before) before.change) after.seat → under ≡ OverArea span → before.change ≡ Some change
+    → IsReadRound before.seat change → HasToStore after change
+writes_row before after {under} span {change} same d over chosen round =
     let is : pending_of under (plan_of before) before.change ≡ OneRow change = λ i. pending_of (over i) (plan_of before) (chosen i) in
     let k : KeepsRows (OneRow change) before.seat.pass after.seat.pass = subst (λ (q : Pending). KeepsRows q before.seat.pass after.seat.pass) is d.keeps in
-    record {
-      pending = d.writes ∙ is;
-      chosen = same ∙ chosen;
-      round = round_on before.seat after.seat change d.numbered.table d.numbered.held k.0 k.1 d.blocks round;
-    }
+    record { pending = d.writes ∙ is; chosen = same ∙ chosen; round = round_on after.seat d.numbered.table d.numbered.held k.0 k.1 d.blocks round }
 
 -- a load of a row was one step of the seat, after which its pass has that row as well
-pub row_loaded : (s u : SeatState Pass) (index found : ℕ) → index < 128 * s.pass.blocks → IsClientCall s (3 + index) u
-    → IsMade HasHistory Allowed no_note s.number s.held s.pass (loads (3 + index)) found u.pass
-    → IsClientStep s (3 + index) (after_row index found s.pass) u
-row_loaded s u index found slot call made =
+pub row_loaded : {s u : SeatState Pass} (index found : ℕ) → index < 128 * s.pass.blocks → IsClientCall s (3 + index) u
+    → IsMade HasHistory Allowed no_note s.number s.held s.pass (loads (3 + index)) found u.pass → IsClientStep s (3 + index) (after_row index found s.pass) u
+row_loaded {s} index found slot call made =
     let m = made.3 in let here = made.5.0 in
     let same : here.pass ≡ s.pass = some-injective here.pass s.pass (sym here.own ∙ m.own) in
-    record {
-      table = call.table;
-      number = call.number;
-      held = call.held;
-      pools = call.pools;
-      further = call.further;
-      pass = row_tells _ _ _ made.1 here.history here.pass u.pass index (subst (λ (x : Pass). index < 128 * x.blocks) (sym same) slot) made.5.1
-          ∙ (λ i. after_row index (made.4 i) (same i));
-      trace = call.trace;
-    }
+    step_of call (row_tells index (subst (λ (x : Pass). index < 128 * x.blocks) (sym same) slot) made.5.1 ∙ (λ i. after_row index (made.4 i) (same i)))

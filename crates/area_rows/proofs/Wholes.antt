@@ -1,7 +1,7 @@
 -- A call in one piece: its parts make the whole, whether its arguments decide it or the rows do.
 use Rattle.std.proofs.Common.{◌≡◌, ℕ, ◌+◌, ◌*◌, ◌≤◌, List, [], ◌∷◌, ◌++◌, length, sym, refl, ap, ◌∙◌, subst, arith, inl}
-use Rattle.std.specs.Prelude.{All, Option, Some, None, MatchOption}
 use Rattle.std.specs.List.{splice}
+use Rattle.std.specs.Prelude.{All, Option, Some, None, MatchOption}
 use mathlib.Core.Option.{some}
 use lib.ListN.{get_elem?}
 use Rattle.page_types.specs.declared.calls.Call.{Call}
@@ -10,30 +10,29 @@ use Rattle.page_types.specs.declared.calls.Reply.{Reply}
 use Rattle.page_types.specs.declared.calls.Reply.TheVariants.{Refused}
 use Rattle.page_types.specs.declared.calls.Why.{Why}
 use Rattle.page_types.specs.PlainReply.{plain_reply}
+use Rattle.page_types.specs.Classes.{IsFault}
 use Rattle.space_model.specs.declared.areas.Area.{Area}
 use Rattle.space_model.specs.declared.entries.Entry.{Entry}
 use Rattle.space_model.specs.declared.entries.Under.TheVariants.{Nothing, Whole}
 use Rattle.space_model.specs.Answers.Answers.{by_arguments}
 use Rattle.space_model.specs.Held.{FitsByState}
+use Rattle.space_model.specs.Areas.{kind_at, row_count}
 use Rattle.atomic_table.specs.Seated.{TableId}
-use Rattle.range_rw.specs.Contract.{SeatState, IsLockCall, IsRelease}
-use Rattle.range_rw.specs.Contract.{Record}
+use Rattle.range_rw.specs.Contract.{SeatState, IsLockCall, IsRelease, Record}
 use Rattle.area_guard.specs.declared.guard.Pass.{Pass}
 use Rattle.area_guard.specs.declared.guard.Pending.{Pending}
-use Rattle.row_plans.specs.RowLists.{areas_from}
-use Rattle.row_plans.proofs.PlanLeft.{counted_rows}
-use Rattle.space_model.specs.Areas.{kind_at, row_count}
-use Rattle.row_plans.specs.declared.planning.Cut.{Cut}
-use Rattle.row_plans.specs.Plans.{PlanShows, spliced, IsPlan, LeavesRows}
-use Rattle.page_types.specs.Classes.{IsFault}
 use Rattle.area_guard.specs.Rows.{blocks_by, number_place, rows_in}
+use Rattle.area_guard.specs.Writes.{everything_pages}
+use Rattle.area_guard.specs.Slots.{layout_long}
 use Rattle.area_guard.specs.Reads.{everything, known_rows, KnowsRows, StillStands}
 use Rattle.area_guard.specs.History.{HasBlocks, StartsWith, Runs, RowsStandFor, IsAtRest, HoldsFor, rest_of}
-use Rattle.area_guard.specs.Writes.{everything_pages}
+use Rattle.row_plans.specs.RowLists.{areas_from}
+use Rattle.row_plans.specs.declared.planning.Cut.{Cut}
+use Rattle.row_plans.specs.Plans.{PlanShows, spliced, IsPlan, LeavesRows}
+use Rattle.row_plans.proofs.PlanLeft.{counted_rows}
 use Rattle.area_rows.specs.Callers.{CallerView, IsMoment, MayNumber, IsKnown, HasPlanned, IsReading, IsNumbered, IsDrawn, IsWritten}
 use Rattle.area_rows.specs.Called.{IsLastPlace, IsLastStep, IsCalled, EndsSoon}
-use Rattle.area_rows.proofs.Moments.{stands, nobody_plans, rows_are}
-use Rattle.area_guard.specs.Slots.{layout_long}
+use Rattle.area_rows.proofs.Moments.{stands, nobody_plans, rows_are, here_of}
 use Rattle.row_blocks.specs.declared.positions.Position.{Position}
 use Rattle.row_blocks.proofs.RowSplices.{splice_none}
 use Rattle.plan_words.specs.Places.{number_at}
@@ -44,17 +43,14 @@ use Rattle.plan_words.proofs.Seeing.{known_blocks}
 pub match_none : (o : Option Reply) (P : Type 0) (Q : Reply → Type 0) → o ≡ None → P → MatchOption o P Q
 match_none o P Q e p = subst (λ (x : Option Reply). MatchOption x P Q) (sym e) p
 
-match_some : (o : Option Reply) (r : Reply) (P : Type 0) (Q : Reply → Type 0) → o ≡ Some r → Q r → MatchOption o P Q
-match_some o r P Q e q = subst (λ (x : Option Reply). MatchOption x P Q) (sym e) q
+match_some : {o : Option Reply} (r : Reply) (P : Type 0) (Q : Reply → Type 0) → o ≡ Some r → Q r → MatchOption o P Q
+match_some r P Q e q = subst (λ (x : Option Reply). MatchOption x P Q) (sym e) q
 
 -- a call whose arguments decide it may be numbered under nothing
 pub plain_right : (c : CallerView) (call : Call) (reply : Reply) → plain_reply call ≡ Some reply → MayNumber c call reply Nothing
 plain_right c call reply decided start history state words m = (
   state,
-  record {
-    fits = match_some (plain_reply call) reply (FitsByState state call Nothing) (λ (_ : Reply). Nothing ≡ Nothing) decided refl;
-    answers = by_arguments decided refl;
-  },
+  record { fits = match_some reply (FitsByState state call Nothing) (λ (_ : Reply). Nothing ≡ Nothing) decided refl; answers = by_arguments decided refl },
   refl,
 )
 
@@ -76,13 +72,10 @@ rows_now c held rest knows start history state words m =
     let granted : get_elem? m.grants c.seat.number ≡ some (Some everything) = m.granted ∙ ap some held in
     let stood : All (StillStands (Some everything) words) m.pass.rows = (m.backed c.seat.number m.pass m.own).rows (Some everything) granted in
     let part = m.running.parts c.seat.number m.pass m.own in
-    let stand : RowsStandFor state m.passes words =
-    m.running.rows (nobody_plans m.grants words state m.passes c.seat.number m.pass m.exclusive m.backed m.own
-    (m.read.pending ∙ rest) (everything, granted, everything_pages)) in
+    let stand : RowsStandFor state m.passes words = m.running.rows (nobody_plans (here_of m) (m.read.pending ∙ rest) (everything, granted, everything_pages)) in
     let w = knows.words in
     let still = ap length (part.laid w.layout (m.read.laid w.layout w.laid)) in
-    let all = layout_long words stand.2.room in
-    let long = w.long in
+    let all = layout_long words stand.2.room in let long = w.long in
     let has : HasBlocks words c.seat.pass.blocks = (omega arith, stand.2.room) in
     let at = known_at words c.seat.pass has w
     (λ slot word read. (stands (Some everything) words m.pass.rows slot word stood (m.read.rows slot word read)).word refl)
@@ -90,9 +83,9 @@ rows_now c held rest knows start history state words m =
     sym (known_blocks words stand.0 c.seat.pass has stand.2 w at).1
 
 -- and may be numbered with what its plan says
-pub planned_right : (c : CallerView) (call : Call) (reply : Reply) (count : ℕ) → HasPlanned call reply count c
-    → c.seat.held ≡ Some everything → IsAtRest c.seat.pass → plain_reply call ≡ None → (IsFault call → ⊥) → MayNumber c call reply Whole
-planned_right c call reply count planned held rest undecided no_fault start history state words m =
+pub planned_right : {c : CallerView} {call : Call} {reply : Reply} {count : ℕ} → HasPlanned call reply count c → c.seat.held ≡ Some everything
+    → IsAtRest c.seat.pass → plain_reply call ≡ None → (IsFault call → ⊥) → MayNumber c call reply Whole
+planned_right {c} {call} planned held rest undecided no_fault start history state words m =
     let p = planned.shows start history state words m in
     let rows = rows_now c held rest planned.known.rows start history state words m in (
       p.left,
@@ -104,17 +97,15 @@ planned_right c call reply count planned held rest undecided no_fault start hist
     )
 
 -- the plan of a call on the rows that are known is its plan at every moment until they change
-pub plan_shows : (c : CallerView) (call : Call) (reply : Reply) (count : ℕ) → c.seat.held ≡ Some everything → IsAtRest c.seat.pass
-    → IsKnown c
-    → IsPlan call reply count (spliced (λ (at : Position). number_at c.seat.pass at) (known_rows c.seat.pass) c.cut c.more)
-    (areas_from (known_rows c.seat.pass)) → HasPlanned call reply count c
-plan_shows c call reply count held rest known plan = record {
+pub plan_shows : (c : CallerView) {call : Call} {reply : Reply} {count : ℕ} → c.seat.held ≡ Some everything → IsAtRest c.seat.pass → IsKnown c → IsPlan call
+    reply count (spliced (λ (at : Position). number_at c.seat.pass at) (known_rows c.seat.pass) c.cut c.more) (areas_from (known_rows c.seat.pass))
+    → HasPlanned call reply count c
+plan_shows c {call} {reply} {count} held rest known plan = record {
   shows = λ start history state words m.
       let rows = known_rows c.seat.pass in
       let granted : get_elem? m.grants c.seat.number ≡ some (Some everything) = m.granted ∙ ap some held in
       let now = rows_now c held rest known.rows start history state words m in
-      let are = rows_are m.grants start history state words m.passes c.seat.number m.pass rows m.running m.backed m.exclusive
-      m.own granted (m.read.pending ∙ rest) now in
+      let are = rows_are (here_of m) granted (m.read.pending ∙ rest) now in
       subst (λ (z : List ℕ × List Area). IsPlan call reply count (spliced (λ (at : Position). number_at c.seat.pass at) z.0 c.cut c.more) z.1)
       (λ i. (sym now i, are.1 i)) plan;
   known = known;
@@ -168,9 +159,9 @@ called_from a b c e line call free lock same called =
     }
 
 -- holding, numbering, writing and giving back are one numbering
-pub numbered_whole : (a b p n w d : SeatState Pass) (e : Entry) (pending : Pending) → a.held ≡ None → IsLockCall a b → IsReading b p
-    → IsDrawn p e pending n → IsWritten n w → IsRelease rest_of w d → IsNumbered a e d
-numbered_whole a b p n w d e pending free call reading drawn written release =
+pub numbered_whole : {a b p n w d : SeatState Pass} {e : Entry} {pending : Pending} → a.held ≡ None → IsLockCall a b → IsReading b p → IsDrawn p e pending n
+    → IsWritten n w → IsRelease rest_of w d → IsNumbered a e d
+numbered_whole {e} free call reading drawn written release =
     let num = drawn.numbered in
     record {
       history = num.history;
@@ -192,16 +183,15 @@ numbered_whole a b p n w d e pending free call reading drawn written release =
     }
 
 -- and its last step on a client word raised the sequence word
-pub last_whole : (a b p n w d : SeatState Pass) (e : Entry) (pending : Pending) → IsLockCall a b → IsReading b p
-    → IsDrawn p e pending n → IsWritten n w → IsRelease rest_of w d → IsLastStep a Whole d
-last_whole a b p n w d e pending call reading drawn written release = record {
+pub last_whole : {a b p n w d : SeatState Pass} {e : Entry} {pending : Pending} → IsLockCall a b → IsReading b p → IsDrawn p e pending n → IsWritten n w
+    → IsRelease rest_of w d → IsLastStep a Whole d
+last_whole {p} {n} call reading drawn written release = record {
   place = 1;
   step = written.step;
   word = refl;
   client = release.client ∙ written.client;
   since = let c = call.taken in let r = reading.taken in
-      let t : n.trace.taken ≡ p.trace.taken + 1 = ap (λ (x : Record). x.taken) drawn.trace in let s = written.since in
-      omega arith;
+      let t : n.trace.taken ≡ p.trace.taken + 1 = ap (λ (x : Record). x.taken) drawn.trace in let s = written.since in omega arith;
   until = let u = written.until in let l = release.least in omega arith;
 }
 
@@ -211,8 +201,7 @@ rows_counted : (c : CallerView) → c.seat.held ≡ Some everything → IsAtRest
     → length (known_rows c.seat.pass) ≡ row_count state
 rows_counted c held rest known start history state words m =
     let rows = known_rows c.seat.pass in
-    let are = rows_are m.grants start history state words m.passes c.seat.number m.pass rows m.running m.backed m.exclusive
-    m.own (m.granted ∙ ap some held) (m.read.pending ∙ rest) (rows_now c held rest known.rows start history state words m) in
+    let are = rows_are (here_of m) (m.granted ∙ ap some held) (m.read.pending ∙ rest) (rows_now c held rest known.rows start history state words m) in
     counted_rows rows known.list ∙ ap row_count are.1
 
 -- and its steps from the draw on are those of the writing and of giving back
@@ -223,8 +212,7 @@ pub ends_soon : {a b n w d : SeatState Pass} {p : CallerView} {e : Entry} {pendi
 ends_soon {a} {d} {p} call reading held rest known drawn written release steps refused =
     let num = drawn.numbered in
     let since = ap (λ (x : Pass). x.since) release.pass in
-    let counted = written.counted in
-    let none = drawn.since in
+    let counted = written.counted in let none = drawn.since in
     record {
       history = num.history;
       state = num.state;
@@ -233,9 +221,7 @@ ends_soon {a} {d} {p} call reading held rest known drawn written release steps r
       seen = ap (λ (x : Pass). x.seen) release.pass ∙ (written.seen ∙ num.seen);
       since =
           let rows = rows_counted p held rest known _ _ _ _ drawn.moment in
-          let grows = known.grows in
-          let there = known.there in
-          omega arith;
+          let grows = known.grows in let there = known.there in omega arith;
       refused = λ why is. let one = refused why is in omega arith;
       step = written.step;
       client = release.client ∙ written.client;
@@ -243,8 +229,8 @@ ends_soon {a} {d} {p} call reading held rest known drawn written release steps r
     }
 
 -- a draw is the last step of a call under nothing
-pub last_drawn : (a n : SeatState Pass) (e : Entry) (pending : Pending) → IsDrawn a e pending n → IsLastStep a Nothing n
-last_drawn a n e pending drawn = record {
+pub last_drawn : {a n : SeatState Pass} {e : Entry} {pending : Pending} → IsDrawn a e pending n → IsLastStep a Nothing n
+last_drawn {a} {n} drawn = record {
   place = number_place (blocks_by a.table);
   step = a.trace.taken;
   word = refl;

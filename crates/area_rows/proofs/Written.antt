@@ -7,17 +7,17 @@ use Rattle.area_guard.specs.declared.guard.Pass.{Pass}
 use Rattle.area_guard.specs.declared.guard.Splice.{Splice}
 use Rattle.area_guard.specs.declared.guard.Pending.TheVariants.{Planned}
 use Rattle.area_guard.specs.Rows.{blocks_by, room_of}
-use Rattle.area_guard.specs.Reads.{known_count, known_rows, KnowsBlocks}
 use Rattle.area_guard.specs.History.{rows_after}
+use Rattle.area_guard.specs.Reads.{known_count, known_rows, KnowsBlocks}
 use Rattle.plan_words.specs.Places.{number_at, splice_at}
 use Rattle.plan_words.specs.Writing.{WritesPlan, plan_at, splice_in}
 use Rattle.plan_words.specs.Reading.{MayLoadAll}
 use Rattle.area_rows.specs.Callers.{CallerView, HasToWrite, MayPlan, plan_of}
 
 -- where a caller may plan its seat may load all rows
-pub may_load : (shape : TableShape) (nb count : ℕ) (s : SeatState Pass) → 36 + 129 * nb ≤ shape.client → nb ≡ blocks_by shape.table → nb ≤ 2048
+pub may_load : (shape : TableShape) {nb count : ℕ} {s : SeatState Pass} → 36 + 129 * nb ≤ shape.client → nb ≡ blocks_by shape.table → nb ≤ 2048
     → s.pass.blocks ≡ blocks_by s.table → MayPlan shape.table count s → MayLoadAll shape nb count s
-may_load shape nb count s wide is few blocks may =
+may_load shape {nb} {count} {s} wide is few blocks may =
     let all : s.pass.blocks ≡ nb = blocks ∙ (ap blocks_by may.table_is ∙ sym is) in
     record {
       holds = record { wide = omega arith; few = omega arith; table_is = may.table_is; held = may.held; knows = may.knows.words };
@@ -30,10 +30,9 @@ may_load shape nb count s wide is few blocks may =
     }
 
 -- the same by the space and the caller as the code has them
-pub may_load_in : (shape now : TableShape) (v w : CallerView) (nb count : ℕ) → shape ≡ now → v ≡ w → 36 + 129 * nb ≤ shape.client
-    → nb ≡ blocks_by shape.table → nb ≤ 2048 → v.seat.pass.blocks ≡ blocks_by v.seat.table → MayPlan now.table count w.seat
-    → MayLoadAll shape nb count v.seat
-may_load_in shape now v w nb count space caller wide is few blocks may = may_load shape nb count v.seat wide is few blocks
+pub may_load_in : {shape now : TableShape} {v w : CallerView} {nb count : ℕ} → shape ≡ now → v ≡ w → 36 + 129 * nb ≤ shape.client → nb ≡ blocks_by shape.table
+    → nb ≤ 2048 → v.seat.pass.blocks ≡ blocks_by v.seat.table → MayPlan now.table count w.seat → MayLoadAll shape nb count v.seat
+may_load_in {shape} {count} space caller wide is few blocks may = may_load shape wide is few blocks
     (subst (λ (z : TableShape × CallerView). MayPlan z.0.table count z.1.seat) (λ i. (sym space i, sym caller i)) may)
 
 -- a seat may write its splice: so many rows go from a position on, and these come
@@ -52,13 +51,11 @@ pub record IsReady (shape : TableShape) (nb count : ℕ) (at : Position) (gone :
   pub some : 0 < length (rows_after (plan_at seat))
 
 -- the seat of a caller that has its plan to write may
-pub ready : (shape : TableShape) (nb : ℕ) (v : CallerView) → 36 + 129 * nb ≤ shape.client → nb ≡ blocks_by shape.table → nb ≤ 2048
-    → v.seat.table ≡ shape.table → v.seat.pass.blocks ≡ blocks_by v.seat.table → HasToWrite v
-    → IsReady shape nb v.count v.cut.at v.cut.gone v.more v.seat
-ready shape nb v wide is few table blocks has =
+pub ready : (shape : TableShape) {nb : ℕ} {v : CallerView} → 36 + 129 * nb ≤ shape.client → nb ≡ blocks_by shape.table → nb ≤ 2048
+    → v.seat.table ≡ shape.table → v.seat.pass.blocks ≡ blocks_by v.seat.table → HasToWrite v → IsReady shape nb v.count v.cut.at v.cut.gone v.more v.seat
+ready shape {nb} {v} wide is few table blocks has =
     let plan : plan_at v.seat ≡ plan_of v = ap splice_in has.pending in
-    let known = has.known in
-    let counted = known.counted in
+    let known = has.known in let counted = known.counted in
     let all : v.seat.pass.blocks ≡ nb = blocks ∙ (ap blocks_by table ∙ sym is) in
     record {
       writes = record {

@@ -6,6 +6,8 @@ use Rattle.std.specs.Prelude.{Option, None}
 use lib.ListN.{get_or-map}
 use Rattle.list_cuts.specs.Cut.{Regions, list_of}
 use Rattle.lock_core.specs.Range.{Interval}
+use Rattle.lock_core.specs.declared.range.Held.{Held}
+use Rattle.lock_core.specs.declared.range.Mode.TheVariants.{Reader as Shared}
 use Rattle.page_types.specs.declared.pages.Span.{Span}
 use Rattle.page_types.specs.declared.sets.Access.{Access}
 use Rattle.page_types.specs.declared.calls.Kind.{Kind}
@@ -23,8 +25,6 @@ use Rattle.space_model.specs.Areas.{kind_at}
 use Rattle.space_model.specs.Held.{FitsByState}
 use Rattle.space_model.specs.Answers.{AnswersFault}
 use Rattle.space_model.proofs.Judgements.{fault_answers}
-use Rattle.lock_core.specs.declared.range.Held.{Held}
-use Rattle.lock_core.specs.declared.range.Mode.TheVariants.{Reader as Shared}
 use Rattle.range_rw.specs.Contract.{SeatState, AsksOnly, IsRelease, IsReadyLeft, Pools, Record, ready_in, pools_at}
 use Rattle.range_rw.specs.Several.{TakesAlone}
 use Rattle.range_rw.proofs.Asking.{asks_stay, asks_kept, asks_wider}
@@ -37,47 +37,42 @@ use Rattle.area_rows.specs.Rows.{blocks_by, number_place}
 use Rattle.area_rows.specs.Reads.{IsHeldPage}
 use Rattle.area_rows.specs.Callers.{CallerView, held_span, MayNumber, IsReading, IsDrawn, RowIs, Shows}
 use Rattle.area_rows.specs.Called.{IsCalled, IsLastPlace}
-use Rattle.page_fault.specs.Faults.{AsksPage, AsksPageOf, IsAccess, page_held}
 use Rattle.area_rows.proofs.Wholes.{match_none}
+use Rattle.page_fault.specs.Faults.{AsksPage, AsksPageOf, IsAccess, page_held}
 
 -- the page's kind decides
-held_right : (state : List Area) (addr : ℕ) (access : Access) (kind : Option Kind) (reply : Reply) (span : Span)
-    → plain_reply (Fault addr access) ≡ None → span.lo ≡ page_of addr → span.hi ≡ page_of addr + 1
-    → kind_at state (page_of addr) ≡ kind → AnswersFault kind (page_of addr) access reply
+held_right : (state : List Area) (addr : ℕ) (access : Access) {kind : Option Kind} (reply : Reply) (span : Span) → plain_reply (Fault addr access) ≡ None
+    → span.lo ≡ page_of addr → span.hi ≡ page_of addr + 1 → kind_at state (page_of addr) ≡ kind → AnswersFault kind (page_of addr) access reply
     → IsRight state (Fault addr access) reply (Reader span) state
-held_right state addr access kind reply span undecided lo hi is answers = record {
+held_right state addr access reply span undecided lo hi is answers = record {
   fits = match_none (plain_reply (Fault addr access)) (FitsByState state (Fault addr access) (Reader span)) (λ _. Reader span ≡ Nothing) undecided (lo, hi);
   answers = fault_answers state addr access reply undecided (subst (λ k. AnswersFault k (page_of addr) access reply) (sym is) answers);
 }
 
 -- under the held page, whose row shows its kind, the reply of this access may be numbered
 shows_access : (c : CallerView) (held : Option Held) (row : Row) (addr : ℕ) (access : Access) (reply : Reply) (span : Span)
-    → Shows c.seat (RowIs held (page_of addr) row) → IsHeldPage held (page_of addr) → row.lo ≤ page_of addr
-    → page_of addr < row.hi
-    → plain_reply (Fault addr access) ≡ None → span.lo ≡ page_of addr → span.hi ≡ page_of addr + 1
-    → AnswersFault row.kind (page_of addr) access reply → MayNumber c (Fault addr access) reply (Reader span)
+    → Shows c.seat (RowIs held (page_of addr) row) → IsHeldPage held (page_of addr) → row.lo ≤ page_of addr → page_of addr < row.hi
+    → plain_reply (Fault addr access) ≡ None → span.lo ≡ page_of addr → span.hi ≡ page_of addr + 1 → AnswersFault row.kind (page_of addr) access reply
+    → MayNumber c (Fault addr access) reply (Reader span)
 shows_access c held row addr access reply span shows here from until undecided lo hi answers start history state words moment =
     let r = shows start history state words moment in
-    (state, held_right state addr access row.kind reply span undecided lo hi (r.kind (page_of addr) here from until) answers, refl)
+    (state, held_right state addr access reply span undecided lo hi (r.kind (page_of addr) here from until) answers, refl)
 
 -- under the held page of a fault that its arguments don't decide, the reply that its row gives may be numbered
 pub shows_fault : (c : CallerView) (held : Option Held) (row : Row) (call : Call) (access : Access) (reply : Reply) (span : Span)
-    → Shows c.seat (RowIs held span.lo row) → IsHeldPage held span.lo → row.lo ≤ span.lo → span.lo < row.hi
-    → plain_reply call ≡ None → IsAccess call access span → AnswersFault row.kind span.lo access reply
-    → MayNumber c call reply (Reader span)
+    → Shows c.seat (RowIs held span.lo row) → IsHeldPage held span.lo → row.lo ≤ span.lo → span.lo < row.hi → plain_reply call ≡ None
+    → IsAccess call access span → AnswersFault row.kind span.lo access reply → MayNumber c call reply (Reader span)
 shows_fault c held row (Fault addr wanted) access reply span shows here from until undecided is answers =
     let at = subst (λ (z : ℕ × Access). Shows c.seat (RowIs held z.0 row) × IsHeldPage held z.0 × (row.lo ≤ z.0) × (z.0 < row.hi)
-    × AnswersFault row.kind z.0 z.1 reply)
-    (λ i. (is.1 i, is.0 i)) (shows, here, from, until, answers) in
+    × AnswersFault row.kind z.0 z.1 reply) (λ i. (is.1 i, is.0 i)) (shows, here, from, until, answers) in
     shows_access c held row addr wanted reply span at.0 at.1 at.2 at.3 undecided is.1 is.2 at.4
 shows_fault c held row call access reply span shows here from until undecided is answers = absurd is
 
 -- reading, numbering and giving back are one call that held nothing before
-pub called_held : (b r n d : CallerView) (e : Entry) (line : ℕ) (call : Call) (span : Span) → IsReading b.seat r.seat
-    → r.left ≡ b.left → e.line ≡ line → e.call ≡ call → e.under ≡ Reader span → IsNamedReply e.reply
-    → IsDrawn r.seat e AtRest n.seat → n.left + 1 ≡ r.left → IsRelease rest_of n.seat d.seat → d.left ≡ n.left
-    → IsCalled (record b { seat = record b.seat { held = None } }) line call e d
-called_held b r n d e line call span reading same line_is call_is under named drawn left release same_left =
+pub called_held : (b r n d : CallerView) {e : Entry} {line : ℕ} {call : Call} (span : Span) → IsReading b.seat r.seat → r.left ≡ b.left → e.line ≡ line
+    → e.call ≡ call → e.under ≡ Reader span → IsNamedReply e.reply → IsDrawn r.seat e AtRest n.seat → n.left + 1 ≡ r.left → IsRelease rest_of n.seat d.seat
+    → d.left ≡ n.left → IsCalled (record b { seat = record b.seat { held = None } }) line call e d
+called_held b r n d {e} span reading same line_is call_is under named drawn left release same_left =
     let num = drawn.numbered in
     let taken : n.seat.trace.taken ≡ r.seat.trace.taken + 1 = ap (λ (t : Record). t.taken) drawn.trace in
     record {
@@ -116,13 +111,12 @@ called_held b r n d e line call span reading same line_is call_is under named dr
     }
 
 -- pools that stay are ready nodes as they were
-pub pools_left : (a b : Pools) → b ≡ a → IsReadyLeft a.ready b.ready
-pools_left a b same = inr (inl (ap (λ (p : Pools). p.ready) same))
+pub pools_left : {a b : Pools} → b ≡ a → IsReadyLeft a.ready b.ready
+pools_left same = inr (inl (ap (λ (p : Pools). p.ready) same))
 
 -- the same in each list
-pub lists_left : (a b : SeatState Pass) → b.pools ≡ a.pools → b.further ≡ a.further → (j : ℕ)
-    → IsReadyLeft (pools_at a j).ready (pools_at b j).ready
-lists_left a b same more zero = pools_left a.pools b.pools same
+pub lists_left : (a b : SeatState Pass) → b.pools ≡ a.pools → b.further ≡ a.further → (j : ℕ) → IsReadyLeft (pools_at a j).ready (pools_at b j).ready
+lists_left a b same more zero = pools_left same
 lists_left a b same more (suc j) = inr (inl (λ i. (get_or (more i) j (same i)).ready))
 
 -- ready nodes that stay in list 0 and in each further list stay in each list
@@ -146,22 +140,21 @@ one_page c range one = (
 )
 
 -- a fault that asks for nothing asks for nothing but its page
-pub asks_none : (call : Call) (a b : List Held) → IsFault call → b ≡ a → AsksPageOf call a b
-asks_none (Fault addr access) a b is same = asks_stay same
-asks_none call a b is same = absurd is
+pub asks_none : (call : Call) {a b : List Held} → IsFault call → b ≡ a → AsksPageOf call a b
+asks_none (Fault addr access) is same = asks_stay same
+asks_none call is same = absurd is
 
 -- the span that a fault holds is its page
 span_page : (addr : ℕ) (access wanted : Access) (span : Span) → IsAccess (Fault addr access) wanted span → held_span span Shared ≡ page_held addr
 span_page addr access wanted span is = λ i. record { range = record { lo = is.1 i; hi = is.2 i }; mode = Shared }
 
 -- so one that holds it, and asks for nothing behind that, asks for its page alone
-pub asks_page : (addr : ℕ) (access wanted : Access) (span : Span) (a m b : List Held) → IsAccess (Fault addr access) wanted span
+pub asks_page : (addr : ℕ) (access wanted : Access) (span : Span) (a : List Held) {m b : List Held} → IsAccess (Fault addr access) wanted span
     → plain_reply (Fault addr access) ≡ None → AsksOnly (held_span span Shared) a m → b ≡ m → AsksPage addr access a b
-asks_page addr access wanted span a m b is undecided asks same =
-    asks_kept (asks_wider (λ h e. (e ∙ span_page addr access wanted span is, undecided)) asks) same
+asks_page addr access wanted span a is undecided asks same = asks_kept (asks_wider (λ h e. (e ∙ span_page addr access wanted span is, undecided)) asks) same
 
 -- whichever fault it is
-pub asks_span : (call : Call) (access : Access) (span : Span) (a m b : List Held) → IsAccess call access span → plain_reply call ≡ None
+pub asks_span : (call : Call) (access : Access) (span : Span) (a : List Held) {m b : List Held} → IsAccess call access span → plain_reply call ≡ None
     → AsksOnly (held_span span Shared) a m → b ≡ m → AsksPageOf call a b
-asks_span (Fault addr access) wanted span a m b is undecided asks same = asks_page addr access wanted span a m b is undecided asks same
-asks_span call access span a m b is undecided asks same = absurd is
+asks_span (Fault addr access) wanted span a is undecided asks same = asks_page addr access wanted span a is undecided asks same
+asks_span call access span a is undecided asks same = absurd is

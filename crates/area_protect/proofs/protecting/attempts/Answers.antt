@@ -13,9 +13,8 @@ returns-clause-attempt g c = elim c.match-next.branch [
   | in-None w ↦ let never = w.in-None.ensures.steps in absurd cc
   | in-Some+in-Done w ↦
       let a = w.one_attempt-last in
-      same_attempt c.args.caller.now a.new.caller c.match-next.caller c.args.request a.result c.match-next.last w.caller-is w.last-is
-      (attempt_since c.args.caller.now c.loop.caller a.new.caller c.args.request a.result c.loop.invariant.looked
-      (c.loop.invariant.held ∙ sym c.requires.caller.free) a.ensures.attempt)
+      same_attempt c.args.caller.now c.args.request w.caller-is w.last-is
+      (attempt_since a.new.caller c.args.request a.result c.loop.invariant.looked (c.loop.invariant.held ∙ sym c.requires.caller.free) a.ensures.attempt)
 ]
 
 -- its first look was made under the pages as a reader
@@ -25,8 +24,7 @@ returns-clause-first g c = elim c.match-next.branch [
   | in-Some+in-Done w ↦
       let a = w.one_attempt-last in
       subst (λ (z : CallerView). LooksFirst c.args.caller.now.seat c.args.pages.lo c.args.pages.hi z.seat) (sym w.caller-is)
-      (first_since c.args.caller.now.seat c.loop.caller.seat a.new.caller.seat c.args.pages.lo c.args.pages.hi
-      c.loop.invariant.first a.ensures.first)
+      (first_since c.args.caller.now.seat c.loop.caller.seat a.new.caller.seat c.args.pages.lo c.args.pages.hi c.loop.invariant.first a.ensures.first)
 ]
 
 -- an attempt that ends at other boundaries has only looked
@@ -35,7 +33,7 @@ loop-preserved g c =
     let i = c.loop.invariant in let new = c.one_attempt-last.new.caller in let e = c.in-Again.ensures in
     record {
       held = e.free;
-      looked = looked_on c.args.caller.now c.loop.caller new i.looked e.attempt;
+      looked = looked_on i.looked e.attempt;
       asks = inr (attempts_first c.args.pages.lo c.args.pages.hi c.args.caller.now.seat.trace.asked c.loop.caller.seat.trace.asked
           new.seat.trace.asked i.asks c.one_attempt-last.ensures.asks);
       first = first_again c.args.caller.now.seat c.loop.caller.seat new.seat c.args.pages.lo c.args.pages.hi i.first e.first;

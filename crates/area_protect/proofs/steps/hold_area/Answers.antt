@@ -1,4 +1,4 @@
-use Rattle.std.proofs.Common.{ℕ, ◌+◌, ◌-◌, ◌∙◌, ap, refl, subst, sym}
+use Rattle.std.proofs.Common.{ℕ, ◌+◌, ◌-◌, ◌∙◌, ap, subst, sym}
 use Rattle.std.specs.Prelude.{Option, IsSome, min}
 use Rattle.page_types.specs.declared.TheConstants.{LIMIT}
 use Rattle.page_types.specs.declared.calls.Kind.{Kind}
@@ -11,27 +11,31 @@ use Rattle.area_protect.proofs.Looking.{look_counts}
 use Rattle.area_protect.proofs.Stages.{whole_back, looked_round, counts_on}
 use Rattle.area_protect.proofs.steps.hold_area.Goals as goal
 
--- another sequence word than the one that was found says that a call under everything came between
-pub returns-then-sequence-found-clause-held : goal.returns-then-sequence-found-clause-held
-returns-then-sequence-found-clause-held g c =
+-- another sequence word than the one that was found says that a call under everything came between; what is asked for
+-- is the area with a page on each side
+pub returns-then-sequence-found : goal.returns-then-sequence-found
+returns-then-sequence-found g c =
     let a = c.acquire in let q = c.sequence-sequence in let l = c.look-second in let d = c.release in
-    let some : IsSome a.new.caller.seat.held = subst (λ (h : Option Held). IsSome h) (sym a.ensures.held) refl in
-    let looked = looked_round c.args.caller.now a.new.caller q.new.caller l.new.caller d.new.caller l.result a.ensures.call
-    a.ensures.left a.ensures.rest q.ensures.reading q.ensures.left l.ensures.look l.ensures.left d.ensures.release
-    d.ensures.left in (
-      d.ensures.release.held,
-      looked.1,
-      whole_back l.new.caller.seat d.new.caller.seat d.ensures.release l.result q.result
-          (look_counts q.new.caller.seat l.new.caller.seat l.result q.result l.ensures.look
-          (q.ensures.reading.read.pending ∙ a.ensures.rest) (q.ensures.counts some)),
-      c.if-sequence-found.true,
-    )
+    let some : IsSome a.new.caller.seat.held = rw a.ensures.held in
+    let looked = looked_round c.args.caller.now a.new.caller q.new.caller l.new.caller d.new.caller a.ensures.call a.ensures.left a.ensures.rest
+    q.ensures.reading q.ensures.left l.ensures.look l.ensures.left d.ensures.release d.ensures.left in
+    record {
+      looked = looked.0;
+      asks = asks_kept (for_only a.ensures.asks) (d.ensures.release.asked ∙ (ap (λ (t : Record). t.asked) l.ensures.look.step.trace ∙ q.ensures.reading.asked));
+      held = (
+        d.ensures.release.held,
+        looked.1,
+        whole_back d.ensures.release l.result q.result
+            (look_counts q.result l.ensures.look (q.ensures.reading.read.pending ∙ a.ensures.rest) (q.ensures.counts some)),
+        c.if-sequence-found.true,
+      );
+    }
 
 -- a row with the boundaries that were found is that of the area, which the caller holds
 pub returns-in-Some-clause-held : goal.returns-in-Some-clause-held
 returns-in-Some-clause-held g c =
     let a = c.acquire in let q = c.sequence-sequence in let r = c.row_of-row in
-    let some : IsSome a.new.caller.seat.held = subst (λ (h : Option Held). IsSome h) (sym a.ensures.held) refl in
+    let some : IsSome a.new.caller.seat.held = rw a.ensures.held in
     let lo = c.if-row-found.true in let hi = c.if-row-found-2.true in
     record {
       holds = record {
@@ -44,27 +48,12 @@ returns-in-Some-clause-held g c =
       };
       lo = lo;
       hi = hi;
-      whole = subst (λ n. CountsWhole r.new.caller.seat n) c.if-sequence-found.false
-          (counts_on q.new.caller.seat r.new.caller.seat q.result r.ensures.reading (q.ensures.counts some));
+      whole = subst (λ n. CountsWhole r.new.caller.seat n) c.if-sequence-found.false (counts_on q.result r.ensures.reading (q.ensures.counts some));
     }
-
--- holding, reading, looking and giving back are a look
-pub returns-then-sequence-found-clause-looked : goal.returns-then-sequence-found-clause-looked
-returns-then-sequence-found-clause-looked g c =
-    let a = c.acquire in let q = c.sequence-sequence in let l = c.look-second in let d = c.release in
-    (looked_round c.args.caller.now a.new.caller q.new.caller l.new.caller d.new.caller l.result a.ensures.call
-    a.ensures.left a.ensures.rest q.ensures.reading q.ensures.left l.ensures.look l.ensures.left d.ensures.release
-    d.ensures.left).0
-
--- what is asked for is the area with a page on each side
-pub returns-then-sequence-found-clause-asks : goal.returns-then-sequence-found-clause-asks
-returns-then-sequence-found-clause-asks g c = asks_kept (for_only c.acquire.ensures.asks)
-    (c.release.ensures.release.asked ∙ (ap (λ (t : Record). t.asked) c.look-second.ensures.look.step.trace ∙ c.sequence-sequence.ensures.reading.asked))
 
 -- also where it is held
 pub returns-in-Some-clause-asks : goal.returns-in-Some-clause-asks
-returns-in-Some-clause-asks g c = asks_kept (for_only c.acquire.ensures.asks)
-    (c.row_of-row.ensures.reading.asked ∙ c.sequence-sequence.ensures.reading.asked)
+returns-in-Some-clause-asks g c = asks_kept (for_only c.acquire.ensures.asks) (c.row_of-row.ensures.reading.asked ∙ c.sequence-sequence.ensures.reading.asked)
 
 -- and where its boundaries have moved
 pub returns-in_default-clause-asks : goal.returns-in_default-clause-asks

@@ -7,8 +7,7 @@ pub held_beside-held-requires-clause-caller : goal.held_beside-held-requires-cla
 held_beside-held-requires-clause-caller g c =
     let s = c.split_at_mut-first in
     let t = two_new c.in-Ok.space.table _ (1 ∷ 1 ∷ []) c.in-Ok.callers.items s.result.0.now s.result.1.now c.index-first-0.result
-    c.index-others-0.result c.in-Ok.ensures.callers (sym c.deref_mut.ensures.value ∙ s.ensures.value) s.ensures.front_len
-    c.in-Ok.ensures.count.1 in
+    c.index-others-0.result c.in-Ok.ensures.callers (sym c.deref_mut.ensures.value ∙ s.ensures.value) s.ensures.front_len c.in-Ok.ensures.count.1 in
     (t.0.table_is, t.0.free)
 
 -- so does the second one
@@ -16,6 +15,5 @@ pub held_beside-held-requires-clause-other : goal.held_beside-held-requires-clau
 held_beside-held-requires-clause-other g c =
     let s = c.split_at_mut-first in
     let t = two_new c.in-Ok.space.table _ (1 ∷ 1 ∷ []) c.in-Ok.callers.items s.result.0.now s.result.1.now c.index-first-0.result
-    c.index-others-0.result c.in-Ok.ensures.callers (sym c.deref_mut.ensures.value ∙ s.ensures.value) s.ensures.front_len
-    c.in-Ok.ensures.count.1 in
+    c.index-others-0.result c.in-Ok.ensures.callers (sym c.deref_mut.ensures.value ∙ s.ensures.value) s.ensures.front_len c.in-Ok.ensures.count.1 in
     (t.1.table_is, t.1.free)

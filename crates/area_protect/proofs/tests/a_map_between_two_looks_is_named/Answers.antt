@@ -7,8 +7,7 @@ pub held_after-held-requires-clause-caller : goal.held_after-held-requires-claus
 held_after-held-requires-clause-caller g c =
     let s = c.split_at_mut-first in
     let t = two_new c.in-Ok.space.table _ (1 ∷ 1 ∷ []) c.in-Ok.callers.items s.result.0.now s.result.1.now c.index-first-0.result
-    c.index-others-0.result c.in-Ok.ensures.callers (sym c.deref_mut.ensures.value ∙ s.ensures.value) s.ensures.front_len
-    c.in-Ok.ensures.count.1 in
+    c.index-others-0.result c.in-Ok.ensures.callers (sym c.deref_mut.ensures.value ∙ s.ensures.value) s.ensures.front_len c.in-Ok.ensures.count.1 in
     (t.0.table_is, t.0.free)
 
 -- so does the second one, which has a number left
@@ -16,6 +15,5 @@ pub held_after-held-requires-clause-other : goal.held_after-held-requires-clause
 held_after-held-requires-clause-other g c =
     let s = c.split_at_mut-first in
     let t = two_new c.in-Ok.space.table _ (1 ∷ 1 ∷ []) c.in-Ok.callers.items s.result.0.now s.result.1.now c.index-first-0.result
-    c.index-others-0.result c.in-Ok.ensures.callers (sym c.deref_mut.ensures.value ∙ s.ensures.value) s.ensures.front_len
-    c.in-Ok.ensures.count.1 in
+    c.index-others-0.result c.in-Ok.ensures.callers (sym c.deref_mut.ensures.value ∙ s.ensures.value) s.ensures.front_len c.in-Ok.ensures.count.1 in
     (t.1.table_is, t.1.free, let l = t.1.left_is in omega arith)

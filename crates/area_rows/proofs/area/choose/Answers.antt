@@ -6,6 +6,5 @@ use Rattle.area_rows.proofs.area.choose.Goals as goal
 pub returns-then-eq-2 : goal.returns-then-eq-2
 returns-then-eq-2 c = (
   c.if-change.false,
-  λ A a among. none_of A a c.args.row.now c.args.before c.args.behind c.args.change among
-      (search rules) (search rules) (search rules) (search rules),
+  λ A a among. none_of c.args.row.now c.args.before c.args.behind c.args.change among (search rules) (search rules) (search rules) (search rules),
 )

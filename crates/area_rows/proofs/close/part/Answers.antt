@@ -6,16 +6,15 @@ use Rattle.area_rows.proofs.close.part.Goals as goal
 some_left : (c : goal.After-push_reserved-in-callers) → 0 < length c.callers.callers.items
 some_left c = search rules
 
-pair : (c : goal.After-push_reserved-in-callers)
-    → IsPair c.seat.inside.seat (record {
-      worker = c.seat.inside.worker;
-      mine = c.seat.inside.mine;
-      left = c.seat.inside.left;
-      count = c.seat.inside.count;
-      cut = c.seat.inside.cut;
-      plan = c.seat.inside.plan;
-      change = c.seat.inside.change;
-    }) c.remove.result
+pair : (c : goal.After-push_reserved-in-callers) → IsPair c.seat.inside.seat (record {
+  worker = c.seat.inside.worker;
+  mine = c.seat.inside.mine;
+  left = c.seat.inside.left;
+  count = c.seat.inside.count;
+  cut = c.seat.inside.cut;
+  plan = c.seat.inside.plan;
+  change = c.seat.inside.change;
+}) c.remove.result
 pair c = let i = c.seat.invariant in record {
   whole = sym c.seat.view_is;
   number = i.0;
@@ -39,7 +38,7 @@ callers-preserved c = record {
   sum_kept = search rules;
   pairs = let i = c.callers.invariant.pairs in (
     i.0 ++ c.remove.result ∷ [],
-    rw (c.push_reserved.ensures.items, c.push_reserved-in-callers.ensures.items) (pairs_more _ _ i.0 _ _ c.remove.result i.1 (pair c)),
-    rw c.remove.ensures.items (moved i.0 _ c.callers.callers.items c.remove.result i.2 (some_left c) c.remove.ensures.value),
+    rw (c.push_reserved.ensures.items, c.push_reserved-in-callers.ensures.items) (pairs_more _ _ i.0 i.1 (pair c)),
+    rw c.remove.ensures.items (moved i.0 c.callers.callers.items i.2 (some_left c) c.remove.ensures.value),
   );
 }

@@ -7,8 +7,6 @@ use Rattle.area_rows.proofs.collect.collect.Goals as goal
 -- what was collected is the whole history, with the areas that the rows stand for
 pub returns : goal.returns
 returns c = λ callers r all wide.
-    whole r.0 r.1 r.2 c.args.words.now callers r.3 c.args.kept.now all
-    (idle_rows (length callers) r.0 r.1 r.2 c.args.words.now _ r.3 r.4) c.place_callers.new.out.items
-    c.read_areas.result.items (c.place_callers.ensures.wide ∙ wide)
-    (c.place_callers.ensures.placed r.1 (kept_stand r.0 r.1 r.2 c.args.words.now callers r.3 c.args.kept.now all))
+    whole callers r.3 c.args.kept.now all (idle_rows (length callers) r.3 r.4) c.place_callers.new.out.items
+    c.read_areas.result.items (c.place_callers.ensures.wide ∙ wide) (c.place_callers.ensures.placed r.1 (kept_stand callers r.3 c.args.kept.now all))
     (c.read_areas.ensures ∙ ap areas_from (c.as_slice.ensures.value ∙ c.read_rows-rows.ensures))

@@ -21,21 +21,14 @@ lay_rows-requires-clause-some c =
 pub lay_rows-requires-clause-room : goal.lay_rows-requires-clause-room
 lay_rows-requires-clause-room c =
     let rows = ap length (rows_are (goal.at.lay_rows-requires-clause-room c).After-as_slice) in
-    let many = length-rows c.args.start.now in
-    let count = c.requires.rows in
-    let fits = c.requires.fits in
-    omega arith
+    let many = length-rows c.args.start.now in let count = c.requires.rows in let fits = c.requires.fits in omega arith
 
 -- laid out among the others they are the words of the opening
 pub returns-clause-words : goal.returns-clause-words
 returns-clause-words c =
     let rows = rows_are (goal.at.returns-clause-words c).After-as_slice in
-    let around = c.in_ok-words.ensures in
-    let old = c.in_ok-words.words.items in
-    let new = c.lay_rows.new.words.items in
-    let laid = c.lay_rows.ensures in
-    let long = laid.length in
-    let wide = around.wide in
+    let around = c.in_ok-words.ensures in let old = c.in_ok-words.words.items in let new = c.lay_rows.new.words.items in let laid = c.lay_rows.ensures in
+    let long = laid.length in let wide = around.wide in
     record {
       wide = omega arith;
       number = laid.above (number_place c.args.blocks) (omega arith) ∙ around.number;

@@ -15,34 +15,19 @@ use Rattle.area_rows.proofs.space.Caller.plan_call.Goals as goal
 -- the caller's seat may load all rows of the space
 pub plan_rows-planned-requires-clause-may : goal.plan_rows-planned-requires-clause-may
 plan_rows-planned-requires-clause-may c =
-    may_load_in _ _ _ _ c.space.inside.blocks c.args.count c.space.view_is c.self.view_is c.space.invariant.0 c.space.invariant.1
-    c.space.invariant.2 c.self.invariant.7 c.requires.may
+    may_load_in c.space.view_is c.self.view_is c.space.invariant.0 c.space.invariant.1 c.space.invariant.2 c.self.invariant.7 c.requires.may
 
 -- its list has room for SPARE rows more than there are
 pub plan_rows-planned-requires-clause-room : goal.plan_rows-planned-requires-clause-room
 plan_rows-planned-requires-clause-room c =
-    let may = may_load_in _ _ _ _ c.space.inside.blocks c.args.count c.space.view_is c.self.view_is c.space.invariant.0 c.space.invariant.1
-    c.space.invariant.2 c.self.invariant.7 c.requires.may in
-    let counted = may.counted in
-    let fits = may.fits in
-    let room = c.self.invariant.4 in
-    let same = ap room_of may.blocks_are in
-    omega arith
+    let may = may_load_in c.space.view_is c.self.view_is c.space.invariant.0 c.space.invariant.1 c.space.invariant.2 c.self.invariant.7 c.requires.may in
+    let counted = may.counted in let fits = may.fits in let room = c.self.invariant.4 in let same = ap room_of may.blocks_are in omega arith
 
 -- what the loads leave of the seat makes a caller still
 pub invariant_of-self : goal.invariant_of-self
 invariant_of-self c =
-    let l = c.plan_rows-planned.ensures.loaded in
-    let r = l.reading in
-    let i = c.self.invariant in
-    let most = l.most in
-    let blocks = l.blocks in
-    let room = ap room_of blocks in
-    let table = ap blocks_by r.table in
-    let few = i.3 in
-    let wide = i.4 in
-    let is = i.7 in
-    let limit = i.8 in
+    let l = c.plan_rows-planned.ensures.loaded in let r = l.reading in let i = c.self.invariant in let most = l.most in let blocks = l.blocks in
+    let room = ap room_of blocks in let table = ap blocks_by r.table in let few = i.3 in let wide = i.4 in let is = i.7 in let limit = i.8 in
     let grown = c.plan_rows-planned.ensures.room in (
       r.number ∙ i.0,
       i.1 ∙ sym r.mine,
@@ -57,24 +42,17 @@ invariant_of-self c =
 
 -- all that was done is a reading
 pub returns-clause-reading : goal.returns-clause-reading
-returns-clause-reading c =
-    subst (λ (v : CallerView). IsReading v.seat c.plan_rows-planned.new.hand) c.self.view_is c.plan_rows-planned.ensures.loaded.reading
+returns-clause-reading c = subst (λ (v : CallerView). IsReading v.seat c.plan_rows-planned.new.hand) c.self.view_is c.plan_rows-planned.ensures.loaded.reading
 
 -- the caller knows all rows, and has a splice of them
 pub returns-clause-known : goal.returns-clause-known
 returns-clause-known c =
-    let old = c.self.inside.seat in
-    let new = c.plan_rows-planned.new.hand in
-    let p = c.plan_rows-planned.result in
-    let more = c.plan_rows-planned.new.new.items in
+    let old = c.self.inside.seat in let p = c.plan_rows-planned.result in let more = c.plan_rows-planned.new.new.items in
     let loaded = c.plan_rows-planned.ensures.loaded in
-    let may = may_load_in _ _ _ _ c.space.inside.blocks c.args.count c.space.view_is c.self.view_is c.space.invariant.0 c.space.invariant.1
-    c.space.invariant.2 c.self.invariant.7 c.requires.may in
-    let next = same_known c.space.inside.table c.space.inside.blocks c.args.count old new may loaded in
-    let number = same_numbers old new loaded p.cut.at in
-    let long = ap length next.1 in
-    let at = c.plan_rows-planned.ensures.at in
-    let there = c.plan_rows-planned.ensures.there in
+    let may = may_load_in c.space.view_is c.self.view_is c.space.invariant.0 c.space.invariant.1 c.space.invariant.2 c.self.invariant.7 c.requires.may in
+    let next = same_known c.space.inside.table c.space.inside.blocks c.args.count old c.plan_rows-planned.new.hand may loaded in
+    let number = same_numbers old c.plan_rows-planned.new.hand loaded p.cut.at in
+    let long = ap length next.1 in let at = c.plan_rows-planned.ensures.at in let there = c.plan_rows-planned.ensures.there in
     record {
       rows = next.0.knows;
       list = next.0.list;
@@ -91,12 +69,9 @@ returns-clause-known c =
 -- and the splice is the plan of the call
 pub returns-clause-plan : goal.returns-clause-plan
 returns-clause-plan c =
-    let old = c.self.inside.seat in
-    let new = c.plan_rows-planned.new.hand in
-    let loaded = c.plan_rows-planned.ensures.loaded in
-    let p = c.plan_rows-planned.result in
-    let rows = same_rows old new loaded in
-    let places = same_places old new loaded in
+    let old = c.self.inside.seat in let loaded = c.plan_rows-planned.ensures.loaded in let p = c.plan_rows-planned.result in
+    let rows = same_rows old c.plan_rows-planned.new.hand loaded in
+    let places = same_places old c.plan_rows-planned.new.hand loaded in
     subst (λ (z : List ℕ × (Position → ℕ)). IsPlan c.args.call.now p.reply p.rows (spliced z.1 z.0 p.cut c.plan_rows-planned.new.new.items) (areas_from z.0))
     (λ i. (sym rows i, sym places i)) c.plan_rows-planned.ensures.plan
 
@@ -107,8 +82,7 @@ returns-clause-leaves c = c.plan_rows-planned.ensures.refused
 -- it takes the loads of the plan on the rows that are known
 pub returns-clause-loads : goal.returns-clause-loads
 returns-clause-loads c =
-    let old = c.self.inside.seat in
-    let new = c.plan_rows-planned.new.hand in
+    let old = c.self.inside.seat in let new = c.plan_rows-planned.new.hand in
     let rows = same_rows old new c.plan_rows-planned.ensures.loaded in
     subst (λ (v : CallerView). TakesLoads (known_rows new.pass) c.args.call.now v.seat.trace.taken new.trace.taken) c.self.view_is
     (subst (λ (l : List ℕ). TakesLoads l c.args.call.now old.trace.taken new.trace.taken) (sym rows) c.plan_rows-planned.ensures.loads)

@@ -1,14 +1,14 @@
 use Rattle.std.proofs.Common.{ℕ, ◌≡◌, ◌+◌, ◌*◌, ◌/◌, ◌%◌, ◌<◌, List, length, sym, ap, ◌∙◌, subst, arith}
 use Rattle.std.specs.Prelude.{Some, IsSome, slice_index}
 use Rattle.atomic_table.specs.Seated.{TableId}
-use Rattle.range_rw.specs.Contract.{SeatState, TableShape}
+use Rattle.range_rw.specs.Contract.{SeatState}
 use Rattle.area_guard.specs.Rows.{blocks_by, layout_in, slots_of, slot_at, IsNextOf, IsPreviousOf}
 use Rattle.area_guard.specs.Reads.{layout_by}
 use Rattle.area_guard.specs.declared.guard.Pass.{Pass}
 use Rattle.plan_words.specs.Reading.{reading_on}
 use Rattle.area_rows.specs.Callers.{AreInReach, IsReading}
 use Rattle.area_rows.specs.Layouts.{IsLayout}
-use Rattle.area_rows.proofs.LayoutLoads.{seen_reads}
+use Rattle.area_rows.proofs.LayoutLoads.{seen_reads, own_blocks}
 use Rattle.area_rows.proofs.BlockSlots.{place_slot}
 use Rattle.area_rows.proofs.space.Space.beside.Goals.{After-load_told-told, After-slot_in}
 use Rattle.area_rows.proofs.space.Space.beside.Goals as goal
@@ -55,7 +55,7 @@ still c b r =
 pub slot_before-before-requires : goal.slot_before-before-requires
 slot_before-before-requires c =
     let k = (goal.at.slot_before-before-requires c).After-load_told-told in
-    let s = still k c.load_told-told.new.caller.seat (seen_reads _ _ _ _ c.load_told-told.ensures.seen) in
+    let s = still k c.load_told-told.new.caller.seat (seen_reads c.load_told-told.ensures.seen) in
     let told = told_is k in
     let rows = ap (λ (x : ℕ). x % 128) told in
     let there = c.requires.there.1 in
@@ -75,8 +75,7 @@ slot_before-before-requires c =
 pub slot_behind-behind-requires : goal.slot_behind-behind-requires
 slot_behind-behind-requires c =
     let k = (goal.at.slot_behind-behind-requires c).After-load_told-told in
-    let s = still k c.slot_before-before.new.caller.seat
-    (reading_on _ _ _ (seen_reads _ _ _ _ c.load_told-told.ensures.seen) c.slot_before-before.ensures.reading) in
+    let s = still k c.slot_before-before.new.caller.seat (reading_on _ _ _ (seen_reads c.load_told-told.ensures.seen) c.slot_before-before.ensures.reading) in
     let told = told_is k in
     let rows = ap (λ (x : ℕ). x % 128) told in
     let there = c.requires.there.1 in
@@ -96,28 +95,22 @@ slot_behind-behind-requires c =
 pub slot_in-requires-clause-body : goal.slot_in-requires-clause-body
 slot_in-requires-clause-body c =
     let k = (goal.at.slot_in-requires-clause-body c).After-load_told-told in
-    let table : blocks_by c.args.caller.now.seat.table ≡ c.self.inside.blocks =
-    ap blocks_by (c.requires.table ∙ sym (ap (λ (t : TableShape). t.table) c.self.view_is)) ∙ sym c.self.invariant.1 in
-    let layout = is_layout k in
-    let free = layout.free in
-    let block = c.requires.there.0 in
+    let table = own_blocks c.requires.table c.self.view_is c.self.invariant.1 in
+    let layout = is_layout k in let free = layout.free in let block = c.requires.there.0 in
     let told = ap (λ (x : ℕ). x / 128) (told_is k) in
-    let body = layout.bodies (c.args.index / 128) (omega arith) in
-    omega arith
+    let body = layout.bodies (c.args.index / 128) (omega arith) in omega arith
 
 -- the row's slot
 place_is : (c : After-slot_in) → After-load_told-told → slot_at (layout_by c.args.caller.now.seat.pass.laid)
     (128 * (c.args.index / 128) + c.args.index % 128) ≡ c.slot_in.result
 place_is c k =
     let layout = layout_by c.args.caller.now.seat.pass.laid in
-    let table : blocks_by c.args.caller.now.seat.table ≡ c.self.inside.blocks =
-    ap blocks_by (c.requires.table ∙ sym (ap (λ (t : TableShape). t.table) c.self.view_is)) ∙ sym c.self.invariant.1 in
-    let n = c.load_told-told.ensures.seen in
-    let same = n.again layout c.requires.laid in
+    let table = own_blocks c.requires.table c.self.view_is c.self.invariant.1 in
+    let n = c.load_told-told.ensures.seen in let same = n.again layout c.requires.laid in
     let long = subst (λ (l : List ℕ). length l ≡ blocks_by c.args.caller.now.seat.table + 2) same n.layout.long in
     let told = ap (λ (l : List ℕ). slice_index l (2 + c.args.index / 128)) (sym same) ∙ n.word in
-    place_slot layout c.self.inside.blocks (c.args.index / 128) (c.args.index % 128) c.load_told-told.result c.slot_in.result (omega arith)
-    told (omega arith) c.slot_in.ensures.head c.slot_in.ensures.body
+    place_slot layout c.self.inside.blocks (c.args.index / 128) (c.args.index % 128) c.slot_in.result (omega arith) told (omega arith) c.slot_in.ensures.head
+    c.slot_in.ensures.body
 
 pub returns-clause-own : goal.returns-clause-own
 returns-clause-own c =
@@ -128,9 +121,8 @@ returns-clause-own c =
 -- the slot before it
 pub returns-clause-before : goal.returns-clause-before
 returns-clause-before c =
-    let at = goal.at.returns-clause-before c in
-    let k = at.After-load_told-told in
-    let s = still k c.load_told-told.new.caller.seat (seen_reads _ _ _ _ c.load_told-told.ensures.seen) in
+    let at = goal.at.returns-clause-before c in let k = at.After-load_told-told in
+    let s = still k c.load_told-told.new.caller.seat (seen_reads c.load_told-told.ensures.seen) in
     subst (λ (n : ℕ). IsPreviousOf (slots_of (layout_by c.args.caller.now.seat.pass.laid)) n c.slot_before-before.result) (place_is at.After-slot_in k)
     (subst (λ (l : List ℕ). IsPreviousOf (slots_of l) (slot_at l (128 * (c.args.index / 128) + c.args.index % 128)) c.slot_before-before.result) s.same
     c.slot_before-before.ensures.before)
@@ -138,16 +130,13 @@ returns-clause-before c =
 -- and the one behind it
 pub returns-clause-behind : goal.returns-clause-behind
 returns-clause-behind c =
-    let at = goal.at.returns-clause-behind c in
-    let k = at.After-load_told-told in
-    let s = still k c.slot_before-before.new.caller.seat
-    (reading_on _ _ _ (seen_reads _ _ _ _ c.load_told-told.ensures.seen) c.slot_before-before.ensures.reading) in
+    let at = goal.at.returns-clause-behind c in let k = at.After-load_told-told in
+    let s = still k c.slot_before-before.new.caller.seat (reading_on _ _ _ (seen_reads c.load_told-told.ensures.seen) c.slot_before-before.ensures.reading) in
     subst (λ (n : ℕ). IsNextOf (slots_of (layout_by c.args.caller.now.seat.pass.laid)) n c.slot_behind-behind.result) (place_is at.After-slot_in k)
     (subst (λ (l : List ℕ). IsNextOf (slots_of l) (slot_at l (128 * (c.args.index / 128) + c.args.index % 128)) c.slot_behind-behind.result) s.same
     c.slot_behind-behind.ensures.behind)
 
 -- all loads are a reading
 pub returns-clause-reading : goal.returns-clause-reading
-returns-clause-reading c =
-    reading_on _ _ _ (seen_reads _ _ _ _ c.load_told-told.ensures.seen)
+returns-clause-reading c = reading_on _ _ _ (seen_reads c.load_told-told.ensures.seen)
     (reading_on _ _ _ c.slot_before-before.ensures.reading c.slot_behind-behind.ensures.reading)

@@ -18,7 +18,7 @@ returns-clause-called c =
       call_is = f.call;
       named = f.named;
       numbered = f.drawn.numbered;
-      last = subst (λ (u : Under). IsLastStep c.args.caller.now.seat u c.draw.new.caller.seat) (sym f.under) (last_drawn _ _ _ _ f.drawn);
+      last = subst (λ (u : Under). IsLastStep c.args.caller.now.seat u c.draw.new.caller.seat) (sym f.under) (last_drawn f.drawn);
       written = f.drawn.writes;
       left = f.left;
     }

@@ -5,17 +5,16 @@ use Rattle.row_plans.specs.declared.planning.Cut.{Cut}
 use Rattle.area_guard.specs.Rows.{blocks_by}
 use Rattle.area_guard.specs.declared.guard.Pass.{Pass}
 use Rattle.area_rows.specs.Called.{IsLastStep}
+use Rattle.area_rows.proofs.Wholes.{planned_right, numbered_whole, last_whole, ends_soon}
 use Rattle.range_rw.specs.Contract.{Record}
 use Rattle.range_rw.proofs.Asking.{for_kept}
-use Rattle.area_rows.proofs.Wholes.{planned_right, numbered_whole, last_whole, ends_soon}
 use Rattle.area_rows.proofs.space.Space.call_whole.Goals as goal
 
 -- the call may be numbered with the reply of its plan
 pub draw-entry-requires-clause-right : goal.draw-entry-requires-clause-right
-draw-entry-requires-clause-right g c = planned_right c.plan-reply.new.caller c.args.call c.plan-reply.result.0
-    c.plan-reply.result.1 c.plan-reply.ensures.planned (c.plan-reply.ensures.reading.held ∙ c.acquire.ensures.held)
-    (c.plan-reply.ensures.reading.read.pending
-    ∙ (ap (λ (x : Pass). x.pending) c.acquire.ensures.call.pass ∙ c.holds_pages.ensures.rest c.requires.free)) c.requires.undecided c.requires.call
+draw-entry-requires-clause-right g c = planned_right c.plan-reply.ensures.planned (c.plan-reply.ensures.reading.held ∙ c.acquire.ensures.held)
+    (c.plan-reply.ensures.reading.read.pending ∙ (ap (λ (x : Pass). x.pending) c.acquire.ensures.call.pass ∙ c.holds_pages.ensures.rest c.requires.free))
+    c.requires.undecided c.requires.call
 
 -- after the draw the caller has that plan to write
 pub write_plan-requires-clause-planned : goal.write_plan-requires-clause-planned
@@ -24,22 +23,15 @@ write_plan-requires-clause-planned g c = c.draw-entry.ensures.write refl c.plan-
 -- holding, planning, drawing, writing and giving back are the whole call
 pub returns-clause-called : goal.returns-clause-called
 returns-clause-called g c =
-    let b = c.acquire.ensures in
-    let p = c.plan-reply.ensures in
-    let n = c.draw-entry.ensures in
-    let w = c.write_plan.ensures in
+    let b = c.acquire.ensures in let p = c.plan-reply.ensures in let n = c.draw-entry.ensures in let w = c.write_plan.ensures in
     let d = c.release_uncounted.ensures in
     record {
       line_is = n.line;
       call_is = n.call;
       named = n.named;
-      numbered = numbered_whole c.args.caller.now.seat c.acquire.new.caller.seat c.plan-reply.new.caller.seat
-          c.draw-entry.new.caller.seat c.write_plan.new.caller.seat c.release_uncounted.new.caller.seat c.draw-entry.result _
-          c.requires.free b.call p.reading n.drawn w.written d.release;
+      numbered = numbered_whole c.requires.free b.call p.reading n.drawn w.written d.release;
       last = subst (λ (u : Under). IsLastStep c.args.caller.now.seat u c.release_uncounted.new.caller.seat) (sym n.under)
-          (last_whole c.args.caller.now.seat c.acquire.new.caller.seat c.plan-reply.new.caller.seat c.draw-entry.new.caller.seat
-          c.write_plan.new.caller.seat c.release_uncounted.new.caller.seat c.draw-entry.result _ b.call p.reading n.drawn w.written
-          d.release);
+          (last_whole b.call p.reading n.drawn w.written d.release);
       written = ap (λ (x : Pass). x.pending) d.release.pass ∙ w.written.rest;
       left = ap (λ k. k + 1) (d.left ∙ w.left) ∙ (n.left ∙ (p.left ∙ b.left));
     }
@@ -53,24 +45,17 @@ returns-clause-looks g c =
 
 -- it asked for everything, and for nothing behind that
 pub returns-clause-asks : goal.returns-clause-asks
-returns-clause-asks g c = for_kept c.acquire.ensures.asks
-    (c.release_uncounted.ensures.release.asked ∙ (c.write_plan.ensures.written.asked
+returns-clause-asks g c = for_kept c.acquire.ensures.asks (c.release_uncounted.ensures.release.asked ∙ (c.write_plan.ensures.written.asked
     ∙ (ap (λ (t : Record). t.asked) c.draw-entry.ensures.drawn.trace ∙ c.plan-reply.ensures.reading.asked)))
 
 -- from its draw on it took as many steps as the writing and giving back
 pub returns-clause-soon : goal.returns-clause-soon
 returns-clause-soon g c =
-    let p = c.plan-reply.ensures in
-    let n = c.draw-entry.ensures in
-    let w = c.write_plan.ensures in
-    let more = ap length n.rows.more in
+    let p = c.plan-reply.ensures in let n = c.draw-entry.ensures in let w = c.write_plan.ensures in let more = ap length n.rows.more in
     let gone = ap (λ (x : Cut Position). x.gone) n.rows.cut in
-    let table = ap blocks_by c.requires.table in
-    let steps = w.steps in
+    let table = ap blocks_by c.requires.table in let steps = w.steps in
     ends_soon c.acquire.ensures.call p.reading (p.reading.held ∙ c.acquire.ensures.held)
     (p.reading.read.pending ∙ (ap (λ (x : Pass). x.pending) c.acquire.ensures.call.pass ∙ c.holds_pages.ensures.rest c.requires.free))
-    p.planned.known n.drawn w.written c.release_uncounted.ensures.release (omega arith)
-    (λ why is.
-    let none = p.leaves why (sym n.reply ∙ is) in
-    let none_comes = ap length none.1 in
+    p.planned.known n.drawn w.written c.release_uncounted.ensures.release (omega arith) (λ why is.
+    let none = p.leaves why (sym n.reply ∙ is) in let none_comes = ap length none.1 in
     w.none (omega arith) (omega arith))

@@ -5,12 +5,13 @@ use Rattle.row_plans.specs.declared.planning.Cut.{Cut}
 use Rattle.space_model.specs.declared.areas.Area.{Area}
 use Rattle.space_model.specs.declared.entries.Entry.{Entry}
 use Rattle.area_guard.specs.declared.guard.Change.{Change}
-use Rattle.row_blocks.specs.declared.positions.Position.{Position}
 use Rattle.area_guard.specs.declared.guard.Pass.{Pass}
 use Rattle.area_guard.specs.History.{HoldsFor, IsRight, Leaves, pending_of}
 use Rattle.area_guard.specs.Replies.{reply_named}
+use Rattle.row_blocks.specs.declared.positions.Position.{Position}
 use Rattle.area_rows.specs.Callers.{CallerView, Shows, IsDrawn, splice_of, plan_of}
 use Rattle.area_rows.proofs.Stepping.{writes_plan, writes_row}
+use Rattle.area_rows.proofs.space.Space.draw.Goals.{After-draw_as}
 use Rattle.area_rows.proofs.space.Space.draw.Goals as goal
 
 -- what the seat may number is what the caller may
@@ -25,6 +26,26 @@ draw_as-requires-clause-right c =
     × Leaves state c.args.under (pending_of c.args.under (splice_of z.0 z.1 z.2) z.3) left))
     (λ i. (sym seat i, sym cut i, sym more i, sym change i)) c.requires.right
 
+-- the entry that the seat drew
+abbrev entry : After-draw_as → Entry
+entry c = record {
+  number = c.draw_as.result;
+  worker = c.caller.inside.worker;
+  line = c.args.line;
+  call = c.args.call;
+  reply = c.args.reply;
+  under = c.args.under;
+}
+
+-- what the seat drew is what the caller did
+drawn_as : (c : After-draw_as) → IsDrawn c.args.caller.now.seat (entry c)
+    (pending_of c.args.under (plan_of c.args.caller.now) c.args.caller.now.change) c.draw_as.new.seat
+drawn_as c =
+    let more : c.as_slice.result.now ≡ c.args.caller.now.more = c.as_slice.ensures.value ∙ ap (λ (x : CallerView). x.more) c.caller.view_is in
+    subst (λ (z : CallerView × List ℕ).
+    IsDrawn z.0.seat (entry c) (pending_of c.args.under (splice_of z.0.seat z.0.cut z.1) z.0.change) c.draw_as.new.seat)
+    (λ i. (c.caller.view_is i, more i)) c.draw_as.ensures.drawn
+
 -- the reply has named bits alone
 pub returns-clause-named : goal.returns-clause-named
 returns-clause-named c = let d = c.draw_as.ensures.drawn in let n = d.numbered in
@@ -33,23 +54,12 @@ returns-clause-named c = let d = c.draw_as.ensures.drawn in let n = d.numbered i
 -- under everything the caller has its plan to write
 pub returns-clause-write : goal.returns-clause-write
 returns-clause-write c = λ whole known.
-    let e : Entry = record {
-      number = c.draw_as.result;
-      worker = c.caller.inside.worker;
-      line = c.args.line;
-      call = c.args.call;
-      reply = c.args.reply;
-      under = c.args.under;
-    } in
     let v = c.args.caller.now in
-    let more : c.as_slice.result.now ≡ v.more = c.as_slice.ensures.value ∙ ap (λ (x : CallerView). x.more) c.caller.view_is in
-    let drawn : IsDrawn v.seat e (pending_of c.args.under (plan_of v) v.change) c.draw_as.new.seat =
-    subst (λ (z : CallerView × List ℕ). IsDrawn z.0.seat e (pending_of c.args.under (splice_of z.0.seat z.0.cut z.1) z.0.change) c.draw_as.new.seat)
-    (λ i. (c.caller.view_is i, more i)) c.draw_as.ensures.drawn in
+    let drawn = drawn_as (goal.at.returns-clause-write c).After-draw_as in
     let held = subst (HoldsFor v.seat.held) whole c.requires.held in
     let right = c.requires.right _ _ _ drawn.words drawn.moment in
     let leaves = subst (λ u. Leaves drawn.numbered.state u (pending_of u (plan_of v) v.change) right.0) whole right.2 in
-    writes_plan v _ e c.args.under (record {
+    writes_plan (record {
       count = ap (λ (x : CallerView). x.count) c.caller.view_is;
       cut = ap (λ (x : CallerView). x.cut) c.caller.view_is;
       more = ap (λ (x : CallerView). x.more) c.caller.view_is;
@@ -59,18 +69,5 @@ returns-clause-write c = λ whole known.
 -- over an area the caller has the row to store that it has chosen
 pub returns-clause-store : goal.returns-clause-store
 returns-clause-store c = λ span change over chosen round.
-    let e : Entry = record {
-      number = c.draw_as.result;
-      worker = c.caller.inside.worker;
-      line = c.args.line;
-      call = c.args.call;
-      reply = c.args.reply;
-      under = c.args.under;
-    } in
-    let v = c.args.caller.now in
-    let more : c.as_slice.result.now ≡ v.more = c.as_slice.ensures.value ∙ ap (λ (x : CallerView). x.more) c.caller.view_is in
-    let same : c.caller.inside.change ≡ v.change = ap (λ (x : CallerView). x.change) c.caller.view_is in
-    let drawn : IsDrawn v.seat e (pending_of c.args.under (plan_of v) v.change) c.draw_as.new.seat =
-    subst (λ (z : CallerView × List ℕ). IsDrawn z.0.seat e (pending_of c.args.under (splice_of z.0.seat z.0.cut z.1) z.0.change) c.draw_as.new.seat)
-    (λ i. (c.caller.view_is i, more i)) c.draw_as.ensures.drawn in
-    writes_row v _ e c.args.under span change same drawn over chosen round
+    writes_row c.args.caller.now _ span (ap (λ (x : CallerView). x.change) c.caller.view_is) (drawn_as (goal.at.returns-clause-store c).After-draw_as) over
+    chosen round

@@ -13,8 +13,7 @@ pub add_as_uncounted-requires-clause-allowed : goal.add_as_uncounted-requires-cl
 add_as_uncounted-requires-clause-allowed g c =
     let s = c.args.seat.now in
     let note = entry_note c.args.draft.now (pending_of c.args.draft.now.under (splice_of s c.args.cut c.args.more.now) c.args.change) in
-    let r = c.requires in
-    let place = 11 + 129 * c.self.inside.blocks in
+    let r = c.requires in let place = 11 + 129 * c.self.inside.blocks in
     let table : blocks_by s.table ≡ c.self.inside.blocks =
     ap blocks_by (r.table ∙ sym (ap (λ (t : TableShape). t.table) c.self.view_is)) ∙ sym c.self.invariant.1 in
     subst (λ (n : Note). IsAllowed HasHistory Allowed n s.number s.held s.pass (adds place 1)) (sym r.note)
@@ -27,11 +26,9 @@ add_as_uncounted-requires-clause-place g c = let wide = c.self.invariant.0 in om
 -- the draw gave the entry of the draft the number that was found
 pub returns-clause-drawn : goal.returns-clause-drawn
 returns-clause-drawn g c =
-    let s = c.args.seat.now in
-    let u = c.add_as_uncounted.new.seat in
+    let s = c.args.seat.now in let u = c.add_as_uncounted.new.seat in
     let pending = pending_of c.args.draft.now.under (splice_of s c.args.cut c.args.more.now) c.args.change in
-    let note = entry_note c.args.draft.now pending in
-    let place = 11 + 129 * c.self.inside.blocks in
+    let note = entry_note c.args.draft.now pending in let place = 11 + 129 * c.self.inside.blocks in
     let table : blocks_by s.table ≡ c.self.inside.blocks =
     ap blocks_by (c.requires.table ∙ sym (ap (λ (t : TableShape). t.table) c.self.view_is)) ∙ sym c.self.invariant.1 in
     let made = subst (λ (n : Note). IsMade HasHistory Allowed n s.number s.held s.pass (adds place 1) c.add_as_uncounted.result u.pass) c.requires.note

@@ -14,10 +14,9 @@ load_as_uncounted-requires-clause-allowed c =
 -- it was one step, with which the caller has noted the layout and the words of all slots
 pub returns-clause-seen : goal.returns-clause-seen
 returns-clause-seen c =
-    let s = c.caller.inside.seat in
-    let u = c.load_as_uncounted.new.seat in
+    let s = c.caller.inside.seat in let u = c.load_as_uncounted.new.seat in
     subst (λ (v : CallerView). IsSeen v.seat 0 c.load_as_uncounted.result u) c.caller.view_is
-    (seen_is s u 0 2 c.load_as_uncounted.result c.caller.invariant.7 (omega arith) refl (search rules) c.caller.invariant.5 (search rules)
+    (seen_is 0 c.load_as_uncounted.result c.caller.invariant.7 (omega arith) refl (search rules) c.caller.invariant.5 (search rules)
     c.load_as_uncounted.ensures.call c.load_as_uncounted.ensures.made)
 
 -- there is a row, and there are at most so many

@@ -1,19 +1,16 @@
-use Rattle.std.proofs.Common.{rules, suc, ◌≡◌, ◌+◌, ◌*◌, ◌≤◌, inr, sym, ap, ◌∙◌, subst, arith}
-use Rattle.range_rw.specs.Contract.{TableShape}
+use Rattle.std.proofs.Common.{rules, suc, ◌≡◌, ◌+◌, ◌*◌, ◌≤◌, inr, ap, ◌∙◌, subst, arith}
 use Rattle.area_guard.specs.Rows.{blocks_by}
 use Rattle.area_guard.specs.Keeping.{no_note}
 use Rattle.area_rows.specs.Callers.{CallerView}
 use Rattle.area_rows.specs.Layouts.{IsSeen, layout_place}
-use Rattle.area_rows.proofs.LayoutLoads.{may_layout, seen_is}
+use Rattle.area_rows.proofs.LayoutLoads.{may_layout, seen_is, own_blocks}
 use Rattle.area_rows.proofs.space.Space.load_told.Goals as goal
 
 -- the guard allows the load of a body word
 pub load_as_uncounted-requires-clause-allowed : goal.load_as_uncounted-requires-clause-allowed
 load_as_uncounted-requires-clause-allowed c =
     let p = c.caller.inside.seat.pass in
-    let same = ap (λ (v : CallerView). blocks_by v.seat.table) c.caller.view_is in
-    let table : blocks_by c.caller.inside.seat.table ≡ c.self.inside.blocks =
-    same ∙ (ap blocks_by (c.requires.table ∙ sym (ap (λ (t : TableShape). t.table) c.self.view_is)) ∙ sym c.self.invariant.1) in
+    let table = ap (λ (v : CallerView). blocks_by v.seat.table) c.caller.view_is ∙ own_blocks c.requires.table c.self.view_is c.self.invariant.1 in
     let own = c.caller.invariant.7 in
     let pass = ap (λ (v : CallerView). v.seat.pass.blocks) c.caller.view_is in
     let lt = c.requires.there in
@@ -23,22 +20,16 @@ load_as_uncounted-requires-clause-allowed c =
 pub load_as_uncounted-requires-clause-place : goal.load_as_uncounted-requires-clause-place
 load_as_uncounted-requires-clause-place c =
     let wide = c.self.invariant.0 in
-    let same = ap (λ (v : CallerView). blocks_by v.seat.table) c.caller.view_is in
-    let table : blocks_by c.caller.inside.seat.table ≡ c.self.inside.blocks =
-    same ∙ (ap blocks_by (c.requires.table ∙ sym (ap (λ (t : TableShape). t.table) c.self.view_is)) ∙ sym c.self.invariant.1) in
+    let table = ap (λ (v : CallerView). blocks_by v.seat.table) c.caller.view_is ∙ own_blocks c.requires.table c.self.view_is c.self.invariant.1 in
     let own = c.caller.invariant.7 in
     let pass = ap (λ (v : CallerView). v.seat.pass.blocks) c.caller.view_is in
-    let lt = c.requires.there in
-    omega arith
+    let lt = c.requires.there in omega arith
 
 -- it was one step, with which the caller has noted the layout and the words of all slots
 pub returns-clause-seen : goal.returns-clause-seen
 returns-clause-seen c =
-    let s = c.caller.inside.seat in
-    let u = c.load_as_uncounted.new.seat in
-    let same = ap (λ (v : CallerView). blocks_by v.seat.table) c.caller.view_is in
-    let table : blocks_by s.table ≡ c.self.inside.blocks =
-    same ∙ (ap blocks_by (c.requires.table ∙ sym (ap (λ (t : TableShape). t.table) c.self.view_is)) ∙ sym c.self.invariant.1) in
+    let s = c.caller.inside.seat in let u = c.load_as_uncounted.new.seat in
+    let table = ap (λ (v : CallerView). blocks_by v.seat.table) c.caller.view_is ∙ own_blocks c.requires.table c.self.view_is c.self.invariant.1 in
     let own = c.caller.invariant.7 in
     let pass = ap (λ (v : CallerView). v.seat.pass.blocks) c.caller.view_is in
     let lt = c.requires.there in
@@ -46,6 +37,5 @@ returns-clause-seen c =
     let up : suc (1 + c.args.block) ≡ 2 + c.args.block = omega arith in
     let at : 3 + 1 + 128 * c.self.inside.blocks + c.args.block ≡ 3 + 128 * blocks_by s.table + (1 + c.args.block) = omega arith in
     subst (λ (v : CallerView). IsSeen v.seat (2 + c.args.block) c.load_as_uncounted.result u) c.caller.view_is
-    (seen_is s u (2 + c.args.block) (3 + 1 + 128 * c.self.inside.blocks + c.args.block) c.load_as_uncounted.result c.caller.invariant.7 few
-    (at ∙ ap (layout_place (blocks_by s.table)) up) (search rules) c.caller.invariant.5 (search rules)
-    c.load_as_uncounted.ensures.call c.load_as_uncounted.ensures.made)
+    (seen_is (2 + c.args.block) c.load_as_uncounted.result c.caller.invariant.7 few (at ∙ ap (layout_place (blocks_by s.table)) up) (search rules)
+    c.caller.invariant.5 (search rules) c.load_as_uncounted.ensures.call c.load_as_uncounted.ensures.made)

@@ -21,11 +21,10 @@ load_as_uncounted-requires-clause-place c = let wide = c.self.invariant.0 in ome
 -- the load is a look, at a moment of the running space
 pub returns-clause-look : goal.returns-clause-look
 returns-clause-look c =
-    let s = c.caller.inside.seat in
-    let u = c.load_as_uncounted.new.seat in
+    let s = c.caller.inside.seat in let u = c.load_as_uncounted.new.seat in
     let table : blocks_by s.table ≡ c.self.inside.blocks =
     ap (λ (v : CallerView). blocks_by v.seat.table) c.caller.view_is
     ∙ (ap blocks_by (c.requires.table ∙ sym (ap (λ (t : TableShape). t.table) c.self.view_is)) ∙ sym c.self.invariant.1) in
     subst (λ (v : CallerView). IsLook v.seat c.load_as_uncounted.result u) c.caller.view_is
-    (look_is (11 + 129 * c.self.inside.blocks) s u c.load_as_uncounted.result c.caller.invariant.7 (ap number_place (sym table))
+    (look_is (11 + 129 * c.self.inside.blocks) c.load_as_uncounted.result c.caller.invariant.7 (ap number_place (sym table))
     c.load_as_uncounted.ensures.call c.load_as_uncounted.ensures.made)

@@ -1,9 +1,9 @@
 use Rattle.std.proofs.Common.{ℕ, ◌∙◌, length, ap, sym, subst, arith}
 use Rattle.area_guard.specs.Rows.{blocks_by, room_of}
-use Rattle.row_plans.specs.Plans.{IsRowList}
-use Rattle.row_plans.specs.Loads.{TakesLoads}
 use Rattle.area_guard.specs.declared.guard.Pass.{Pass}
 use Rattle.area_guard.specs.Reads.{known_rows}
+use Rattle.row_plans.specs.Plans.{IsRowList}
+use Rattle.row_plans.specs.Loads.{TakesLoads}
 use Rattle.plan_words.specs.Reading.{reading_on}
 use Rattle.area_rows.proofs.LayoutLoads.{seen_reads}
 use Rattle.area_rows.proofs.Reading.{step_taken}
@@ -13,13 +13,8 @@ use Rattle.area_rows.proofs.space.Space.plan.Goals as goal
 -- with the row count the caller knows all rows
 pub plan_call-requires-clause-may : goal.plan_call-requires-clause-may
 plan_call-requires-clause-may c =
-    let n = c.load_count-count.ensures.seen in
-    let all = n.all c.requires.held in
-    let fits = all.3 in
-    let rows = ap length all.1 in
-    let many = n.rows in
-    let found = n.word in
-    let table = ap (λ t. room_of (blocks_by t)) c.requires.table in
+    let n = c.load_count-count.ensures.seen in let all = n.all c.requires.held in let fits = all.3 in let rows = ap length all.1 in let many = n.rows in
+    let found = n.word in let table = ap (λ t. room_of (blocks_by t)) c.requires.table in
     record {
       table_is = n.step.table ∙ c.requires.table;
       held = n.step.held ∙ c.requires.held;
@@ -33,10 +28,8 @@ plan_call-requires-clause-may c =
 -- the plan on the rows that are known is the plan of the call while they stand
 pub returns-clause-planned : goal.returns-clause-planned
 returns-clause-planned c =
-    let n = c.load_count-count.ensures.seen in
-    let e = c.plan_call.ensures in
-    let p = c.plan_call.result in
-    plan_shows c.plan_call.new.self c.args.call.now p.0 p.1 (e.reading.held ∙ (n.step.held ∙ c.requires.held))
+    let n = c.load_count-count.ensures.seen in let e = c.plan_call.ensures in
+    plan_shows c.plan_call.new.self (e.reading.held ∙ (n.step.held ∙ c.requires.held))
     (e.reading.read.pending ∙ (ap (λ (x : Pass). x.pending) n.step.pass ∙ c.requires.rest)) e.known e.plan
 
 -- the plan of a refused call leaves the rows as they are
@@ -49,8 +42,7 @@ returns-clause-refused c = λ why is.
 pub returns-clause-reading : goal.returns-clause-reading
 returns-clause-reading c =
     let n = c.load_count-count.ensures in
-    reading_on c.args.caller.now.seat c.load_count-count.new.caller.seat c.plan_call.new.self.seat
-    (seen_reads c.args.caller.now.seat c.load_count-count.new.caller.seat 0 c.load_count-count.result n.seen) c.plan_call.ensures.reading
+    reading_on c.args.caller.now.seat c.load_count-count.new.caller.seat c.plan_call.new.self.seat (seen_reads n.seen) c.plan_call.ensures.reading
 
 -- no row goes by it, and none comes
 pub returns-clause-leaves : goal.returns-clause-leaves
@@ -60,5 +52,5 @@ returns-clause-leaves c = c.plan_call.ensures.leaves
 pub returns-clause-loads : goal.returns-clause-loads
 returns-clause-loads c =
     let new = c.plan_call.new.self.seat in
-    let count = step_taken c.args.caller.now.seat c.load_count-count.new.caller.seat _ _ c.load_count-count.ensures.seen.step in
+    let count = step_taken _ _ _ _ c.load_count-count.ensures.seen.step in
     subst (λ (n : ℕ). TakesLoads (known_rows new.pass) c.args.call.now n new.trace.taken) count c.plan_call.ensures.loads

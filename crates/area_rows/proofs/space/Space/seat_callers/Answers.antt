@@ -1,24 +1,22 @@
 use Rattle.std.proofs.Common.{rules, ◌≡◌, ◌+◌, ◌<◌, ◌≤◌, ◌^◌, length, vec_len, vec_capacity, ap, ◌∙◌, sym, arith}
+use Rattle.std.proofs.lemmas.List.Edits.{length-remove}
 use Rattle.std.specs.Prelude.{slice_index}
 use Rattle.list_cuts.specs.Cut.{list_count}
 use Rattle.range_rw.specs.Contract.{SeatState}
-use Rattle.std.proofs.lemmas.List.Edits.{length-remove}
 use Rattle.area_guard.specs.declared.guard.Pass.{Pass}
-use Rattle.page_types.specs.declared.TheConstants.{SPARE}
 use Rattle.area_guard.specs.Rows.{blocks_by, room_of}
-use Rattle.area_rows.proofs.Beginning.{first_of, first_seats, next_seat, seats_on, one_caller, new_caller}
 use Rattle.area_guard.specs.Parts.{none_is}
+use Rattle.page_types.specs.declared.TheConstants.{SPARE}
+use Rattle.area_rows.proofs.Beginning.{first_of, first_seats, next_seat, seats_on, one_caller, new_caller}
 use Rattle.area_rows.proofs.space.Space.seat_callers.Goals as goal
 
 -- a new seat and empty lists make a caller
 pub invariant_of-push_reserved : goal.invariant_of-push_reserved
 invariant_of-push_reserved c =
     let some_left : 0 < length c.seats.seats.items = search rules in
-    let table = c.args.table.now.table in
     let lists = list_count c.args.table.now.cut in
-    let first = first_of c.args.start.now c.args.calls.now (blocks_by table) in
-    let s = next_seat lists table first c.seats.worker c.seats.seats.items c.remove-seat.result
-    c.seats.invariant.rest some_left c.remove-seat.ensures.value in (
+    let first = first_of c.args.start.now c.args.calls.now (blocks_by c.args.table.now.table) in
+    let s = next_seat lists c.args.table.now.table first c.seats.worker c.seats.seats.items c.seats.invariant.rest some_left c.remove-seat.ensures.value in (
       ap (λ (x : SeatState Pass). x.number) s,
       search rules ∙ sym (ap (λ (x : SeatState Pass). x.pass.mine) s),
       search rules,
@@ -47,18 +45,16 @@ pub seats-preserved : goal.seats-preserved
 seats-preserved c =
     let i = c.seats.invariant in
     let some_left : 0 < length c.seats.seats.items = search rules in
-    let table = c.args.table.now.table in
-    let lists = list_count c.args.table.now.cut in
+    let table = c.args.table.now.table in let lists = list_count c.args.table.now.cut in
     let first = first_of c.args.start.now c.args.calls.now (blocks_by table) in
-    let start = c.args.start.now in
-    let s = next_seat lists table first c.seats.worker c.seats.seats.items c.remove-seat.result i.rest some_left c.remove-seat.ensures.value in
+    let s = next_seat lists table first c.seats.worker c.seats.seats.items i.rest some_left c.remove-seat.ensures.value in
     record {
       room = search rules;
       count = search rules;
       sum = let left = length-remove c.seats.seats.items 0 some_left in let e = ap length c.remove-seat.ensures.items in let t = i.sum in omega arith;
       new =
           let p = c.in_ok-plan.ensures.items in
-          rw c.push_reserved.ensures.items (one_caller lists table start c.args.calls.now c.seats.made.items _ c.seats.worker i.count
-          i.new (new_caller _ _ (slice_index c.args.calls.now c.seats.worker) _ s p));
-      rest = seats_on lists table first c.seats.worker c.seats.seats.items c.remove-seat.new.self.items i.rest c.remove-seat.ensures.items;
+          rw c.push_reserved.ensures.items (one_caller lists table c.args.start.now c.args.calls.now c.seats.made.items i.count i.new
+          (new_caller (slice_index c.args.calls.now c.seats.worker) s p));
+      rest = seats_on lists table first c.seats.worker c.seats.seats.items i.rest c.remove-seat.ensures.items;
     }

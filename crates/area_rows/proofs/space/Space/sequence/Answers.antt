@@ -12,15 +12,13 @@ load_as_uncounted-requires-clause-allowed c = may_sequence no_note _ _ _ c.calle
 -- the load is a reading
 pub returns-clause-reading : goal.returns-clause-reading
 returns-clause-reading c =
-    let s = c.caller.inside.seat in
-    let u = c.load_as_uncounted.new.seat in
+    let s = c.caller.inside.seat in let u = c.load_as_uncounted.new.seat in
     subst (λ (v : CallerView). IsReading v.seat u) c.caller.view_is
-    (sequence_is s u c.load_as_uncounted.result c.caller.invariant.5 c.load_as_uncounted.ensures.call c.load_as_uncounted.ensures.made).0
+    (sequence_is c.load_as_uncounted.result c.caller.invariant.5 c.load_as_uncounted.ensures.call c.load_as_uncounted.ensures.made).0
 
 -- while a range is held it counts the entries under everything
 pub returns-clause-counts : goal.returns-clause-counts
 returns-clause-counts c =
-    let s = c.caller.inside.seat in
-    let u = c.load_as_uncounted.new.seat in
+    let s = c.caller.inside.seat in let u = c.load_as_uncounted.new.seat in
     subst (λ (v : CallerView). IsSome v.seat.held → CountsWhole u c.load_as_uncounted.result) c.caller.view_is
-    (sequence_is s u c.load_as_uncounted.result c.caller.invariant.5 c.load_as_uncounted.ensures.call c.load_as_uncounted.ensures.made).1
+    (sequence_is c.load_as_uncounted.result c.caller.invariant.5 c.load_as_uncounted.ensures.call c.load_as_uncounted.ensures.made).1

@@ -15,8 +15,7 @@ returns-clause-rest g c = ap (λ (p : Pass). p.pending) c.try_acquire.ensures.ca
 
 -- a try is refused as too long exactly where a walk of it was as long as one may be
 pub returns-clause-long : goal.returns-clause-long
-returns-clause-long g c =
-    subst (λ (z : ℕ × SeatState Pass). IfErr c.try_acquire.result (λ why. IsLongRefusal why ↔ IsSpentIn z.0 z.1 c.try_acquire.new.seat))
+returns-clause-long g c = subst (λ (z : ℕ × SeatState Pass). IfErr c.try_acquire.result (λ why. IsLongRefusal why ↔ IsSpentIn z.0 z.1 c.try_acquire.new.seat))
     (λ i. (ap (λ (t : TableShape). t.seats) c.self.view_is i, ap (λ (v : CallerView). v.seat) c.caller.view_is i)) c.try_acquire.ensures.long
 
 -- the ready nodes of each list

@@ -16,7 +16,7 @@ is_ready c =
     subst HasToWrite (sym c.caller.view_is) c.requires.planned in
     let table = ap (λ (x : CallerView). x.seat.table) c.caller.view_is ∙ (c.requires.table ∙ sym (ap (λ (t : TableShape). t.table) c.self.view_is)) in
     subst (λ (l : List ℕ). IsReady c.self.inside.table c.self.inside.blocks v.count v.cut.at v.cut.gone l v.seat) (sym c.as_slice.ensures.value)
-    (ready c.self.inside.table c.self.inside.blocks _ c.self.invariant.0 c.self.invariant.1 c.self.invariant.2 table c.caller.invariant.7 has)
+    (ready c.self.inside.table c.self.invariant.0 c.self.invariant.1 c.self.invariant.2 table c.caller.invariant.7 has)
 
 pub write_splice-requires : goal.write_splice-requires
 write_splice-requires c =
@@ -39,15 +39,8 @@ write_splice-requires c =
 -- it is a caller still
 pub invariant_of-caller : goal.invariant_of-caller
 invariant_of-caller c =
-    let w = c.write_splice.ensures.written in
-    let i = c.caller.invariant in
-    let most = w.most in
-    let blocks = w.blocks in
-    let room = ap room_of blocks in
-    let table = ap blocks_by w.table in
-    let few = i.3 in
-    let wide = i.4 in
-    let is = i.7 in
+    let w = c.write_splice.ensures.written in let i = c.caller.invariant in let most = w.most in let blocks = w.blocks in let room = ap room_of blocks in
+    let table = ap blocks_by w.table in let few = i.3 in let wide = i.4 in let is = i.7 in
     let limit = i.8 in (
       w.number ∙ i.0,
       i.1 ∙ sym w.mine,
@@ -71,8 +64,7 @@ returns-clause-steps c =
     let taken = ap (λ (v : CallerView). v.seat.trace.taken) c.caller.view_is in
     let more = ap length (c.as_slice.ensures.value ∙ ap (λ (v : CallerView). v.more) c.caller.view_is) in
     let table = ap (λ (t : TableShape). blocks_by t.table) c.self.view_is in
-    let blocks = c.self.invariant.1 in
-    omega arith
+    let blocks = c.self.invariant.1 in omega arith
 
 -- and in one where nothing goes and nothing comes
 pub returns-clause-none : goal.returns-clause-none
@@ -80,5 +72,4 @@ returns-clause-none c = λ gone none.
     let cut = ap (λ (v : CallerView). v.cut.gone) c.caller.view_is in
     let taken = ap (λ (v : CallerView). v.seat.trace.taken) c.caller.view_is in
     let more = ap length (c.as_slice.ensures.value ∙ ap (λ (v : CallerView). v.more) c.caller.view_is) in
-    let steps = c.write_splice.ensures.none (omega arith) (omega arith) in
-    omega arith
+    let steps = c.write_splice.ensures.none (omega arith) (omega arith) in omega arith
