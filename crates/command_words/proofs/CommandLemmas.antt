@@ -1,10 +1,9 @@
 -- The spellings of the command line are read in one way: an option's first two letters tell which it is, and its name
 -- has no `=` in it. Options are asked for one by one: what was asked for so far, with what is left, is what all of them
 -- ask.
-use Rattle.std.proofs.Common.{◌≡◌, ℕ, ◌+◌, ◌<◌, ◌≤◌, ◌^◌, Bool, true, false, List, [], ◌∷◌, ◌++◌, length, get_or, take}
-use Rattle.std.proofs.Common.{drop, Option, Some, None, inl, inr, refl, sym, subst, ap, ◌∙◌, arith, append_assoc}
-use Rattle.std.proofs.Common.{append-nil, add-one, length-append, codes, option_to_list, unwrap_or, is_some, IsNone}
-use Rattle.std.proofs.Common.{IfSome, if◌then◌else◌}
+use Rattle.std.proofs.Common.{◌≡◌, ℕ, ◌+◌, ◌<◌, ◌≤◌, ◌^◌, Bool, true, false, List, [], ◌∷◌, ◌++◌, length, get_or, take, drop, Option, Some, None, inl, inr}
+use Rattle.std.proofs.Common.{refl, sym, subst, ap, ◌∙◌, arith, append_assoc, add-one, length-append, codes, option_to_list, unwrap_or, is_some}
+use Rattle.std.proofs.Common.{IsNone, IfSome, if◌then◌else◌}
 use Rattle.std.proofs.Math.Seq.{drop-cons, take-length}
 use Rattle.std.proofs.lemmas.List.{append_cancel_left, take-append-drop, get_or_append_left}
 use Rattle.std.proofs.lemmas.List.Sums.{passes_at_first}
@@ -19,9 +18,8 @@ use Rattle.command_words.specs.declared.commands.Command.TheVariants.{Play, Load
 use Rattle.command_words.specs.declared.commands.Given.{Given}
 use Rattle.command_words.specs.declared.commands.Given.TheVariants.{Opening, Log, Touched, Threads, Seed, Calls}
 use Rattle.command_words.specs.Spellings.{AreSpellings, Ask}
-use Rattle.command_words.specs.Commands.{option_name, number_of, HasNumberInRange, AreWritten, BeginsWithOption, Kind}
-use Rattle.command_words.specs.Commands.{of_opening, of_log, of_touched, of_threads, of_seed, of_calls, value_for, asked_for, DoAsk}
-use Rattle.command_words.specs.Commands.{IsCommand, HasRanges, AskFor, IsFlag, IsNamed, IsNumbered}
+use Rattle.command_words.specs.Commands.{option_name, number_of, HasNumberInRange, AreWritten, BeginsWithOption, Kind, of_opening, of_log, of_touched}
+use Rattle.command_words.specs.Commands.{of_threads, of_seed, of_calls, value_for, asked_for, DoAsk, IsCommand, HasRanges, AskFor, IsFlag, IsNamed, IsNumbered}
 use Rattle.command_words.proofs.Spellings.{of_option, value_once}
 
 -- the first two letters of an option's name, behind its dashes, as one number
@@ -39,62 +37,46 @@ letter_of (Calls n) = 196
 
 letter-option_name : (given : Given) → letter (option_name given) ≡ letter_of given
 letter-option_name Opening = refl
-letter-option_name Log = refl
-letter-option_name Touched = refl
-letter-option_name (Threads n) = refl
-letter-option_name (Seed n) = refl
-letter-option_name (Calls n) = refl
+letter-option_name given = refl
 
 name_is_long : (given : Given) → 3 < length (option_name given)
 name_is_long Opening = omega arith
-name_is_long Log = omega arith
-name_is_long Touched = omega arith
-name_is_long (Threads n) = omega arith
-name_is_long (Seed n) = omega arith
-name_is_long (Calls n) = omega arith
+name_is_long given = omega arith
 
 -- the first word of a spelling has the letters of its name
 first_letter : (name : List ℕ) (number : Option ℕ) (rest words : List (List ℕ)) → 3 < length name
     → AreWritten name number rest words → letter (get_or words 0 []) ≡ letter name
-first_letter name None rest words long e = ap (λ (ws : List (List ℕ)). letter (get_or ws 0 [])) e
-first_letter name (Some n) rest words long (inl e) = ap (λ (ws : List (List ℕ)). letter (get_or ws 0 [])) e
+first_letter name None rest words long e = ap (λ ws. letter (get_or ws 0 [])) e
+first_letter name (Some n) rest words long (inl e) = ap (λ ws. letter (get_or ws 0 [])) e
 first_letter name (Some n) rest words long (inr e) =
     let within : 3 < length (name ++ codes "=") = simp length-append (omega arith) in
     let third : get_or (name ++ codes "=" ++ decimal n) 2 0 ≡ get_or name 2 0 =
     get_or_append_left (name ++ codes "=") (decimal n) 0 2 (omega (arith, within)) ∙ get_or_append_left name (codes "=") 0 2 (omega (arith, long)) in
     let fourth : get_or (name ++ codes "=" ++ decimal n) 3 0 ≡ get_or name 3 0 =
     get_or_append_left (name ++ codes "=") (decimal n) 0 3 within ∙ get_or_append_left name (codes "=") 0 3 long in
-    ap (λ (ws : List (List ℕ)). letter (get_or ws 0 [])) e
-    ∙ (let both : letter (name ++ codes "=" ++ decimal n) ≡ letter name = omega (arith, third, fourth) in both)
+    ap (λ ws. letter (get_or ws 0 [])) e ∙ (let both : letter (name ++ codes "=" ++ decimal n) ≡ letter name = omega (arith, third, fourth) in both)
 
 begins_letter : (given : Given) (rest words : List (List ℕ)) → AreWritten (option_name given) (number_of given) rest words
     → letter (get_or words 0 []) ≡ letter_of given
-begins_letter given rest words h =
-    first_letter (option_name given) (number_of given) rest words (name_is_long given) h ∙ letter-option_name given
+begins_letter given rest words h = first_letter (option_name given) (number_of given) rest words (name_is_long given) h ∙ letter-option_name given
 
 -- a name with `=` and a value behind it isn't the name
 longer : (name value : List ℕ) → name ≡ name ++ codes "=" ++ value → ⊥
-longer name value e =
-    let size : length name ≡ length (name ++ codes "=" ++ value) = ap length e in
-    let sum : length (name ++ codes "=" ++ value) ≡ length name + 1 + length value = simp length-append refl in
-    omega arith
+longer name value e = let size : length name ≡ length (name ++ codes "=" ++ value) = ap length e in
+    let sum : length (name ++ codes "=" ++ value) ≡ length name + 1 + length value = simp length-append refl in omega arith
 
 -- one name is written with one number alone
 same_number : (name : List ℕ) (m n : ℕ) (r s words : List (List ℕ)) → m < 2 ^ 64 → n < 2 ^ 64
     → AreWritten name (Some m) r words → AreWritten name (Some n) s words → (m ≡ n) × (r ≡ s)
 same_number name m n r s words m_fits n_fits (inl a) (inl b) =
-    let e : name ∷ decimal m ∷ r ≡ name ∷ decimal n ∷ s = sym a ∙ b in
-    let text : decimal m ≡ decimal n = cc in
-    (decimal_injective m n m_fits n_fits text, cc)
+    let e : name ∷ decimal m ∷ r ≡ name ∷ decimal n ∷ s = sym a ∙ b in let text : decimal m ≡ decimal n = cc in (decimal_injective m n m_fits n_fits text, cc)
 same_number name m n r s words m_fits n_fits (inl a) (inr b) =
-    let e : name ∷ decimal m ∷ r ≡ (name ++ codes "=" ++ decimal n) ∷ s = sym a ∙ b in
-    absurd (longer name (decimal n) (ap (λ (ws : List (List ℕ)). get_or ws 0 []) e))
+    let e : name ∷ decimal m ∷ r ≡ (name ++ codes "=" ++ decimal n) ∷ s = sym a ∙ b in absurd (longer name (decimal n) (ap (λ ws. get_or ws 0 []) e))
 same_number name m n r s words m_fits n_fits (inr a) (inl b) =
-    let e : name ∷ decimal n ∷ s ≡ (name ++ codes "=" ++ decimal m) ∷ r = sym b ∙ a in
-    absurd (longer name (decimal m) (ap (λ (ws : List (List ℕ)). get_or ws 0 []) e))
+    let e : name ∷ decimal n ∷ s ≡ (name ++ codes "=" ++ decimal m) ∷ r = sym b ∙ a in absurd (longer name (decimal m) (ap (λ ws. get_or ws 0 []) e))
 same_number name m n r s words m_fits n_fits (inr a) (inr b) =
     let e : (name ++ codes "=" ++ decimal m) ∷ r ≡ (name ++ codes "=" ++ decimal n) ∷ s = sym a ∙ b in
-    let first : name ++ codes "=" ++ decimal m ≡ name ++ codes "=" ++ decimal n = ap (λ (ws : List (List ℕ)). get_or ws 0 []) e in
+    let first : name ++ codes "=" ++ decimal m ≡ name ++ codes "=" ++ decimal n = ap (λ ws. get_or ws 0 []) e in
     let text : decimal m ≡ decimal n = append_cancel_left (name ++ codes "=") (decimal m) (decimal n) first in
     (decimal_injective m n m_fits n_fits text, ap (drop 1) e)
 
@@ -104,14 +86,11 @@ begins_once Opening Opening r s words b d = (refl, ap (drop 1) (sym b.1 ∙ d.1)
 begins_once Log Log r s words b d = (refl, ap (drop 1) (sym b.1 ∙ d.1))
 begins_once Touched Touched r s words b d = (refl, ap (drop 1) (sym b.1 ∙ d.1))
 begins_once (Threads m) (Threads n) r s words b d =
-    let (same, rest) = same_number (codes "--threads") m n r s words (omega (arith, b.0)) (omega (arith, d.0)) b.1 d.1 in
-    (ap (λ (x : ℕ). Threads x) same, rest)
+    let (same, rest) = same_number (codes "--threads") m n r s words (omega (arith, b.0)) (omega (arith, d.0)) b.1 d.1 in (ap (λ x. Threads x) same, rest)
 begins_once (Seed m) (Seed n) r s words b d =
-    let (same, rest) = same_number (codes "--seed") m n r s words (omega (arith, b.0)) (omega (arith, d.0)) b.1 d.1 in
-    (ap (λ (x : ℕ). Seed x) same, rest)
+    let (same, rest) = same_number (codes "--seed") m n r s words (omega (arith, b.0)) (omega (arith, d.0)) b.1 d.1 in (ap (λ x. Seed x) same, rest)
 begins_once (Calls m) (Calls n) r s words b d =
-    let (same, rest) = same_number (codes "--calls") m n r s words (omega (arith, b.0)) (omega (arith, d.0)) b.1 d.1 in
-    (ap (λ (x : ℕ). Calls x) same, rest)
+    let (same, rest) = same_number (codes "--calls") m n r s words (omega (arith, b.0)) (omega (arith, d.0)) b.1 d.1 in (ap (λ x. Calls x) same, rest)
 begins_once g h r s words b d = absurd (omega (arith, begins_letter g r words b.1, begins_letter h s words d.1))
 
 -- a name and a number tell one option alone
@@ -119,26 +98,22 @@ named_once : (g h : Given) (n : ℕ) → option_name g ≡ option_name h → num
 named_once Opening Opening n e p q = refl
 named_once Log Log n e p q = refl
 named_once Touched Touched n e p q = refl
-named_once (Threads a) (Threads b) n e p q = let same : a ≡ b = cc in ap (λ (x : ℕ). Threads x) same
-named_once (Seed a) (Seed b) n e p q = let same : a ≡ b = cc in ap (λ (x : ℕ). Seed x) same
-named_once (Calls a) (Calls b) n e p q = let same : a ≡ b = cc in ap (λ (x : ℕ). Calls x) same
+named_once (Threads a) (Threads b) n e p q = let same : a ≡ b = cc in ap (λ x. Threads x) same
+named_once (Seed a) (Seed b) n e p q = let same : a ≡ b = cc in ap (λ x. Seed x) same
+named_once (Calls a) (Calls b) n e p q = let same : a ≡ b = cc in ap (λ x. Calls x) same
 named_once g h n e p q = absurd (omega (arith, sym (letter-option_name g) ∙ ap letter e ∙ letter-option_name h))
 
 -- the number of an option fits 32 bits
 range_fits : (given : Given) (n : ℕ) → HasNumberInRange given → number_of given ≡ Some n → n < 2 ^ 32
-range_fits Opening n in_range e = absurd cc
-range_fits Log n in_range e = absurd cc
-range_fits Touched n in_range e = absurd cc
 range_fits (Threads m) n in_range e = let same : m ≡ n = cc in omega (arith, in_range)
 range_fits (Seed m) n in_range e = let same : m ≡ n = cc in omega (arith, in_range)
 range_fits (Calls m) n in_range e = let same : m ≡ n = cc in omega (arith, in_range)
+range_fits given n in_range e = absurd cc
 
 -- the text of an option's number is the text of one number alone
 number_once : (name value : List ℕ) (n : ℕ) → n < 2 ^ 32 → value ≡ decimal n → (given : Given) → IsNumbered name value given → IsNamed name n given
-number_once name value n fits text given h =
-    let wide : h.number < 2 ^ 32 = range_fits given h.number h.in_range h.named.1 in
-    let same : h.number ≡ n = decimal_injective h.number n (omega arith) (omega arith) (sym h.text ∙ text) in
-    (h.named.0, h.named.1 ∙ ap (λ (x : ℕ). Some x) same)
+number_once name value n fits text given h = let wide : h.number < 2 ^ 32 = range_fits given h.number h.in_range h.named.1 in
+    let same : h.number ≡ n = decimal_injective h.number n (omega arith) (omega arith) (sym h.text ∙ text) in (h.named.0, h.named.1 ∙ ap (λ x. Some x) same)
 
 -- a name of no option is no option's
 pub not_named : (name value : List ℕ) (n : ℕ) → n < 2 ^ 32 → value ≡ decimal n → ((given : Given) → IsNamed name n given → ⊥)
@@ -148,10 +123,8 @@ not_named name value n fits text none given h = none given (number_once name val
 -- a number out of its option's range is no option's
 pub not_in_range : (name value : List ℕ) (n : ℕ) (g : Given) → n < 2 ^ 32 → value ≡ decimal n → IsNamed name n g → (HasNumberInRange g → ⊥)
     → (given : Given) → IsNumbered name value given → ⊥
-not_in_range name value n g fits text named out given h =
-    let other = number_once name value n fits text given h in
-    let same : given ≡ g = named_once given g n (sym other.0 ∙ named.0) other.1 named.1 in
-    out (subst HasNumberInRange same h.in_range)
+not_in_range name value n g fits text named out given h = let other = number_once name value n fits text given h in
+    let same : given ≡ g = named_once given g n (sym other.0 ∙ named.0) other.1 named.1 in out (subst HasNumberInRange same h.in_range)
 
 -- a byte is `=`
 abbrev is_equals : ℕ → Bool
@@ -160,37 +133,24 @@ is_equals b = b == 61
 -- a name has no `=` in it
 no_equals : (given : Given) → position_or_len is_equals (option_name given) ≡ length (option_name given)
 no_equals Opening = refl
-no_equals Log = refl
-no_equals Touched = refl
-no_equals (Threads n) = refl
-no_equals (Seed n) = refl
-no_equals (Calls n) = refl
+no_equals given = refl
 
 -- a word is cut at the `=` behind the name
 name_before : (given : Given) (value : List ℕ) → before_first is_equals (option_name given ++ codes "=" ++ value) ≡ option_name given
 name_before Opening value = refl
-name_before Log value = refl
-name_before Touched value = refl
-name_before (Threads n) value = refl
-name_before (Seed n) value = refl
-name_before (Calls n) value = refl
+name_before given value = refl
 
 value_after : (given : Given) (value : List ℕ) → after_first is_equals (option_name given ++ codes "=" ++ value) ≡ value
 value_after Opening value = refl
-value_after Log value = refl
-value_after Touched value = refl
-value_after (Threads n) value = refl
-value_after (Seed n) value = refl
-value_after (Calls n) value = refl
+value_after given value = refl
 
 -- a word is what is before its `=`, the `=` and what is behind it
-cut_at_equals : (word : List ℕ) → position_or_len is_equals word < length word
-    → word ≡ before_first is_equals word ++ codes "=" ++ after_first is_equals word
+cut_at_equals : (word : List ℕ) → position_or_len is_equals word < length word → word ≡ before_first is_equals word ++ codes "=" ++ after_first is_equals word
 cut_at_equals word within =
     let at = position_or_len is_equals word in
     let is : get_or word at 0 ≡ 61 = eqb-true _ _ (passes_at_first is_equals word 0 within) in
     let rest : drop at word ≡ 61 ∷ drop (at + 1) word = drop-cons word at 0 within ∙ rw (is, add-one) refl in
-    sym (take-append-drop at word) ∙ ap (λ (ws : List ℕ). take at word ++ ws) rest ∙ sym (append_assoc (take at word) (codes "=") (drop (at + 1) word))
+    sym (take-append-drop at word) ∙ ap (λ ws. take at word ++ ws) rest ∙ sym (append_assoc (take at word) (codes "=") (drop (at + 1) word))
 
 -- an option that takes a number is written, either way
 written : (given : Given) (n : ℕ) (rest words : List (List ℕ)) → number_of given ≡ Some n → HasNumberInRange given
@@ -200,18 +160,15 @@ written given n rest words e in_range h = (in_range, subst (λ number. AreWritte
 -- a name and the text of its number, as two words, begin the words with that option
 pub apart_begins : (name value : List ℕ) (rest words : List (List ℕ)) (given : Given) → words ≡ name ∷ value ∷ rest
     → IsNumbered name value given → BeginsWithOption given rest words
-apart_begins name value rest words given e h =
-    written given h.number rest words h.named.1 h.in_range
-    (inl (e ∙ rw (h.named.0, h.text) refl))
+apart_begins name value rest words given e h = written given h.number rest words h.named.1 h.in_range (inl (e ∙ rw (h.named.0, h.text) refl))
 
 -- a word of a name, `=` and the text of its number begins the words with that option
 pub joined_begins : (word name value : List ℕ) (rest words : List (List ℕ)) (given : Given) → words ≡ word ∷ rest
     → name ≡ before_first is_equals word → value ≡ after_first is_equals word → position_or_len is_equals word < length word
     → IsNumbered name value given → BeginsWithOption given rest words
 joined_begins word name value rest words given e before after within h =
-    let whole : word ≡ option_name given ++ codes "=" ++ decimal h.number =
-    cut_at_equals word within ∙ rw (sym before ∙ h.named.0, sym after ∙ h.text) refl in
-    written given h.number rest words h.named.1 h.in_range (inr (e ∙ ap (λ (w : List ℕ). w ∷ rest) whole))
+    let whole : word ≡ option_name given ++ codes "=" ++ decimal h.number = cut_at_equals word within ∙ rw (sym before ∙ h.named.0, sym after ∙ h.text) refl in
+    written given h.number rest words h.named.1 h.in_range (inr (e ∙ ap (λ w. w ∷ rest) whole))
 
 -- how words that begin with an option may look
 pub data Looks (given : Given) (rest words : List (List ℕ)) : Type 0 where
@@ -233,16 +190,14 @@ not_bare : (given : Given) (word : List ℕ) → word ≡ option_name given → 
 not_bare given word w within =
     let none = no_equals given in
     let some : position_or_len is_equals (option_name given) < length (option_name given) =
-    subst (λ (v : List ℕ). position_or_len is_equals v < length v) w within in
-    omega arith
+    subst (λ v. position_or_len is_equals v < length v) w within in omega arith
 
 -- a word with `=` that is no option begins none
 pub not_joined : (word name value : List ℕ) (behind words : List (List ℕ)) → words ≡ word ∷ behind
     → name ≡ before_first is_equals word → value ≡ after_first is_equals word → position_or_len is_equals word < length word
     → ((given : Given) → IsNumbered name value given → ⊥) → (given : Given) (rest : List (List ℕ)) → BeginsWithOption given rest words → ⊥
 not_joined word name value behind words e before after within none given rest begins =
-    let head = λ (ws : List (List ℕ)). get_or ws 0 [] in
-    elim (looks given rest words begins) [
+    let head = λ (ws : List (List ℕ)). get_or ws 0 [] in elim (looks given rest words begins) [
       | as_flag h is ↦ absurd (not_bare given word (ap head (sym e ∙ is)) within)
       | as_two n h is ↦ absurd (not_bare given word (ap head (sym e ∙ is)) within)
       | as_one n h is ↦
@@ -253,37 +208,32 @@ not_joined word name value behind words e before after within none given rest be
     ]
 
 -- a word without `=` is no option with its number in it
-not_one : (given : Given) (n : ℕ) (word : List ℕ) → position_or_len is_equals word ≡ length word
-    → word ≡ option_name given ++ codes "=" ++ decimal n → ⊥
+not_one : (given : Given) (n : ℕ) (word : List ℕ) → position_or_len is_equals word ≡ length word → word ≡ option_name given ++ codes "=" ++ decimal n → ⊥
 not_one given n word none w =
     let before : before_first is_equals word ≡ option_name given = ap (before_first is_equals) w ∙ name_before given (decimal n) in
     let size : length word ≡ length (option_name given) + 1 + length (decimal n) = ap length w ∙ simp length-append refl in
     let whole : before_first is_equals word ≡ word = rw none (take-length word) in
-    let short : length (option_name given) ≡ length word = ap length (sym before ∙ whole) in
-    omega arith
+    let short : length (option_name given) ≡ length word = ap length (sym before ∙ whole) in omega arith
 
 -- a word without `=` that is no flag, and is the last, begins no option
 pub not_alone : (word : List ℕ) (words : List (List ℕ)) → words ≡ word ∷ [] → position_or_len is_equals word ≡ length word
     → ((given : Given) → IsFlag word given → ⊥) → (given : Given) (rest : List (List ℕ)) → BeginsWithOption given rest words → ⊥
-not_alone word words e no_equals none given rest begins =
-    let head = λ (ws : List (List ℕ)). get_or ws 0 [] in
-    elim (looks given rest words begins) [
-      | as_flag h is ↦ none given (ap head (sym e ∙ is), h.1)
-      | as_two n h is ↦ let size : length (word ∷ []) ≡ length (option_name given ∷ decimal n ∷ rest) = ap length (sym e ∙ is) in absurd (omega arith)
-      | as_one n h is ↦ not_one given n word no_equals (ap head (sym e ∙ is))
-    ]
+not_alone word words e no_equals none given rest begins = let head = λ (ws : List (List ℕ)). get_or ws 0 [] in elim (looks given rest words begins) [
+  | as_flag h is ↦ none given (ap head (sym e ∙ is), h.1)
+  | as_two n h is ↦ let size : length (word ∷ []) ≡ length (option_name given ∷ decimal n ∷ rest) = ap length (sym e ∙ is) in absurd (omega arith)
+  | as_one n h is ↦ not_one given n word no_equals (ap head (sym e ∙ is))
+]
 
 -- nor does it where no option has its name with the next word as its number
 pub not_apart : (word value : List ℕ) (behind words : List (List ℕ)) → words ≡ word ∷ value ∷ behind
     → position_or_len is_equals word ≡ length word → ((given : Given) → IsFlag word given → ⊥)
     → ((given : Given) → IsNumbered word value given → ⊥) → (given : Given) (rest : List (List ℕ)) → BeginsWithOption given rest words → ⊥
 not_apart word value behind words e no_equals no_flag none given rest begins =
-    let head = λ (ws : List (List ℕ)). get_or ws 0 [] in
-    elim (looks given rest words begins) [
+    let head = λ (ws : List (List ℕ)). get_or ws 0 [] in elim (looks given rest words begins) [
       | as_flag h is ↦ no_flag given (ap head (sym e ∙ is), h.1)
       | as_two n h is ↦
           let w : word ≡ option_name given = ap head (sym e ∙ is) in
-          let v : value ≡ decimal n = ap (λ (ws : List (List ℕ)). get_or ws 1 []) (sym e ∙ is) in
+          let v : value ≡ decimal n = ap (λ ws. get_or ws 1 []) (sym e ∙ is) in
           none given (record { number = n; named = (w, h); text = v; in_range = begins.0 })
       | as_one n h is ↦ not_one given n word no_equals (ap head (sym e ∙ is))
     ]
@@ -312,82 +262,58 @@ at_most_one of_calls asked = of_option asked.calls
 -- where no words are left, all was asked for
 flag_once : (a b : Bool) → flag_list a ≡ flag_list b → a ≡ b
 flag_once true true e = refl
-flag_once true false e = cc
-flag_once false true e = cc
 flag_once false false e = refl
+flag_once a b e = cc
 
 make : Bool → Bool → Bool → Option ℕ → Option ℕ → Option ℕ → Asked
-make opening log touched threads seed calls =
-    record { opening = opening; log = log; touched = touched; threads = threads; seed = seed; calls = calls }
+make opening log touched threads seed calls = record { opening = opening; log = log; touched = touched; threads = threads; seed = seed; calls = calls }
 
 -- what is asked for of each kind is all that is asked for
 pub same_asked : (a b : Asked) → ((kind : Kind) → asked_for kind a ≡ asked_for kind b) → a ≡ b
 unfolding make
 same_asked a b h =
-    let o = flag_once a.opening b.opening (h of_opening) in
-    let l = flag_once a.log b.log (h of_log) in
-    let p = flag_once a.touched b.touched (h of_touched) in
-    let t = value_once a.threads b.threads (h of_threads) in
-    let s = value_once a.seed b.seed (h of_seed) in
-    let c = value_once a.calls b.calls (h of_calls) in
-    ap (λ (x : Bool). make x a.log a.touched a.threads a.seed a.calls) o
-    ∙ ap (λ (x : Bool). make b.opening x a.touched a.threads a.seed a.calls) l
-    ∙ ap (λ (x : Bool). make b.opening b.log x a.threads a.seed a.calls) p
-    ∙ ap (λ (x : Option ℕ). make b.opening b.log b.touched x a.seed a.calls) t
-    ∙ ap (λ (x : Option ℕ). make b.opening b.log b.touched b.threads x a.calls) s
-    ∙ ap (λ (x : Option ℕ). make b.opening b.log b.touched b.threads b.seed x) c
+    let o = flag_once a.opening b.opening (h of_opening) in let l = flag_once a.log b.log (h of_log) in
+    let p = flag_once a.touched b.touched (h of_touched) in let t = value_once a.threads b.threads (h of_threads) in
+    let s = value_once a.seed b.seed (h of_seed) in let c = value_once a.calls b.calls (h of_calls) in
+    ap (λ x. make x a.log a.touched a.threads a.seed a.calls) o ∙ ap (λ x. make b.opening x a.touched a.threads a.seed a.calls) l
+    ∙ ap (λ x. make b.opening b.log x a.threads a.seed a.calls) p ∙ ap (λ x. make b.opening b.log b.touched x a.seed a.calls) t
+    ∙ ap (λ x. make b.opening b.log b.touched b.threads x a.calls) s ∙ ap (λ x. make b.opening b.log b.touched b.threads b.seed x) c
 
 -- no words begin with no option
 pub not_empty : (given : Given) (rest : List (List ℕ)) → BeginsWithOption given rest [] → ⊥
 not_empty given rest begins =
-    elim (looks given rest [] begins) [
-      | as_flag h is ↦ absurd (cc is)
-      | as_two n h is ↦ absurd (cc is)
-      | as_one n h is ↦ absurd (cc is)
-    ]
+    elim (looks given rest [] begins) [ as_flag h is ↦ absurd (cc is) | as_two n h is ↦ absurd (cc is) | as_one n h is ↦ absurd (cc is) ]
 
 -- words of which the first is this one, and behind which this is asked for, spell one command
 pub spells_once : (first : List ℕ) (behind words : List (List ℕ)) (asked : Asked) (result : Option Command) → words ≡ first ∷ behind
-    → ((other : Asked) → DoAsk behind other → Some asked ≡ Some other)
-    → ((command : Command) → IsCommand first asked command → result ≡ Some command)
+    → ((other : Asked) → DoAsk behind other → Some asked ≡ Some other) → ((command : Command) → IsCommand first asked command → result ≡ Some command)
     → (command : Command) → AskFor words command → result ≡ Some command
 spells_once first behind words asked result e asks only command h =
     let both : h.name ∷ h.rest ≡ first ∷ behind = sym h.whole ∙ e in
-    let name : h.name ≡ first = ap (λ (ws : List (List ℕ)). get_or ws 0 []) both in
-    let rest : h.rest ≡ behind = ap (drop 1) both in
-    let options : DoAsk behind h.asked = subst (λ (ws : List (List ℕ)). DoAsk ws h.asked) rest h.options in
+    let name : h.name ≡ first = ap (λ ws. get_or ws 0 []) both in let rest : h.rest ≡ behind = ap (drop 1) both in
+    let options : DoAsk behind h.asked = subst (λ ws. DoAsk ws h.asked) rest h.options in
     let same : h.asked ≡ asked = cc (asks h.asked options) in
-    only command (subst (λ (a : Asked). IsCommand first a command) same (subst (λ (n : List ℕ). IsCommand n h.asked command) name h.is))
+    only command (subst (λ a. IsCommand first a command) same (subst (λ n. IsCommand n h.asked command) name h.is))
 
 -- they spell what is asked for
 pub spells : (first : List ℕ) (behind words : List (List ℕ)) (asked : Asked) (command : Command) → words ≡ first ∷ behind
     → DoAsk behind asked → IsCommand first asked command → AskFor words command
-spells first behind words asked command e options is = record {
-  name = first;
-  rest = behind;
-  whole = e;
-  asked = asked;
-  options = options;
-  is = is;
-}
+spells first behind words asked command e options is = record { name = first; rest = behind; whole = e; asked = asked; options = options; is = is }
 
 -- where nothing is asked for by the words behind the first, there is no command
 pub spells_none : (first : List ℕ) (behind words : List (List ℕ)) → words ≡ first ∷ behind
     → ((other : Asked) → DoAsk behind other → None ≡ Some other) → (command : Command) → AskFor words command → ⊥
 spells_none first behind words e none command h =
     let both : h.name ∷ h.rest ≡ first ∷ behind = sym h.whole ∙ e in
-    let options : DoAsk behind h.asked = subst (λ (ws : List (List ℕ)). DoAsk ws h.asked) (ap (drop 1) both) h.options in
-    let no : None ≡ Some h.asked = none h.asked options in
-    absurd cc
+    let options : DoAsk behind h.asked = subst (λ ws. DoAsk ws h.asked) (ap (drop 1) both) h.options in
+    let no : None ≡ Some h.asked = none h.asked options in absurd cc
 
 -- the numbers that an option of this kind may be given
 abbrev MayBe : Kind → ℕ → Type 0
-MayBe of_opening n = Unit {0}
-MayBe of_log n = Unit {0}
-MayBe of_touched n = Unit {0}
 MayBe of_threads n = (1 ≤ n) × (n ≤ 16)
 MayBe of_seed n = n ≤ 2147483647
 MayBe of_calls n = n ≤ 1048576
+MayBe kind n = Unit {0}
 
 value_in_range : (kind : Kind) (given : Given) (n : ℕ) → HasNumberInRange given → value_for kind given ≡ Some n → MayBe kind n
 value_in_range of_opening given n in_range e = tt
@@ -403,7 +329,7 @@ first_of_value : (kind : Kind) (given : Given) (rest : List ℕ) (n : ℕ) (more
     → value_for kind given ≡ value → (rest ≡ n ∷ more → MayBe kind n) → cons_option value rest ≡ n ∷ more → MayBe kind n
 first_of_value kind given rest n more None in_range is later e = later e
 first_of_value kind given rest n more (Some m) in_range is later e =
-    let same : m ≡ n = cc e in value_in_range kind given n in_range (is ∙ ap (λ (x : ℕ). Some x) same)
+    let same : m ≡ n = cc e in value_in_range kind given n in_range (is ∙ ap (λ x. Some x) same)
 
 first_in_range : (kind : Kind) (given : List Given) (words : List (List ℕ)) (n : ℕ) (more : List ℕ) → AreSpellings BeginsWithOption given words
     → filter_map (value_for kind) given ≡ n ∷ more → MayBe kind n
@@ -419,15 +345,13 @@ asked_in_range kind words asked n h e = first_in_range kind h.given words n [] h
 threads_in_range : (words : List (List ℕ)) (asked : Asked) (value : Option ℕ) → DoAsk words asked → asked.threads ≡ value
     → (1 ≤ unwrap_or value 1) × (unwrap_or value 1 ≤ 16)
 threads_in_range words asked None h e = (omega arith, omega arith)
-threads_in_range words asked (Some n) h e = asked_in_range of_threads words asked n h (ap (λ (v : Option ℕ). option_to_list v) e)
+threads_in_range words asked (Some n) h e = asked_in_range of_threads words asked n h (ap (λ v. option_to_list v) e)
 
 -- the numbers of a command of such words are in their ranges
 pub has_ranges : (name : List ℕ) (words : List (List ℕ)) (asked : Asked) → DoAsk words asked → (command : Command)
     → IsCommand name asked command → HasRanges command
 has_ranges name words asked h (Play options threads) is =
-    let (low, high) = threads_in_range words asked asked.threads h refl in
-    let same = is.4 in
-    (omega arith, omega arith)
+    let (low, high) = threads_in_range words asked asked.threads h refl in let same = is.4 in (omega arith, omega arith)
 has_ranges name words asked h (Load seed threads calls) is =
     let list = λ (v : Option ℕ). option_to_list v in
     let (low, high) = asked_in_range of_threads words asked threads h (ap list is.5) in
@@ -450,11 +374,7 @@ is_answer answer command p none = let yes : is_some answer ≡ true = ap is_some
 -- at the start nothing was asked for
 nothing_asked : (kind : Kind) → asked_for kind (record { opening = false; log = false; touched = false; threads = None; seed = None; calls = None }) ≡ []
 nothing_asked of_opening = refl
-nothing_asked of_log = refl
-nothing_asked of_touched = refl
-nothing_asked of_threads = refl
-nothing_asked of_seed = refl
-nothing_asked of_calls = refl
+nothing_asked kind = refl
 
 -- what is left over at the start, where nothing was asked for, is what all words ask for
 pub to_all : (words : List (List ℕ)) (after : Asked)
@@ -462,7 +382,7 @@ pub to_all : (words : List (List ℕ)) (after : Asked)
 to_all words after h = record {
   given = h.given;
   spelled = h.spelled;
-  asks = λ kind. ap (λ (xs : List ℕ). xs ++ filter_map (value_for kind) h.given) (sym (nothing_asked kind)) ∙ h.asks kind;
+  asks = λ kind. ap (λ xs. xs ++ filter_map (value_for kind) h.given) (sym (nothing_asked kind)) ∙ h.asks kind;
 }
 
 -- and what all words ask for is left over at the start
@@ -471,5 +391,5 @@ pub from_all : (words : List (List ℕ)) (after : Asked) → DoAsk words after
 from_all words after h = record {
   given = h.given;
   spelled = h.spelled;
-  asks = λ kind. ap (λ (xs : List ℕ). xs ++ filter_map (value_for kind) h.given) (nothing_asked kind) ∙ h.asks kind;
+  asks = λ kind. ap (λ xs. xs ++ filter_map (value_for kind) h.given) (nothing_asked kind) ∙ h.asks kind;
 }

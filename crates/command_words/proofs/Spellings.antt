@@ -16,9 +16,8 @@ both_parts : {Given Kind : Type 0} (value_for : Kind → Given → Option ℕ) (
     → before kind ++ filter_map (value_for kind) (given ∷ more) ≡ middle kind ++ filter_map (value_for kind) more
 both_parts value_for before middle given more kind adds =
     let f = filter_map (value_for kind) more in
-    ap (λ (xs : List ℕ). before kind ++ xs) (cons_append (value_for kind given) f)
-    ∙ sym (append_assoc (before kind) (option_to_list (value_for kind given)) f)
-    ∙ ap (λ (xs : List ℕ). xs ++ f) (sym (adds kind))
+    ap (λ xs. before kind ++ xs) (cons_append (value_for kind given) f) ∙ sym (append_assoc (before kind) (option_to_list (value_for kind given)) f)
+    ∙ ap (λ xs. xs ++ f) (sym (adds kind))
 
 -- the options of words that aren't empty begin with one
 pub record First {Given Kind : Type 0} (Begins : Given → List (List ℕ) → List (List ℕ) → Type 0) (value_for : Kind → Given → Option ℕ)
@@ -38,8 +37,7 @@ pub record First {Given Kind : Type 0} (Begins : Given → List (List ℕ) → L
 
 none_left : {Given Kind : Type 0} (Begins : Given → List (List ℕ) → List (List ℕ) → Type 0) (value_for : Kind → Given → Option ℕ)
     (given : List Given) (before after : Kind → List ℕ) → ((g : Given) (rest : List (List ℕ)) → Begins g rest [] → ⊥)
-    → AreSpellings Begins given [] → ((kind : Kind) → before kind ++ filter_map (value_for kind) given ≡ after kind)
-    → (kind : Kind) → before kind ≡ after kind
+    → AreSpellings Begins given [] → ((kind : Kind) → before kind ++ filter_map (value_for kind) given ≡ after kind) → (kind : Kind) → before kind ≡ after kind
 none_left Begins value_for [] before after none spelled asks kind = sym (append-nil (before kind)) ∙ asks kind
 none_left Begins value_for (given ∷ more) before after none spelled asks kind = absurd (none given spelled.0 spelled.1)
 
@@ -56,8 +54,7 @@ module _ {Given Kind : Type 0} {Begins : Given → List (List ℕ) → List (Lis
   first_with : (given : List Given) (before : Kind → List ℕ) (words : List (List ℕ)) (after : Kind → List ℕ) → 0 < length words
       → AreSpellings Begins given words → ((kind : Kind) → before kind ++ filter_map (value_for kind) given ≡ after kind)
       → First Begins value_for before words after
-  first_with [] before words after some spelled asks =
-      let none : length words ≡ 0 = ap length spelled in absurd (omega arith)
+  first_with [] before words after some spelled asks = let none : length words ≡ 0 = ap length spelled in absurd (omega arith)
   first_with (given ∷ more) before words after some spelled asks = record {
     given = given;
     rest = spelled.0;
@@ -81,22 +78,19 @@ module _ {Given Kind : Type 0} {Begins : Given → List (List ℕ) → List (Lis
       let first = first_left words some left in
       let (same, behind) = once first.given given first.rest rest words first.begins begins in record {
         given = first.more;
-        spelled = subst (λ (ws : List (List ℕ)). AreSpellings Begins first.more ws) behind first.spelled;
+        spelled = subst (λ ws. AreSpellings Begins first.more ws) behind first.spelled;
         asks = λ kind.
             sym (both_parts value_for before middle given first.more kind adds)
-            ∙ ap (λ (g : Given). before kind ++ filter_map (value_for kind) (g ∷ first.more)) (sym same)
-            ∙ first.asks kind;
+            ∙ ap (λ g. before kind ++ filter_map (value_for kind) (g ∷ first.more)) (sym same) ∙ first.asks kind;
       }
 
   -- words that begin with no option are no spelling
   pub left_of_none : {before after : Kind → List ℕ} (words : List (List ℕ)) → 0 < length words
       → ((given : Given) (rest : List (List ℕ)) → Begins given rest words → ⊥) → Ask Begins value_for before words after → ⊥
-  left_of_none words some none left =
-      let first = first_left words some left in none first.given first.rest first.begins
+  left_of_none words some none left = let first = first_left words some left in none first.given first.rest first.begins
 
   -- words that begin with an option of a kind of which one was asked for already ask for nothing
-  pub left_of_asked : {before after : Kind → List ℕ}
-      → ((g h : Given) (r s words : List (List ℕ)) → Begins g r words → Begins h s words → (g ≡ h) × (r ≡ s))
+  pub left_of_asked : {before after : Kind → List ℕ} → ((g h : Given) (r s words : List (List ℕ)) → Begins g r words → Begins h s words → (g ≡ h) × (r ≡ s))
       → (given : Given) (rest words : List (List ℕ)) → 0 < length words → Begins given rest words
       → (kind : Kind) (value : ℕ) → value_for kind given ≡ Some value → 0 < length (before kind) → length (after kind) ≤ 1
       → Ask Begins value_for before words after → ⊥
@@ -105,11 +99,9 @@ module _ {Given Kind : Type 0} {Begins : Given → List (List ℕ) → List (Lis
       let (same, behind) = once first.given given first.rest rest words first.begins begins in
       let here : value_for kind first.given ≡ Some value = rw same gives in
       let more = filter_map (value_for kind) first.more in
-      let list : filter_map (value_for kind) (first.given ∷ first.more) ≡ value ∷ more = ap (λ (v : Option ℕ). cons_option v more) here in
-      let size : length (before kind ++ (value ∷ more)) ≡ length (after kind) =
-      ap length (ap (λ (xs : List ℕ). before kind ++ xs) (sym list) ∙ first.asks kind) in
-      let sum = length-append (before kind) (value ∷ more) in
-      omega (arith, already, most)
+      let list : filter_map (value_for kind) (first.given ∷ first.more) ≡ value ∷ more = ap (λ v. cons_option v more) here in
+      let size : length (before kind ++ (value ∷ more)) ≡ length (after kind) = ap length (ap (λ xs. before kind ++ xs) (sym list) ∙ first.asks kind) in
+      let sum = length-append (before kind) (value ∷ more) in omega (arith, already, most)
 
   -- where no words are left, what was asked for is what all of them ask for
   pub left_of_nothing : {before after : Kind → List ℕ} (words : List (List ℕ)) → ((g : Given) (rest : List (List ℕ)) → Begins g rest [] → ⊥)
@@ -125,9 +117,8 @@ module _ {Given Kind : Type 0} {Begins : Given → List (List ℕ) → List (Lis
 -- one value at most stands where a flag or an option is asked for
 pub value_once : (a b : Option ℕ) → option_to_list a ≡ option_to_list b → a ≡ b
 value_once None None e = refl
-value_once None (Some y) e = cc
-value_once (Some x) None e = cc
 value_once (Some x) (Some y) e = cc
+value_once a b e = cc
 
 pub of_option : (value : Option ℕ) → length (option_to_list value) ≤ 1
 of_option None = omega arith

@@ -17,7 +17,7 @@ taken_to (d ∷ digits) rest all = rw all.0 (taken_to digits rest all.1)
 digits_to : (due : What) (digits rest : List ℕ) → IsRun is_digit is_digit digits → digits_end due (digits ++ 32 ∷ rest) ≡ Ok (tt, 32 ∷ rest)
 unfolding digits_end run_at
 digits_to due [] rest all = absurd all
-digits_to due (d ∷ digits) rest all = rw all.0 (ap (λ (x : List ℕ). Ok (tt, x)) (taken_to digits rest all.1))
+digits_to due (d ∷ digits) rest all = rw all.0 (ap (λ x. Ok (tt, x)) (taken_to digits rest all.1))
 
 -- the digits of a line that begins as one of a log end at a space
 pub log_ends : (due : What) (text : List ℕ) → BeginsLog text → (rest : List ℕ) × (digits_end due text ≡ Ok (tt, 32 ∷ rest))
@@ -38,10 +38,9 @@ unfolding digits_end run_at
 ends_log due [] rest e s = absurd cc
 ends_log due (c ∷ more) rest e s = elim (bool_cases (is_digit c)) [
   | inl h ↦
-      let r = taken_is is_digit more in
-      let same : (taken is_digit more).1 ≡ rest = ap behind_of (rw h at e) in
+      let r = taken_is is_digit more in let same : (taken is_digit more).1 ≡ rest = ap behind_of (rw h at e) in
       let behind = spaced rest s in
-      (c ∷ (taken is_digit more).0, behind.0, (h, r.0), ap (λ (x : List ℕ). c ∷ x) (r.1 ∙ ap (λ (y : List ℕ). (taken is_digit more).0 ++ y) (same ∙ behind.1)))
+      (c ∷ (taken is_digit more).0, behind.0, (h, r.0), ap (λ x. c ∷ x) (r.1 ∙ ap (λ y. (taken is_digit more).0 ++ y) (same ∙ behind.1)))
   | inr h ↦ absurd (let none = rw h at e in cc)
 ]
 

@@ -4,7 +4,7 @@ use Rattle.std.specs.List.{Contains}
 use Rattle.std.proofs.Common.{◌≡◌, ◌⊎◌, ◌↔◌, ℕ, zero, suc, ◌<◌, ◌≤◌, List, [], ◌∷◌, Option, Some, None, refl, sym, ap, ◌∙◌, subst, inl, inr, arith}
 use Rattle.page_types.specs.declared.TheConstants.{LIMIT}
 use Rattle.page_types.specs.declared.calls.Call.{Call}
-use Rattle.page_types.specs.declared.calls.Call.TheVariants.{Map, Unmap, Protect, Fault, Seal, Brk, Remap}
+use Rattle.page_types.specs.declared.calls.Call.TheVariants.{Protect, Fault}
 use Rattle.page_types.specs.declared.calls.Reply.{Reply}
 use Rattle.page_types.specs.declared.pages.Span.{Span}
 use Rattle.page_types.specs.declared.sets.Prot.{Prot}
@@ -32,16 +32,11 @@ same_span s t lo hi = same_ends s.lo s.hi s.ordered s.in_range t.lo lo t.hi hi t
 one_area : (A : List Area) (a b : Area) (p : ℕ) → IsAreaList A → Contains A a → Contains A b → a.lo ≤ p → p < a.hi → b.lo ≤ p → p < b.hi → a ≡ b
 one_area [] a b p w (k, l, e) n low high from to = absurd (omega arith)
 one_area (x ∷ rest) a b p w (zero, l, e) (zero, m, f) low high from to = sym e ∙ f
-one_area (x ∷ rest) a b p w (zero, l, e) (suc k, m, f) low high from to =
-    let some = kind_at-member rest b p w.2 (k, omega arith, f) from to in
-    let none = kind_at-below rest x.hi p w.2 (LeadsTo-above x rest w.1) (subst (λ (y : Area). p < y.hi) (sym e) high) in
-    absurd cc
-one_area (x ∷ rest) a b p w (suc k, l, e) (zero, m, f) low high from to =
-    let some = kind_at-member rest a p w.2 (k, omega arith, e) low high in
-    let none = kind_at-below rest x.hi p w.2 (LeadsTo-above x rest w.1) (subst (λ (y : Area). p < y.hi) (sym f) to) in
-    absurd cc
-one_area (x ∷ rest) a b p w (suc k, l, e) (suc j, m, f) low high from to =
-    one_area rest a b p w.2 (k, omega arith, e) (j, omega arith, f) low high from to
+one_area (x ∷ rest) a b p w (zero, l, e) (suc k, m, f) low high from to = let some = kind_at-member rest b p w.2 (k, omega arith, f) from to in
+    let none = kind_at-below rest x.hi p w.2 (LeadsTo-above x rest w.1) (subst (λ y. p < y.hi) (sym e) high) in absurd cc
+one_area (x ∷ rest) a b p w (suc k, l, e) (zero, m, f) low high from to = let some = kind_at-member rest a p w.2 (k, omega arith, e) low high in
+    let none = kind_at-below rest x.hi p w.2 (LeadsTo-above x rest w.1) (subst (λ y. p < y.hi) (sym f) to) in absurd cc
+one_area (x ∷ rest) a b p w (suc k, l, e) (suc j, m, f) low high from to = one_area rest a b p w.2 (k, omega arith, e) (j, omega arith, f) low high from to
 
 -- a Protect that its arguments don't decide has a page
 some_page : (addr len : ℕ) → protect_reply addr len ≡ None → page_of addr < end_page addr len
@@ -49,13 +44,9 @@ some_page addr len undecided = let some = protect-length addr len undecided in o
 
 -- the one page held as a reader
 one_reader : (page : ℕ) (u v : Under) → ReadsPage page u → ReadsPage page v → u ≡ v
-one_reader page Nothing v a b = absurd a
-one_reader page (Held s) v a b = absurd a
-one_reader page Whole v a b = absurd a
-one_reader page (Reader s) Nothing a b = absurd b
-one_reader page (Reader s) (Held t) a b = absurd b
-one_reader page (Reader s) Whole a b = absurd b
 one_reader page (Reader s) (Reader t) a b = ap Reader (same_span s t (a.0 ∙ sym b.0) (a.1 ∙ sym b.1))
+one_reader page (Reader s) v a b = absurd b
+one_reader page u v a b = absurd a
 
 -- a Protect that its arguments don't decide
 protect_tells : (A : List Area) (addr len : ℕ) (prot : Prot) (exact under : Under) → IsAreaList A → protect_reply addr len ≡ None
@@ -67,30 +58,20 @@ protect_tells A addr len prot exact under w none area (inl e) (inr f) = absurd (
 protect_tells A addr len prot exact under w none area (inr e) (inr f) =
     let has_page = some_page addr len none in
     let one : f.0 ≡ e.0 = one_area A f.0 e.0 (page_of addr) w f.1.0 e.1.0 f.1.1 (omega (arith, has_page, f.1.2)) e.1.1 (omega (arith, has_page, e.1.2)) in
-    let span : f.2 ≡ e.2 =
-    same_span f.2 e.2 (f.4 ∙ ap (λ (a : Area). a.lo - 1) one ∙ sym e.4) (f.5 ∙ ap (λ (a : Area). min (a.hi + 1) LIMIT) one ∙ sym e.5) in
+    let span : f.2 ≡ e.2 = same_span f.2 e.2 (f.4 ∙ ap (λ a. a.lo - 1) one ∙ sym e.4) (f.5 ∙ ap (λ a. min (a.hi + 1) LIMIT) one ∙ sym e.5) in
     inl (f.3 ∙ ap Held span ∙ sym e.3)
 
 -- a call that its arguments don't decide
 state_tells : (A : List Area) (c : Call) (exact under : Under) → IsAreaList A → plain_reply c ≡ None → (IsSimple A c → HoldsSomeArea exact)
     → FitsByState A c exact → FitsByState A c under → MayBe exact under
-state_tells A (Map addr len prot flags) exact under w none area e f = inl (f ∙ sym e)
-state_tells A (Unmap addr len) exact under w none area e f = inl (f ∙ sym e)
 state_tells A (Protect addr len prot) exact under w none area e f = protect_tells A addr len prot exact under w none area e f
-state_tells A (Seal addr len flags) exact under w none area e f = inl (f ∙ sym e)
-state_tells A (Brk base addr) exact under w none area e f = inl (f ∙ sym e)
-state_tells A (Remap addr old new may hint) exact under w none area e f = inl (f ∙ sym e)
 state_tells A (Fault addr access) exact under w none area e f = inl (one_reader (page_of addr) under exact f e)
+state_tells A c exact under w none area e f = inl (f ∙ sym e)
 
 -- everything fits a simple call
 whole_fits : (A : List Area) (c : Call) → IsSimple A c → FitsByState A c Whole
-whole_fits A (Map addr len prot flags) simple = absurd simple.1
-whole_fits A (Unmap addr len) simple = absurd simple.1
 whole_fits A (Protect addr len prot) simple = inl refl
-whole_fits A (Fault addr access) simple = absurd simple.1
-whole_fits A (Seal addr len flags) simple = absurd simple.1
-whole_fits A (Brk base addr) simple = absurd simple.1
-whole_fits A (Remap addr old new may hint) simple = absurd simple.1
+whole_fits A c simple = absurd simple.1
 
 -- where exactly this has to be held, that may be held which is the same, or everything in place of an area
 pub fits_tells : (A : List Area) (c : Call) (exact under : Under) → IsAreaList A → FitsUnder A c exact

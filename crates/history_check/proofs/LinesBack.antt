@@ -40,12 +40,11 @@ use Rattle.history_check.proofs.RepliesBack.{no_decimal, reply_reads}
 pub head_reads : (n w l : ℕ) (rest : List ℕ) → n < 2 ^ 64 → w < 2 ^ 32 → l < 2 ^ 32
     → head_at (decimal n ++ 32 ∷ (decimal w ++ 32 ∷ (decimal l ++ 32 ∷ rest))) ≡ Some ((n, w, l), rest)
 unfolding head_at strip_at
-head_reads n w l rest a b c =
-    rw (
-      decimal_back n (32 ∷ (decimal w ++ 32 ∷ (decimal l ++ 32 ∷ rest))) a (no_decimal (decimal w ++ 32 ∷ (decimal l ++ 32 ∷ rest))),
-      small_back w (32 ∷ (decimal l ++ 32 ∷ rest)) b (no_decimal (decimal l ++ 32 ∷ rest)),
-      small_back l (32 ∷ rest) c (no_decimal rest),
-    ) refl
+head_reads n w l rest a b c = rw (
+  decimal_back n (32 ∷ (decimal w ++ 32 ∷ (decimal l ++ 32 ∷ rest))) a (no_decimal (decimal w ++ 32 ∷ (decimal l ++ 32 ∷ rest))),
+  small_back w (32 ∷ (decimal l ++ 32 ∷ rest)) b (no_decimal (decimal l ++ 32 ∷ rest)),
+  small_back l (32 ∷ rest) c (no_decimal rest),
+) refl
 
 -- a reply, with the words around it
 pub outcome_reads : (r : Reply) (rest : List ℕ) → FitsReply r → HasNarrowRows r → IsNamedReply r
@@ -56,8 +55,7 @@ outcome_reads r rest fits narrow named = rw (reply_reads r (codes "under " ++ re
 -- ---- what was held
 
 span_parts : (s : Span) → span_text s ≡ prefixed_hex s.lo ++ 45 ∷ (prefixed_hex s.hi ++ [])
-span_parts s = append_assoc (prefixed_hex s.lo) (codes "-") (prefixed_hex s.hi)
-    ∙ ap (λ (l : List ℕ). prefixed_hex s.lo ++ 45 ∷ l) (sym (append-nil (prefixed_hex s.hi)))
+span_parts s = append_assoc (prefixed_hex s.lo) (codes "-") (prefixed_hex s.hi) ∙ ap (λ l. prefixed_hex s.lo ++ 45 ∷ l) (sym (append-nil (prefixed_hex s.hi)))
 
 both_ends : (lo hi : ℕ) → lo < 2 ^ 64 → hi < 2 ^ 64 → ends_at (prefixed_hex lo ++ 45 ∷ (prefixed_hex hi ++ [])) ≡ Some (lo, hi)
 unfolding ends_at strip_at
@@ -82,16 +80,11 @@ no_ends s text a b e h = none_some (s.lo, s.hi) (h ∙ ends_reads s text a b e)
 pub ends_are : (s : Span) (text : List ℕ) (lo hi : ℕ) → s.lo < 2 ^ 64 → s.hi < 2 ^ 64 → text ≡ span_text s → Some (lo, hi) ≡ ends_at text
     → (lo ≡ s.lo) × (hi ≡ s.hi)
 ends_are s text lo hi a b e h =
-    let same : ◌≡◌ {A = ℕ × ℕ} (lo, hi) (s.lo, s.hi) = some_same (lo, hi) (s.lo, s.hi) (h ∙ ends_reads s text a b e) in
-    (ap (λ (p : ℕ × ℕ). p.0) same, ap (λ (p : ℕ × ℕ). p.1) same)
+    let same : ◌≡◌ {A = ℕ × ℕ} (lo, hi) (s.lo, s.hi) = some_same (lo, hi) (s.lo, s.hi) (h ∙ ends_reads s text a b e) in (ap (λ p. p.0) same, ap (λ p. p.1) same)
 
 -- the ends of a span are in order
 pub in_order : (s : Span) (lo hi : ℕ) → (lo ≡ s.lo) × (hi ≡ s.hi) → hi ≤ lo → ⊥
-in_order s lo hi is wrong =
-    let low = is.0 in
-    let high = is.1 in
-    let ordered = s.ordered in
-    omega arith
+in_order s lo hi is wrong = let low = is.0 in let high = is.1 in let ordered = s.ordered in omega arith
 
 -- and not too high
 pub in_bounds : (s : Span) (lo hi : ℕ) → (lo ≡ s.lo) × (hi ≡ s.hi) → LIMIT < hi → ⊥
@@ -102,58 +95,34 @@ pub span_is : (s : Span) (lo hi : ℕ) → (lo ≡ s.lo) × (hi ≡ s.hi) → (a
 span_is s lo hi is a b = ap Some (same_ends lo hi a b s.lo is.0 s.hi is.1 s.ordered s.in_range)
 
 -- a text that begins as that of a reader is that of a reader's span
-pub reader_is : (u : Under) (text rest : List ℕ) → FitsHeld u → text ≡ under_text u → strip_at (codes "reader ") text ≡ Some rest
+pub reader_is : (u : Under) (text rest : List ℕ) → FitsHeld u → text ≡ under_text u → Some rest ≡ strip_at (codes "reader ") text
     → (s : Span) × (u ≡ Reader s) × (rest ≡ span_text s) × (s.lo < 2 ^ 64) × (s.hi < 2 ^ 64)
 unfolding strip_at
-reader_is Nothing text rest fits e h = absurd (let k = rw e at h in cc)
 reader_is (Reader s) text rest fits e h = let k = rw e at h in (s, refl, cc, fits.0, fits.1)
-reader_is (Area s) text rest fits e h = absurd (let k = rw e at h in cc)
-reader_is Whole text rest fits e h = absurd (let k = rw e at h in cc)
-
--- so that is what was held
-pub reader_held : (u : Under) (text rest : List ℕ) (found : Option Span) → FitsHeld u → text ≡ under_text u → Some rest ≡ strip_at (codes "reader ") text
-    → ((s : Span) → s.lo < 2 ^ 64 → s.hi < 2 ^ 64 → rest ≡ span_text s → found ≡ Some s) → (s : Span) × (u ≡ Reader s) × (found ≡ Some s)
-reader_held u text rest found fits e h spans =
-    let r = reader_is u text rest fits e (sym h) in (r.0, r.1, spans r.0 r.3 r.4 r.2)
+reader_is u text rest fits e h = absurd (let k = rw e at h in cc)
 
 -- a text that begins as that of an area is that of an area's span
-pub area_is : (u : Under) (text rest : List ℕ) → FitsHeld u → text ≡ under_text u → strip_at (codes "area ") text ≡ Some rest
+pub area_is : (u : Under) (text rest : List ℕ) → FitsHeld u → text ≡ under_text u → Some rest ≡ strip_at (codes "area ") text
     → (s : Span) × (u ≡ Area s) × (rest ≡ span_text s) × (s.lo < 2 ^ 64) × (s.hi < 2 ^ 64)
 unfolding strip_at
-area_is Nothing text rest fits e h = absurd (let k = rw e at h in cc)
-area_is (Reader s) text rest fits e h = absurd (let k = rw e at h in cc)
 area_is (Area s) text rest fits e h = let k = rw e at h in (s, refl, cc, fits.0, fits.1)
-area_is Whole text rest fits e h = absurd (let k = rw e at h in cc)
+area_is u text rest fits e h = absurd (let k = rw e at h in cc)
 
 -- so that is what was held
-pub area_held : (u : Under) (text rest : List ℕ) (found : Option Span) → FitsHeld u → text ≡ under_text u → Some rest ≡ strip_at (codes "area ") text
-    → ((s : Span) → s.lo < 2 ^ 64 → s.hi < 2 ^ 64 → rest ≡ span_text s → found ≡ Some s) → (s : Span) × (u ≡ Area s) × (found ≡ Some s)
-area_held u text rest found fits e h spans =
-    let r = area_is u text rest fits e (sym h) in (r.0, r.1, spans r.0 r.3 r.4 r.2)
+pub span_held : (make : Span → Under) (u : Under) (rest : List ℕ) (found : Option Span)
+    → (s : Span) × (u ≡ make s) × (rest ≡ span_text s) × (s.lo < 2 ^ 64) × (s.hi < 2 ^ 64)
+    → ((s : Span) → s.lo < 2 ^ 64 → s.hi < 2 ^ 64 → rest ≡ span_text s → found ≡ Some s) → (s : Span) × (u ≡ make s) × (found ≡ Some s)
+span_held make u rest found r spans = (r.0, r.1, spans r.0 r.3 r.4 r.2)
 
 -- what was found is what was held
-pub reader_found : (u : Under) (held : Span) → (s : Span) × (u ≡ Reader s) × (Some held ≡ Some s) → Some (Reader held) ≡ Some u
-reader_found u held h = ap (λ (s : Span). Some (Reader s)) (some_same held h.0 h.2) ∙ ap Some (sym h.1)
-
--- so for an area
-pub area_found : (u : Under) (held : Span) → (s : Span) × (u ≡ Area s) × (Some held ≡ Some s) → Some (Area held) ≡ Some u
-area_found u held h = ap (λ (s : Span). Some (Area s)) (some_same held h.0 h.2) ∙ ap Some (sym h.1)
-
--- something was found
-pub reader_lost : (u : Under) → (s : Span) × (u ≡ Reader s) × (None ≡ Some s) → ⊥
-reader_lost u h = none_some h.0 h.2
-
--- so for an area
-pub area_lost : (u : Under) → (s : Span) × (u ≡ Area s) × (None ≡ Some s) → ⊥
-area_lost u h = none_some h.0 h.2
+pub span_found : (make : Span → Under) (u : Under) (held : Span) → (s : Span) × (u ≡ make s) × (Some held ≡ Some s) → Some (make held) ≡ Some u
+span_found make u held h = ap (λ s. Some (make s)) (some_same held h.0 h.2) ∙ ap Some (sym h.1)
 
 -- a text that begins as that of nothing is that one
 pub nothing_is : (u : Under) (text rest : List ℕ) → text ≡ under_text u → strip_at (codes "none") text ≡ Some rest → u ≡ Nothing
 unfolding strip_at
 nothing_is Nothing text rest e h = refl
-nothing_is (Reader s) text rest e h = absurd (let k = rw e at h in cc)
-nothing_is (Area s) text rest e h = absurd (let k = rw e at h in cc)
-nothing_is Whole text rest e h = absurd (let k = rw e at h in cc)
+nothing_is u text rest e h = absurd (let k = rw e at h in cc)
 
 -- and one that begins as none of these is that of all pages
 pub all_is : (u : Under) (text : List ℕ) → text ≡ under_text u → strip_at (codes "reader ") text ≡ None → strip_at (codes "area ") text ≡ None
@@ -169,11 +138,10 @@ all_is Whole text e r a n = refl
 -- a call ends at its parenthesis, which a space follows
 pub call_ends : (w : What) (c : Call) (rest : List ℕ) → FitsCall c → until_at 41 32 w (call_text c ++ 32 ∷ rest) ≡ Ok (tt, 32 ∷ rest)
 call_ends w c rest fits =
-    let b = close_cut c fits in
-    ap (until_at 41 32 w) (ap (λ (l : List ℕ). l ++ 32 ∷ rest) b.2 ∙ append_assoc b.0 (41 ∷ []) (32 ∷ rest)) ∙ until_close w b.0 rest b.1
+    let b = close_cut c fits in ap (until_at 41 32 w) (ap (λ l. l ++ 32 ∷ rest) b.2 ∙ append_assoc b.0 (41 ∷ []) (32 ∷ rest)) ∙ until_close w b.0 rest b.1
 
 ok_same : (x y : List ℕ) → ◌≡◌ {A = Result (Unit {0} × List ℕ) Refusal} (Ok (tt, x)) (Ok (tt, y)) → x ≡ y
-ok_same x y e = let p : ◌≡◌ {A = Unit {0} × List ℕ} (tt, x) (tt, y) = cc in ap (λ (q : Unit {0} × List ℕ). q.1) p
+ok_same x y e = let p : ◌≡◌ {A = Unit {0} × List ℕ} (tt, x) (tt, y) = cc in ap (λ q. q.1) p
 
 -- so it is found
 pub call_lost : (w : What) (c : Call) (text rest : List ℕ) (why : Refusal) → FitsCall c → text ≡ call_text c ++ 32 ∷ rest → until_at 41 32 w text ≡ Err why → ⊥
@@ -186,18 +154,12 @@ call_found w c text rest found fits e h = sym (ok_same (32 ∷ rest) found (sym 
 
 -- how long the call is
 call_long : (c : Call) (text rest found : List ℕ) → text ≡ call_text c ++ 32 ∷ rest → found ≡ 32 ∷ rest → length text - length found ≡ length (call_text c)
-call_long c text rest found e is =
-    let a = ap length e ∙ length-append (call_text c) (32 ∷ rest) in
-    let b = ap length is in
-    omega arith
+call_long c text rest found e is = let a = ap length e ∙ length-append (call_text c) (32 ∷ rest) in let b = ap length is in omega arith
 
 -- it isn't too long
 pub call_short : (c : Call) (text rest found : List ℕ) → IsNamedCall c → FitsCall c → text ≡ call_text c ++ 32 ∷ rest
     → found ≡ 32 ∷ rest → 200 < length text - length found → ⊥
-call_short c text rest found named fits e is long =
-    let a = call_long c text rest found e is in
-    let b = call_text_length c named fits in
-    omega arith
+call_short c text rest found named fits e is long = let a = call_long c text rest found e is in let b = call_text_length c named fits in omega arith
 
 -- and is the line of this call
 pub call_spelled : (c : Call) (text rest found : List ℕ) → IsNamedCall c → FitsCall c → text ≡ call_text c ++ 32 ∷ rest → found ≡ 32 ∷ rest
@@ -205,7 +167,7 @@ pub call_spelled : (c : Call) (text rest found : List ℕ) → IsNamedCall c →
 call_spelled c text rest found named fits e is =
     let first : take (length text - length found) text ≡ call_text c =
     ap (λ n. take n text) (call_long c text rest found e is) ∙ ap (take (length (call_text c))) e ∙ take-append_seam (call_text c) (32 ∷ rest) in
-    subst (λ (t : List ℕ). Spells t (Played 0 c None)) (sym first) (call_text_spells c named fits)
+    subst (λ t. Spells t (Played 0 c None)) (sym first) (call_text_spells c named fits)
 
 -- what was read of it is this call
 pub item_is : {E : Type 0} (item : Item) (c : Call) → ◌≡◌ {A = Result Item E} (Ok item) (Ok (Played 0 c None)) → item ≡ Played 0 c None
@@ -226,8 +188,7 @@ until_step x y w false b text rest more h = more h
 pub until_short : (x y : ℕ) (w : What) (text rest : List ℕ) → until_at x y w text ≡ Ok (tt, rest) → length rest ≤ length text
 unfolding until_at
 until_short x y w [] rest h = absurd cc
-until_short x y w (c ∷ text) rest h =
-    let k = until_step x y w (c == x) (starts (is y) text) text rest (λ e. until_short x y w text rest e) h in omega arith
+until_short x y w (c ∷ text) rest h = let k = until_step x y w (c == x) (starts (is y) text) text rest (λ e. until_short x y w text rest e) h in omega arith
 
 -- ---- the whole line
 
@@ -242,14 +203,12 @@ behind_call e = codes "= " ++ (reply_text e.reply ++ (codes " under " ++ under_t
 -- the line of an entry, without its newline, as its parts
 line_is : (text : List ℕ) (e : Entry) → text ++ 10 ∷ [] ≡ entry_line e
     → text ≡ decimal e.number ++ 32 ∷ (decimal e.worker ++ 32 ∷ (decimal e.line ++ 32 ∷ (call_text e.call ++ 32 ∷ behind_call e)))
-line_is text e is =
-    append_cancel_right text _ (10 ∷ []) (is ∙ nest_entry (codes " ") (decimal e.number) (decimal e.worker) (decimal e.line) (call_text e.call)
+line_is text e is = append_cancel_right text _ (10 ∷ []) (is ∙ nest_entry (codes " ") (decimal e.number) (decimal e.worker) (decimal e.line) (call_text e.call)
     (codes " = ") (reply_text e.reply) (codes " under ") (under_text e.under) (codes "\n"))
 
 -- the numbers at the front of a line are its entry's, and the call stands behind them
 pub front_is : (text : List ℕ) (e : Entry) → IsLogLine text e → head_at text ≡ Some ((e.number, e.worker, e.line), call_text e.call ++ 32 ∷ behind_call e)
-front_is text e is =
-    let small = is.0.worker in
+front_is text e is = let small = is.0.worker in
     ap head_at (line_is text e is.1) ∙ head_reads e.number e.worker e.line (call_text e.call ++ 32 ∷ behind_call e) is.0.words.number (omega arith) is.0.line
 
 -- behind the call its reply stands, and what was held
@@ -268,12 +227,7 @@ IsFront e n w l rest = (n ≡ e.number) × (w ≡ e.worker) × (l ≡ e.line) ×
 pub front_found : (text : List ℕ) (e : Entry) (n w l : ℕ) (rest : List ℕ) → IsLogLine text e → Some ((n, w, l), rest) ≡ head_at text → IsFront e n w l rest
 front_found text e n w l rest it h =
     let same : ◌≡◌ {A = (ℕ × ℕ × ℕ) × List ℕ} ((n, w, l), rest) ((e.number, e.worker, e.line), call_text e.call ++ 32 ∷ behind_call e) =
-    some_same _ _ (h ∙ front_is text e it) in (
-      ap (λ (p : (ℕ × ℕ × ℕ) × List ℕ). p.0.0) same,
-      ap (λ (p : (ℕ × ℕ × ℕ) × List ℕ). p.0.1) same,
-      ap (λ (p : (ℕ × ℕ × ℕ) × List ℕ). p.0.2) same,
-      ap (λ (p : (ℕ × ℕ × ℕ) × List ℕ). p.1) same,
-    )
+    some_same _ _ (h ∙ front_is text e it) in (ap (λ p. p.0.0) same, ap (λ p. p.0.1) same, ap (λ p. p.0.2) same, ap (λ p. p.1) same)
 
 -- it has a reply behind its call
 pub no_back : (text : List ℕ) (e : Entry) (rest : List ℕ) → IsLogLine text e → rest ≡ 32 ∷ behind_call e → None ≡ outcome_at rest → ⊥
@@ -284,16 +238,15 @@ pub back_found : (text : List ℕ) (e : Entry) (rest : List ℕ) (r : Reply) (la
     → Some (r, last) ≡ outcome_at rest → (r ≡ e.reply) × (last ≡ under_text e.under)
 back_found text e rest r last it at h =
     let same : ◌≡◌ {A = Reply × List ℕ} (r, last) (e.reply, under_text e.under) = some_same _ _ (h ∙ ap outcome_at at ∙ back_is text e it) in (
-      ap (λ (p : Reply × List ℕ). p.0) same,
-      ap (λ (p : Reply × List ℕ). p.1) same,
+      ap (λ p. p.0) same,
+      ap (λ p. p.1) same,
     )
 
 -- an entry is its parts
 pub whole_found : (e : Entry) (n w l : ℕ) (c : Call) (r : Reply) (u : Under) → n ≡ e.number → w ≡ e.worker → l ≡ e.line → c ≡ e.call → r ≡ e.reply
     → Some u ≡ Some e.under → Some (record { number = n; worker = w; line = l; call = c; reply = r; under = u }) ≡ Some e
 whole_found e n w l c r u a b d f g h =
-    let held = some_same u e.under h in
-    λ i. Some (record { number = a i; worker = b i; line = d i; call = f i; reply = g i; under = held i })
+    let held = some_same u e.under h in λ i. Some (record { number = a i; worker = b i; line = d i; call = f i; reply = g i; under = held i })
 
 -- a text is the line of an entry in a log where the printer writes it of an entry that a log can show
 pub log_line : (text : List ℕ) (e : Entry) (test : Bool) → HasWordNumbers e → e.worker < 16 → e.line < 2 ^ 32 → HasNarrowRows e.reply → IsNamedCall e.call

@@ -17,7 +17,7 @@ digits_on base n (d ∷ ds) rest all none = rw (lt-ltb (worth d) base all.0) (di
 number_back : (base n : ℕ) (ds rest : List ℕ) → Digits base ds n → n < 2 ^ 64 → NoDigit base rest → number_at base (ds ++ rest) ≡ Some (n, rest)
 unfolding number_at
 number_back base n ds rest all small none =
-    let e : digits_of base 0 (ds ++ rest) ≡ (n, rest) = digits_on base 0 ds rest all.1 none ∙ ap (λ (v : ℕ). (v, rest)) (sym all.2) in
+    let e : digits_of base 0 (ds ++ rest) ≡ (n, rest) = digits_on base 0 ds rest all.1 none ∙ ap (λ v. (v, rest)) (sym all.2) in
     rw e (rw (lt-ltb n (2 ^ 64) small) refl)
 
 -- a count

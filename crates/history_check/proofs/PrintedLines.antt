@@ -1,24 +1,24 @@
 -- What a run prints, line by line: each text that is printed lacks the newline but at its end, so the lines of the
 -- whole are those of its parts. No line behind the log begins as one of it.
-use Rattle.std.specs.Prelude.{All}
+use Rattle.std.specs.Prelude.{All, ◌==◌, ◌-◌, ◌*◌}
 use Rattle.std.specs.List.{AllZip}
 use Rattle.std.specs.Fmt.{digit_glyph, digits, digits_onto}
-use Rattle.std.proofs.Common.{◌≡◌, ◌≢◌, ◌⊎◌, ℕ, zero, suc, ◌<◌, ◌/◌, ◌%◌, List, [], ◌∷◌, ◌++◌, length, replicate}
-use Rattle.std.proofs.Common.{codes, decimal, get_or, drop, Bool, true, false, None}
-use Rattle.std.proofs.Common.{refl, sym, ap, ◌∙◌, subst, inl, inr, arith, append_assoc, not, ◌&&◌}
-use Rattle.std.specs.Prelude.{◌==◌, ◌-◌, ◌*◌}
+use Rattle.std.proofs.Common.{◌≡◌, ◌≢◌, ◌⊎◌, ℕ, zero, suc, ◌<◌, ◌/◌, ◌%◌, List, [], ◌∷◌, ◌++◌, length, replicate, codes, decimal, get_or, drop, true, false}
+use Rattle.std.proofs.Common.{None, refl, sym, ap, ◌∙◌, subst, inl, inr, arith, append_assoc, not}
 use Rattle.std.proofs.lemmas.Bool.Decides.{eqb_tells, nat_tests}
 use Rattle.std.proofs.lemmas.List.Elements.{All-cons, All-nil}
 use Rattle.space_model.specs.declared.areas.Area.{Area}
 use Rattle.space_model.specs.declared.entries.Entry.{Entry}
 use Rattle.line_parts.specs.Lines.{lines_of, put_first}
-use Rattle.line_parts.specs.Leaves.{AllDigits, EachIs, IsRun, is_digit, worth}
+use Rattle.line_parts.specs.Leaves.{AllDigits, EachIs, IsRun, is_digit}
 use Rattle.strace_reader.specs.Grammar.{BeginsWith}
+use Rattle.line_parts.proofs.Numerals.{digit_byte}
 use Rattle.maps_printer.specs.Calls.{call_text, reply_text}
 use Rattle.maps_printer.specs.Lines.{area_line, entry_line, log_text, maps_text, summary_text, under_text}
 use Rattle.maps_printer.specs.Numbers.{hex_digits, page_address}
 use Rattle.maps_printer.specs.Words.{kind_text}
-use Rattle.round_trip.proofs.LogsRead.{call_lacks, clean, kind_lacks, lacks, lacks_both, line_apart, line_ends, onto, reply_lacks, under_lacks}
+use Rattle.round_trip.proofs.LogsRead.{both, call_lacks, clean, first_of, kind_lacks, lacks, lacks_both, line_apart, line_ends, not_true, onto, reply_lacks}
+use Rattle.round_trip.proofs.LogsRead.{second_of, under_lacks}
 use Rattle.round_trip.proofs.NumbersRead.{decimal_digits}
 use Rattle.history_check.specs.Laws.{IsTouchedLine, PrintedLogIsGood}
 use Rattle.history_check.specs.Checking.{IsNarrow, IsWholeRest}
@@ -29,27 +29,11 @@ use Rattle.history_check.proofs.RestLines.{both_lines, only_played, rest_on}
 
 -- ---- lines of a text in parts
 
-both : (p q : Bool) → p ≡ true → q ≡ true → p && q ≡ true
-both true q a b = b
-both false q a b = absurd cc
-
-apart_first : (x : ℕ) (xs : List ℕ) → lacks 10 (x ∷ xs) ≡ true → (x ≢ 10) × (lacks 10 xs ≡ true)
-apart_first x xs h = elim (eqb_tells x 10) [
-  | inl same ↦ absurd (let no : lacks 10 (x ∷ xs) ≡ false = rw same.0 refl in cc)
-  | inr other ↦ (other.1, let rest : lacks 10 xs ≡ true = rw other.0 at h in rest)
-]
-
-line_on : (byte : ℕ) (text line : List ℕ) (lines : List (List ℕ)) → byte ≢ 10 → lines_of text ≡ line ∷ lines → lines_of (byte ∷ text) ≡ (byte ∷ line) ∷ lines
-line_on byte text line lines other is = elim (eqb_tells byte 10) [
-  | inl same ↦ absurd (other same.1)
-  | inr apart ↦ rw apart.0 (ap (put_first byte) is)
-]
-
 -- a text without a newline, and behind it one, is a line before the others
 pub line_first : (line text : List ℕ) → lacks 10 line ≡ true → lines_of (line ++ 10 ∷ text) ≡ line ∷ lines_of text
 line_first [] text none = refl
-line_first (byte ∷ line) text none =
-    let apart = apart_first byte line none in line_on byte (line ++ 10 ∷ text) line (lines_of text) apart.0 (line_first line text apart.1)
+line_first (byte ∷ line) text none = rw (not_true (byte == 10) (first_of (not (byte == 10)) (lacks 10 line) none))
+    (ap (put_first byte) (line_first line text (second_of (not (byte == 10)) (lacks 10 line) none)))
 
 -- a text that is one line with its newline
 record OneLine (whole : List ℕ) : Type 0 where
@@ -60,7 +44,7 @@ record OneLine (whole : List ℕ) : Type 0 where
 -- it is the first line before what follows
 one_first : (whole text : List ℕ) (one : OneLine whole) → lines_of (whole ++ text) ≡ one.line ∷ lines_of text
 one_first whole text one =
-    ap (λ (t : List ℕ). lines_of (t ++ text)) (sym one.is) ∙ ap lines_of (append_assoc one.line (10 ∷ []) text) ∙ line_first one.line text one.lacks_it
+    ap (λ t. lines_of (t ++ text)) (sym one.is) ∙ ap lines_of (append_assoc one.line (10 ∷ []) text) ∙ line_first one.line text one.lacks_it
 
 -- ---- numbers
 
@@ -70,8 +54,7 @@ glyph_apart b n low = grind (arith, nat_tests)
 onto_lacks : (b k base n : ℕ) (acc : List ℕ) → b < 48 → lacks b acc ≡ true → lacks b (digits_onto k base false n acc) ≡ true
 onto_lacks b zero base n acc low none = none
 onto_lacks b (suc k) base n acc low none =
-    let next : lacks b (digit_glyph false (n % base) ∷ acc) ≡ true = rw (glyph_apart b (n % base) low) none in
-    elim (eqb_tells (n / base) 0) [
+    let next : lacks b (digit_glyph false (n % base) ∷ acc) ≡ true = rw (glyph_apart b (n % base) low) none in elim (eqb_tells (n / base) 0) [
       | inl last ↦ rw last.0 next
       | inr more ↦ rw more.0 (onto_lacks b k base (n / base) (digit_glyph false (n % base) ∷ acc) low next)
     ]
@@ -103,20 +86,15 @@ entry_words e h =
     let line = onto (onto worker (decimal e.line) (digits_lack 10 10 e.line (omega arith))) (codes " ") refl in
     let call = onto (onto line (call_text e.call) (call_lacks 10 line_apart refl e.call h.words.call)) (codes " = ") refl in
     let reply = onto (onto call (reply_text e.reply) (reply_lacks 10 line_ends refl e.reply h.words.reply)) (codes " under ") refl in
-    let all = onto reply (under_text e.under) (under_lacks e.under h.words.under) in
-    record { line = all.text; lacks_it = all.lacks_it; is = refl }
-
-digit_is : (c : ℕ) → worth c < 10 → is_digit c ≡ true
-unfolding worth
-digit_is c small = grind (arith, nat_tests)
+    let all = onto reply (under_text e.under) (under_lacks e.under h.words.under) in record { line = all.text; lacks_it = all.lacks_it; is = refl }
 
 digits_run : (ds : List ℕ) → AllDigits 10 ds → EachIs is_digit ds
 digits_run [] all = tt
-digits_run (d ∷ ds) all = (digit_is d all.0, digits_run ds all.1)
+digits_run (d ∷ ds) all = (digit_byte d all.0, digits_run ds all.1)
 
 some_run : (ds : List ℕ) → 0 < length ds → AllDigits 10 ds → IsRun is_digit is_digit ds
 some_run [] some all = absurd (omega arith)
-some_run (d ∷ ds) some all = (digit_is d all.0, digits_run ds all.1)
+some_run (d ∷ ds) some all = (digit_byte d all.0, digits_run ds all.1)
 
 -- the line of an entry begins as one of a log
 entry_begins : (e : Entry) (h : IsLogEntry e) → BeginsLog (entry_words e h).line
@@ -141,14 +119,12 @@ pub record LogFirst (entries : List Entry) (text : List ℕ) : Type 0 where
 pub log_first : (entries : List Entry) (text : List ℕ) → All IsLogEntry entries → LogFirst entries text
 log_first [] text all = record { lines = []; whole = refl; spelled = tt; begin = All-nil BeginsLog }
 log_first (e ∷ entries) text all =
-    let own = all 0 e (omega arith) in
-    let one = entry_words e own in
+    let own = all 0 e (omega arith) in let one = entry_words e own in
     let others = log_first entries text (λ k d low. all (suc k) d (omega arith)) in
     record {
       lines = one.line ∷ others.lines;
-      whole =
-          ap lines_of (append_assoc (entry_line e) (log_text entries) text) ∙ one_first (entry_line e) (log_text entries ++ text) one
-          ∙ ap (λ (ls : List (List ℕ)). one.line ∷ ls) others.whole;
+      whole = ap lines_of (append_assoc (entry_line e) (log_text entries) text) ∙ one_first (entry_line e) (log_text entries ++ text) one
+          ∙ ap (λ ls. one.line ∷ ls) others.whole;
       spelled = ((own, one.is), others.spelled);
       begin = All-cons BeginsLog one.line others.lines (entry_begins e own) others.begin;
     }
@@ -165,24 +141,15 @@ area_words a =
     record { line = all.text; lacks_it = all.lacks_it; is = append_assoc kind.text (codes " 00000000 00:00 0") (10 ∷ []) }
 
 lacks_not : (b y : ℕ) (q : List ℕ) → b ≡ y → lacks b (y ∷ q) ≡ true → ⊥
-lacks_not b y q same none = elim (eqb_tells y b) [
-  | inl is ↦ let no : lacks b (y ∷ q) ≡ false = rw is.0 refl in cc
-  | inr other ↦ other.1 (sym same)
-]
-
-lacks_rest : (b y : ℕ) (q : List ℕ) → lacks b (y ∷ q) ≡ true → lacks b q ≡ true
-lacks_rest b y q none = elim (eqb_tells y b) [
-  | inl is ↦ absurd (let no : lacks b (y ∷ q) ≡ false = rw is.0 refl in cc)
-  | inr other ↦ let rest : lacks b q ≡ true = rw other.0 at none in rest
-]
+lacks_not b y q same none = elim (eqb_tells y b) [ inl is ↦ let no : lacks b (y ∷ q) ≡ false = rw is.0 refl in cc | inr other ↦ other.1 (sym same) ]
 
 -- a text that goes on with one byte first doesn't go on with another, where what is before lacks both
 other_end : (b c : ℕ) (p q r s : List ℕ) → b ≢ c → lacks c p ≡ true → lacks b q ≡ true → p ++ b ∷ r ≡ q ++ c ∷ s → ⊥
-other_end b c [] [] r s apart none no_b e = apart (ap (λ (l : List ℕ). get_or l 0 0) e)
-other_end b c [] (y ∷ q) r s apart none no_b e = lacks_not b y q (ap (λ (l : List ℕ). get_or l 0 0) e) no_b
-other_end b c (x ∷ p) [] r s apart none no_b e = lacks_not c x p (sym (ap (λ (l : List ℕ). get_or l 0 0) e)) none
-other_end b c (x ∷ p) (y ∷ q) r s apart none no_b e =
-    other_end b c p q r s apart (lacks_rest c x p none) (lacks_rest b y q no_b) (ap (drop 1) e)
+other_end b c [] [] r s apart none no_b e = apart (ap (λ l. get_or l 0 0) e)
+other_end b c [] (y ∷ q) r s apart none no_b e = lacks_not b y q (ap (λ l. get_or l 0 0) e) no_b
+other_end b c (x ∷ p) [] r s apart none no_b e = lacks_not c x p (sym (ap (λ l. get_or l 0 0) e)) none
+other_end b c (x ∷ p) (y ∷ q) r s apart none no_b e = other_end b c p q r s apart (second_of (not (x == c)) (lacks c p) none)
+    (second_of (not (y == b)) (lacks b q) no_b) (ap (drop 1) e)
 
 no_dash : (d : ℕ) → is_digit d ≡ true → not (d == 45) ≡ true
 no_dash d digit = grind (arith, nat_tests)
@@ -201,8 +168,7 @@ nest_area lo dash hi sp kind rest = simp append_assoc
 -- it begins as none of a log: a dash ends its first digits
 area_begins_not : (a : Area) → BeginsLog (area_words a).line → ⊥
 unfolding area_words
-area_begins_not a (ds, rest, run, is) =
-    other_end 45 32 (page_address a.lo) ds _ rest (omega arith) (page_lacks 32 a.lo (omega arith)) (run_apart ds run)
+area_begins_not a (ds, rest, run, is) = other_end 45 32 (page_address a.lo) ds _ rest (omega arith) (page_lacks 32 a.lo (omega arith)) (run_apart ds run)
     (sym (nest_area (page_address a.lo) (codes "-") (page_address a.hi) (codes " ") (kind_text a.kind) (codes " 00000000 00:00 0")) ∙ is)
 
 -- the maps and what follows them are the whole rest, where what follows is that behind the areas
@@ -255,22 +221,19 @@ pub end_whole : (played skipped refused differ : ℕ) (tail : List ℕ) → (tai
     → IsWholeRest [] (lines_of (summary_text played skipped refused differ ++ tail))
 end_whole played skipped refused differ tail (inl none) =
     let one = summary_words played skipped refused differ in
-    let lines = one_first (summary_text played skipped refused differ) tail one ∙ ap (λ (t : List ℕ). one.line ∷ lines_of t) none in
+    let lines = one_first (summary_text played skipped refused differ) tail one ∙ ap (λ t. one.line ∷ lines_of t) none in
     subst (IsWholeRest []) (sym lines) (only_played one.line (summary_begins played skipped refused differ))
 end_whole played skipped refused differ tail (inr (rest, clean_rest, is)) =
-    let one = summary_words played skipped refused differ in
-    let word = codes "touched " ++ rest in
-    let touched : lines_of tail ≡ word ∷ [] =
-    ap lines_of (is ∙ sym (append_assoc (codes "touched ") rest (10 ∷ [])))
+    let one = summary_words played skipped refused differ in let word = codes "touched " ++ rest in
+    let touched : lines_of tail ≡ word ∷ [] = ap lines_of (is ∙ sym (append_assoc (codes "touched ") rest (10 ∷ [])))
     ∙ line_first word [] (lacks_both 10 (codes "touched ") rest refl (each_apart rest clean_rest)) in
-    let lines = one_first (summary_text played skipped refused differ) tail one ∙ ap (λ (ls : List (List ℕ)). one.line ∷ ls) touched in
+    let lines = one_first (summary_text played skipped refused differ) tail one ∙ ap (λ ls. one.line ∷ ls) touched in
     subst (IsWholeRest []) (sym lines) (both_lines one.line word (summary_begins played skipped refused differ) (rest, refl))
 
 played_not : (text rest : List ℕ) → text ≡ codes "played " ++ rest → BeginsLog text → ⊥
 played_not text rest begins ([], more, run, is) = run
 played_not text rest begins (d ∷ ds, more, run, is) =
-    let first : d ≡ 112 = ap (λ (l : List ℕ). get_or l 0 0) (sym is ∙ begins) in
-    let digit : is_digit 112 ≡ true = subst (λ (x : ℕ). is_digit x ≡ true) first run.0 in cc
+    let first : d ≡ 112 = ap (λ l. get_or l 0 0) (sym is ∙ begins) in let digit : is_digit 112 ≡ true = subst (λ x. is_digit x ≡ true) first run.0 in cc
 
 -- it begins as no log
 pub end_begins_not : (played skipped refused differ : ℕ) (tail : List ℕ) → BeginsNoLog (lines_of (summary_text played skipped refused differ ++ tail))
@@ -291,8 +254,7 @@ printed_good entries words narrow A B played skipped refused differ tail named w
       line = (narrow k d low).line;
       rows = (narrow k d low).rows;
       named = named k d low;
-    } in
-    let first = log_first entries behind all in
+    } in let first = log_first entries behind all in
     let after = maps_whole B (summary_text played skipped refused differ ++ tail) (end_whole played skipped refused differ tail end) in
     record {
       log = first.lines;

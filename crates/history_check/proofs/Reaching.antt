@@ -9,7 +9,7 @@ use Rattle.space_model.specs.declared.areas.Area.{Area}
 use Rattle.space_model.specs.declared.entries.Entry.{Entry}
 use Rattle.space_model.proofs.Histories.{runs_more}
 use Rattle.history_check.specs.declared.verdict.WrongLog.{WrongLog}
-use Rattle.history_check.specs.declared.verdict.WrongLog.TheVariants.{Form, Number, Order, Held, Reply, Rest}
+use Rattle.history_check.specs.declared.verdict.WrongLog.TheVariants.{Rest}
 use Rattle.history_check.specs.declared.verdict.Verdict.{Verdict}
 use Rattle.history_check.specs.declared.verdict.Verdict.TheVariants.{Legal, Wrong}
 use Rattle.history_check.specs.declared.taking.Seen.{Seen}
@@ -41,15 +41,13 @@ reached_none A lines seen h = record {
 spelled_more : (front : List (List ℕ)) (entries : List Entry) (text : List ℕ) (e : Entry) → AllZip IsLogLine front entries → IsLogLine text e
     → AllZip IsLogLine (front ++ text ∷ []) (entries ++ e ∷ [])
 spelled_more [] [] text e all line = (line, tt)
-spelled_more [] (f ∷ entries) text e all line = absurd all
-spelled_more (l ∷ front) [] text e all line = absurd all
 spelled_more (l ∷ front) (f ∷ entries) text e all line = (all.0, spelled_more front entries text e all.1 line)
+spelled_more front entries text e all line = absurd all
 
 as_many : (front : List (List ℕ)) (entries : List Entry) → AllZip IsLogLine front entries → length front ≡ length entries
 as_many [] [] all = refl
-as_many [] (f ∷ entries) all = absurd all
-as_many (l ∷ front) [] all = absurd all
 as_many (l ∷ front) (f ∷ entries) all = let more = as_many front entries all.1 in omega arith
+as_many front entries all = absurd all
 
 all_more : (front : List (List ℕ)) (text : List ℕ) → All BeginsLog front → BeginsLog text → All BeginsLog (front ++ text ∷ [])
 all_more front text all one = All-append BeginsLog front (text ∷ []) all (All-cons BeginsLog text [] one (All-nil BeginsLog))
@@ -60,19 +58,16 @@ pub reached_more : (A : List Area) (lines all : List (List ℕ)) (text : List �
     → ((before : List Entry) → IsSeen before seen → IsTaken before B text wrong C new) → Reached A lines rest new C × (new.next ≡ seen.next + 1)
 reached_more A lines all text rest seen new B C wrong cut h begins none taken =
     let (e, line, place, step, now) = subst (λ w. IsTaken h.entries B text w C new) none (taken h.entries h.seen_are) in
-    let was = h.seen_are.number in
-    let more = now.number in
+    let was = h.seen_are.number in let more = now.number in
     let long = length-append h.entries (e ∷ []) in (
       record {
         front = h.front ++ text ∷ [];
         entries = h.entries ++ e ∷ [];
-        whole = h.whole ∙ ap (λ (ls : List (List ℕ)). h.front ++ ls) cut ∙ sym (append_assoc h.front (text ∷ []) rest);
+        whole = h.whole ∙ ap (λ ls. h.front ++ ls) cut ∙ sym (append_assoc h.front (text ∷ []) rest);
         log_lines = all_more h.front text h.log_lines begins;
         right = record {
           spelled = spelled_more h.front h.entries text e h.right.spelled line;
-          runs =
-              runs_more h.entries 0 A B C e h.right.runs (place.number ∙ (let z : length h.entries ≡ 0 + length h.entries = omega arith in z)) step.0
-              step.1;
+          runs = runs_more h.entries 0 A B C e h.right.runs (place.number ∙ (let z : length h.entries ≡ 0 + length h.entries = omega arith in z)) step.0 step.1;
           rise = place.order;
         };
         seen_are = now;
@@ -81,31 +76,25 @@ reached_more A lines all text rest seen new B C wrong cut h begins none taken =
     )
 
 wrong_line : (A : List Area) (lines : List (List ℕ)) (line : ℕ) (why : WrongLog) → FailsInLog A lines line why → IsVerdict A lines (Wrong line why)
-wrong_line A lines line Form f = f
-wrong_line A lines line Number f = f
-wrong_line A lines line Order f = f
-wrong_line A lines line Held f = f
-wrong_line A lines line Reply f = f
 wrong_line A lines line Rest f = elim f.fails [ inl none ↦ absurd (let e = none.0 in cc) | inr some ↦ absurd some.2 ]
+wrong_line A lines line why f = f
 
 -- the next line is wrong
 pub reached_wrong : (A : List Area) (lines all : List (List ℕ)) (text : List ℕ) (rest : List (List ℕ)) (seen new : Seen) (B C : List Area)
     (wrong : Option WrongLog) (why : WrongLog) → all ≡ text ∷ rest → Reached A lines all seen B → BeginsLog text → wrong ≡ Some why
     → ((before : List Entry) → IsSeen before seen → IsTaken before B text wrong C new) → IsVerdict A lines (Wrong (seen.next + 1) why)
-reached_wrong A lines all text rest seen new B C wrong why cut h begins some taken =
-    wrong_line A lines (seen.next + 1) why
-    (record {
-      front = h.front;
-      text = text;
-      behind = rest;
-      entries = h.entries;
-      state = B;
-      whole = h.whole ∙ ap (λ (ls : List (List ℕ)). h.front ++ ls) cut;
-      log_lines = all_more h.front text h.log_lines begins;
-      right = h.right;
-      place = let many = as_many h.front h.entries h.right.spelled in let next = h.seen_are.number in omega (arith, many, next);
-      fails = subst (λ w. IsTaken h.entries B text w C new) some (taken h.entries h.seen_are);
-    })
+reached_wrong A lines all text rest seen new B C wrong why cut h begins some taken = wrong_line A lines (seen.next + 1) why (record {
+  front = h.front;
+  text = text;
+  behind = rest;
+  entries = h.entries;
+  state = B;
+  whole = h.whole ∙ ap (λ ls. h.front ++ ls) cut;
+  log_lines = all_more h.front text h.log_lines begins;
+  right = h.right;
+  place = let many = as_many h.front h.entries h.right.spelled in let next = h.seen_are.number in omega (arith, many, next);
+  fails = subst (λ w. IsTaken h.entries B text w C new) some (taken h.entries h.seen_are);
+})
 
 -- the log ends there, and so does the text
 pub reached_end : (A : List Area) (lines all : List (List ℕ)) (seen : Seen) (B : List Area) → all ≡ [] → Reached A lines all seen B
@@ -116,7 +105,7 @@ reached_end A lines all seen B ended h = (
     log = h.front;
     rest = [];
     last = B;
-    cut = record { whole = h.whole ∙ ap (λ (ls : List (List ℕ)). h.front ++ ls) ended; log_lines = h.log_lines; ended = tt };
+    cut = record { whole = h.whole ∙ ap (λ ls. h.front ++ ls) ended; log_lines = h.log_lines; ended = tt };
     right = h.right;
     whole = inl refl;
   },
@@ -137,8 +126,7 @@ rest_follows A lines text rest seen B (Legal n) h other told = (
   },
   told.0 ∙ h.seen_are.number,
 )
-rest_follows A lines text rest seen B (Wrong line why) h other (cause, count, place, fails) =
-    subst (λ w. IsVerdict A lines (Wrong line w)) (sym cause)
+rest_follows A lines text rest seen B (Wrong line why) h other (cause, count, place, fails) = subst (λ w. IsVerdict A lines (Wrong line w)) (sym cause)
     (record {
       log = h.front;
       rest = text ∷ rest;

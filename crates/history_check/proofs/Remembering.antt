@@ -17,20 +17,17 @@ Rises one other = one.worker ≡ other.worker → one.line < other.line
 
 -- one more at the end, which all others are paired with
 pairs_more : {X : Type 0} (R : X → X → Type 0) (xs : List X) (y : X) → AllPairs R xs → All (λ x. R x y) xs → AllPairs R (xs ++ y ∷ [])
-pairs_more R xs y pairs all i j d below within =
-    let long = length-append xs (y ∷ []) in
-    elim (cases_lt j (length xs)) [
-      | inl lt ↦
-          let first = get_or_append_left xs (y ∷ []) d i (omega (arith, below, lt)) in
-          let second = get_or_append_left xs (y ∷ []) d j lt in
-          subst (λ b. R (get_or (xs ++ y ∷ []) i d) b) (sym second) (subst (λ a. R a (get_or xs j d)) (sym first) (pairs i j d below lt))
-      | inr ge ↦
-          let at : length xs ≡ j = omega (arith, long, within, ge) in
-          let first = get_or_append_left xs (y ∷ []) d i (omega (arith, below, at)) in
-          let second : get_or (xs ++ y ∷ []) j d ≡ y =
-          subst (λ (k : ℕ). get_or (xs ++ y ∷ []) k d ≡ y) at (get_or-append_seam xs y [] d) in
-          subst (λ b. R (get_or (xs ++ y ∷ []) i d) b) (sym second) (subst (λ a. R a y) (sym first) (all i d (omega (arith, below, at))))
-    ]
+pairs_more R xs y pairs all i j d below within = let long = length-append xs (y ∷ []) in elim (cases_lt j (length xs)) [
+  | inl lt ↦
+      let first = get_or_append_left xs (y ∷ []) d i (omega (arith, below, lt)) in
+      let second = get_or_append_left xs (y ∷ []) d j lt in
+      subst (λ b. R (get_or (xs ++ y ∷ []) i d) b) (sym second) (subst (λ a. R a (get_or xs j d)) (sym first) (pairs i j d below lt))
+  | inr ge ↦
+      let at : length xs ≡ j = omega (arith, long, within, ge) in
+      let first = get_or_append_left xs (y ∷ []) d i (omega (arith, below, at)) in
+      let second : get_or (xs ++ y ∷ []) j d ≡ y = subst (λ k. get_or (xs ++ y ∷ []) k d ≡ y) at (get_or-append_seam xs y [] d) in
+      subst (λ b. R (get_or (xs ++ y ∷ []) i d) b) (sym second) (subst (λ a. R a y) (sym first) (all i d (omega (arith, below, at))))
+]
 
 -- an entry whose line number is below what is kept of its worker isn't in order
 pub out_of_order : (before : List Entry) (seen : Seen) (e : Entry) → IsSeen before seen → e.worker < 16 → e.line < slice_index seen.last e.worker
@@ -38,8 +35,7 @@ pub out_of_order : (before : List Entry) (seen : Seen) (e : Entry) → IsSeen be
 out_of_order before seen e h small low rise = elim (h.last e.worker small) [
   | inl none ↦ omega (arith, none, low)
   | inr (f, (k, within, at), worker, line) ↦
-      let long = length-append before (e ∷ []) in
-      let pair = rise k (length before) f within (omega (arith, long)) in
+      let long = length-append before (e ∷ []) in let pair = rise k (length before) f within (omega (arith, long)) in
       let first : get_or (before ++ e ∷ []) k f ≡ f = get_or_append_left before (e ∷ []) f k within ∙ at in
       let second : get_or (before ++ e ∷ []) (length before) f ≡ e = get_or-append_seam before e [] f in
       let lower = (subst (λ b. Rises f b) second (subst (λ a. Rises a (get_or (before ++ e ∷ []) (length before) f)) first pair)) worker in
@@ -51,9 +47,7 @@ pub in_place : (before : List Entry) (seen : Seen) (e : Entry) → IsSeen before
     → IsInPlace before e
 in_place before seen e h number high = record {
   number = number ∙ h.number;
-  order =
-      pairs_more Rises before e h.rise
-      (λ k d within same.
+  order = pairs_more Rises before e h.rise (λ k d within same.
       let below = (h.above k d within).1 in
       let kept : slice_index seen.last (get_or before k d).worker ≡ slice_index seen.last e.worker = ap (slice_index seen.last) same in
       omega (arith, below, kept, high));
@@ -65,27 +59,21 @@ pub seen_more : (before : List Entry) (old new : Seen) (e : Entry) → length ol
 seen_more before old new e size h place small next last =
     let long = length-append before (e ∷ []) in
     let here : slice_index new.last e.worker ≡ e.line + 1 =
-    ap (λ (l : List ℕ). slice_index l e.worker) last ∙ get_or-set_same old.last e.worker (e.line + 1) 0 (omega (arith, small, size)) in
+    ap (λ l. slice_index l e.worker) last ∙ get_or-set_same old.last e.worker (e.line + 1) 0 (omega (arith, small, size)) in
     let there = λ (w : ℕ) (other : w ≢ e.worker).
-    ap (λ (l : List ℕ). slice_index l w) last ∙ get_or-set_other old.last e.worker w (e.line + 1) 0 other in
+    ap (λ l. slice_index l w) last ∙ get_or-set_other old.last e.worker w (e.line + 1) 0 other in
     record {
       number = omega (arith, next, h.number, long);
       rise = place.order;
-      above =
-          All-append (IsBelow new.last) before (e ∷ [])
-          (λ k d within. let was = h.above k d within in (
-            was.0,
-            elim (cases_eq (get_or before k d).worker e.worker) [
-              | inl same ↦
-                  let kept : slice_index new.last (get_or before k d).worker ≡ slice_index new.last e.worker = ap (slice_index new.last) same in
-                  let pair = earlier before e place.order k d within same in
-                  omega (arith, kept, here, pair)
-              | inr other ↦
-                  let kept = there (get_or before k d).worker other in
-                  omega (arith, kept, was.1)
-            ],
-          ))
-          (All-cons (IsBelow new.last) e [] (small, omega (arith, here)) (All-nil (IsBelow new.last)));
+      above = All-append (IsBelow new.last) before (e ∷ []) (λ k d within. let was = h.above k d within in (
+        was.0,
+        elim (cases_eq (get_or before k d).worker e.worker) [
+          | inl same ↦
+              let kept : slice_index new.last (get_or before k d).worker ≡ slice_index new.last e.worker = ap (slice_index new.last) same in
+              let pair = earlier before e place.order k d within same in omega (arith, kept, here, pair)
+          | inr other ↦ let kept = there (get_or before k d).worker other in omega (arith, kept, was.1)
+        ],
+      )) (All-cons (IsBelow new.last) e [] (small, omega (arith, here)) (All-nil (IsBelow new.last)));
       last = λ w low. elim (cases_eq w e.worker) [
         | inl same ↦ inr (e, Contains-append_right before (e ∷ []) e (0, omega arith, refl), sym same, sym here ∙ ap (slice_index new.last) (sym same))
         | inr other ↦ elim (h.last w low) [
@@ -98,8 +86,7 @@ seen_more before old new e size h place small next last =
     earlier : (before : List Entry) (e : Entry) → WorkersRise (before ++ e ∷ []) → (k : ℕ) (d : Entry) → k < length before
         → (get_or before k d).worker ≡ e.worker → (get_or before k d).line < e.line
     earlier before e rise k d within same =
-        let long = length-append before (e ∷ []) in
-        let pair = rise k (length before) d within (omega (arith, long)) in
+        let long = length-append before (e ∷ []) in let pair = rise k (length before) d within (omega (arith, long)) in
         let first : get_or (before ++ e ∷ []) k d ≡ get_or before k d = get_or_append_left before (e ∷ []) d k within in
         let second : get_or (before ++ e ∷ []) (length before) d ≡ e = get_or-append_seam before e [] d in
         (subst (λ b. Rises (get_or before k d) b) second (subst (λ a. Rises a (get_or (before ++ e ∷ []) (length before) d)) first pair)) same

@@ -1,8 +1,7 @@
 -- A reply that was written is read as this reply, where a space follows it.
-use Rattle.std.proofs.Common.{◌≡◌, ℕ, Bool, true, false, if◌then◌else◌, List, [], ◌∷◌, ◌++◌, Option, Some, None, codes}
-use Rattle.std.proofs.Common.{decimal, refl, ap, ◌∙◌, arith, append_assoc}
+use Rattle.std.proofs.Common.{◌≡◌, ℕ, Bool, true, false, if◌then◌else◌, List, [], ◌∷◌, ◌++◌, Some, None, codes, decimal, refl, ap, ◌∙◌, arith, append_assoc}
 use Rattle.page_types.specs.declared.pages.Field.{Field}
-use Rattle.page_types.specs.declared.pages.Field.TheVariants.{Addr, Len, Flags, End}
+use Rattle.page_types.specs.declared.pages.Field.TheVariants.{Addr}
 use Rattle.page_types.specs.declared.sets.Prot.{Prot}
 use Rattle.page_types.specs.declared.calls.Kind.{Kind}
 use Rattle.page_types.specs.declared.calls.Reply.{Reply}
@@ -35,29 +34,23 @@ word_reads prot shared rest = refl
 
 -- a seal, where no such word is behind the kind
 seal_reads : (prot : Prot) (shared sealed : Bool) (rest : List ℕ) → strip_at (codes " sealed") rest ≡ None
-    → sealed_or prot shared ((if sealed then codes " sealed" else []) ++ rest)
-    ≡ Some (record { prot = prot; shared = shared; sealed = sealed }, rest)
+    → sealed_or prot shared ((if sealed then codes " sealed" else []) ++ rest) ≡ Some (record { prot = prot; shared = shared; sealed = sealed }, rest)
 seal_reads prot shared true rest none = word_reads prot shared rest
-seal_reads prot shared false rest none =
-    ap (λ (found : Option (List ℕ)). given found
-    (λ (left : List ℕ). Some (record { prot = prot; shared = shared; sealed = true }, left))
+seal_reads prot shared false rest none = ap (λ found. given found (λ (left : List ℕ). Some (record { prot = prot; shared = shared; sealed = true }, left))
     (Some (record { prot = prot; shared = shared; sealed = false }, rest))) none
 
 -- a kind
-pub kind_reads : (k : Kind) (rest : List ℕ) → IsNamedKind k → strip_at (codes " sealed") rest ≡ None
-    → kind_at (log_kind k ++ rest) ≡ Some (k, rest)
+pub kind_reads : (k : Kind) (rest : List ℕ) → IsNamedKind k → strip_at (codes " sealed") rest ≡ None → kind_at (log_kind k ++ rest) ≡ Some (k, rest)
 unfolding kind_at marked_at kind_back
 kind_reads k rest named none =
     let back = kind_back (log_kind k) in
     seal_reads back.prot back.shared k.sealed rest none
-    ∙ ap (λ (j : Kind). Some (record { prot = j.prot; shared = j.shared; sealed = k.sealed }, rest)) (kind_told k named)
+    ∙ ap (λ j. Some (record { prot = j.prot; shared = j.shared; sealed = k.sealed }, rest)) (kind_told k named)
 
 field_reads : (f : Field) (rest : List ℕ) → field_at (field_text f ++ rest) ≡ Some (f, rest)
 unfolding field_at strip_at
 field_reads Addr rest = refl
-field_reads Len rest = refl
-field_reads Flags rest = refl
-field_reads End rest = refl
+field_reads f rest = refl
 
 short_reads : (s : Short) (more : List ℕ) → FitsShort s → HasNarrowRows (Refused (Enomem s)) → short_at (short_text s ++ 32 ∷ more) ≡ Some (s, 32 ∷ more)
 unfolding short_at strip_at
@@ -79,12 +72,11 @@ why_reads (Eexist p) more fits narrow named none = rw (page_back p (32 ∷ more)
 why_reads (Eperm p) more fits narrow named none = rw (page_back p (32 ∷ more) fits space_ends) refl
 why_reads (Efault p) more fits narrow named none = rw (page_back p (32 ∷ more) fits space_ends) refl
 why_reads (MapErr p) more fits narrow named none = rw (page_back p (32 ∷ more) fits space_ends) refl
-why_reads (AccErr p k) more fits narrow named none =
-    rw (
-      acc_parts (hex_digits p) (log_kind k) (32 ∷ more),
-      page_back p (32 ∷ (log_kind k ++ 32 ∷ more)) fits space_ends,
-      kind_reads k (32 ∷ more) named none,
-    ) refl
+why_reads (AccErr p k) more fits narrow named none = rw (
+  acc_parts (hex_digits p) (log_kind k) (32 ∷ more),
+  page_back p (32 ∷ (log_kind k ++ 32 ∷ more)) fits space_ends,
+  kind_reads k (32 ∷ more) named none,
+) refl
 
 -- the digit 0 alone is no page
 zero_alone : (more : List ℕ) → page_at (48 ∷ 32 ∷ more) ≡ None

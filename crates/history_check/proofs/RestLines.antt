@@ -22,19 +22,17 @@ further count (Some place) = Some (count + place)
 
 lines_on : (a : Area) (B : List Area) (line : List ℕ) (rest : List (List ℕ)) (count : ℕ) → line ++ 10 ∷ [] ≡ area_line a
     → AreRestLines B rest count → AreRestLines (a ∷ B) (line ∷ rest) (suc count)
-lines_on a B line rest count is all zero text low at = subst (λ (t : List ℕ). t ++ 10 ∷ [] ≡ area_line a) (some_is line text at) is
+lines_on a B line rest count is all zero text low at = subst (λ t. t ++ 10 ∷ [] ≡ area_line a) (some_is line text at) is
 lines_on a B line rest count is all (suc i) text low at = all i text (omega arith) at
 
 -- behind the line of its first area the rest is that of the others
 pub rest_on : (a : Area) (B : List Area) (line : List ℕ) (rest : List (List ℕ)) (place : Option ℕ) → line ++ 10 ∷ [] ≡ area_line a
     → Tells B rest place → Tells (a ∷ B) (line ∷ rest) (further 1 place)
 rest_on a B line rest None is w = record { lines = lines_on a B line rest (length rest) is w.lines; long = let l = w.long in omega arith }
-rest_on a B line rest (Some count) is f =
-    subst (FailsAt (a ∷ B) (line ∷ rest)) (let e : suc count ≡ 1 + count = omega arith in e)
-    (record {
-      before = lines_on a B line rest count is f.before;
-      fails = elim f.fails [ inl other ↦ inl other | inr ended ↦ inr (omega (arith, ended.0), omega (arith, ended.1)) ];
-    })
+rest_on a B line rest (Some count) is f = subst (FailsAt (a ∷ B) (line ∷ rest)) (let e : suc count ≡ 1 + count = omega arith in e) (record {
+  before = lines_on a B line rest count is f.before;
+  fails = elim f.fails [ inl other ↦ inl other | inr ended ↦ inr (omega (arith, ended.0), omega (arith, ended.1)) ];
+})
 
 -- what the areas and lines that are left tell, so many lines further, is what all tell
 abbrev pub Leads : List Area → List (List ℕ) → ℕ → List Area → List (List ℕ) → Type 0
@@ -47,16 +45,14 @@ further_once count (Some place) = ap Some (let e : count + (1 + place) ≡ (coun
 -- an area and its line less are left
 pub leads_on : (a : Area) (left B : List Area) (line : List ℕ) (all rest : List (List ℕ)) (count : ℕ) (A : List Area) (lines : List (List ℕ))
     → left ≡ a ∷ B → all ≡ line ∷ rest → line ++ 10 ∷ [] ≡ area_line a → Leads left all count A lines → Leads B rest (count + 1) A lines
-leads_on a left B line all rest count A lines first cut is leads place t =
-    subst (Tells A lines) (further_once count place)
-    ((subst (λ (ls : List (List ℕ)). Leads (a ∷ B) ls count A lines) cut (subst (λ (X : List Area). Leads X all count A lines) first leads)) (further 1 place)
+leads_on a left B line all rest count A lines first cut is leads place t = subst (Tells A lines) (further_once count place)
+    ((subst (λ ls. Leads (a ∷ B) ls count A lines) cut (subst (λ (X : List Area). Leads X all count A lines) first leads)) (further 1 place)
     (rest_on a B line rest place is t))
 
 -- where the next area's line is missing, the rest fails there
 pub leads_wrong : (a : Area) (left B : List Area) (rest : List (List ℕ)) (count : ℕ) (A : List Area) (lines : List (List ℕ)) → left ≡ a ∷ B
     → LacksArea a rest → Leads left rest count A lines → FailsAt A lines count
-leads_wrong a left B rest count A lines cut lacks leads =
-    subst (FailsAt A lines) (let e : count + 0 ≡ count = omega arith in e)
+leads_wrong a left B rest count A lines cut lacks leads = subst (FailsAt A lines) (let e : count + 0 ≡ count = omega arith in e)
     ((subst (λ (X : List Area). Leads X rest count A lines) cut leads) (Some 0) (first a B rest lacks))
   where
     first : (a : Area) (B : List Area) (rest : List (List ℕ)) → LacksArea a rest → FailsAt (a ∷ B) rest 0
@@ -73,17 +69,13 @@ no_end = record { before = λ i text low at. absurd (omega arith); fails = inr (
 pub wrong_played : (line : List ℕ) (rest : List (List ℕ)) → (BeginsWith (codes "played ") line → ⊥) → FailsAt [] (line ∷ rest) 0
 wrong_played line rest other = record { before = λ i text low at. absurd (omega arith); fails = inl (line, refl, other) }
 
--- that line alone
-pub only_played : (line : List ℕ) → BeginsWith (codes "played ") line → IsWholeRest [] (line ∷ [])
-only_played line is = record { lines = each line is; long = omega arith }
-  where
-    each : (line : List ℕ) → BeginsWith (codes "played ") line → AreRestLines [] (line ∷ []) 1
-    each line is zero text low at = subst (BeginsWith (codes "played ")) (some_is line text at) is
-    each line is (suc i) text low at = absurd (omega arith)
-
 played_first : (line : List ℕ) (rest : List (List ℕ)) → BeginsWith (codes "played ") line → AreRestLines [] (line ∷ rest) 1
 played_first line rest is zero text low at = subst (BeginsWith (codes "played ")) (some_is line text at) is
 played_first line rest is (suc i) text low at = absurd (omega arith)
+
+-- that line alone
+pub only_played : (line : List ℕ) → BeginsWith (codes "played ") line → IsWholeRest [] (line ∷ [])
+only_played line is = record { lines = played_first line [] is; long = omega arith }
 
 -- another line in place of the one that begins `touched `
 pub wrong_touched : (line next : List ℕ) (rest : List (List ℕ)) → BeginsWith (codes "played ") line → (BeginsWith (codes "touched ") next → ⊥)

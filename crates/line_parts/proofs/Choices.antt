@@ -20,11 +20,11 @@ choice_took : {A : Type 0} (test : ℕ → Bool) (one other : Part A) (text : Li
 choice_took test one other text v rest t = record {
   front = t.front;
   parts = t.parts;
-  takes = subst (λ (x : List ℕ). (arm one other (starts test x)).takes t.front rest v) t.parts t.takes;
+  takes = subst (λ x. (arm one other (starts test x)).takes t.front rest v) t.parts t.takes;
   only = λ p q more w h e alike.
       let guard : starts test (p ++ q) ≡ starts test text = ap (starts test) e ∙ starts_front test t.front more rest alike ∙ ap (starts test) (sym t.parts) in
-      t.only p q more w (subst (λ (x : Bool). (arm one other x).takes p q w) guard h) e alike;
-  clean = λ g o r w h e. t.clean g o r w (subst (λ (x : List ℕ). (arm one other (starts test x)).refuses g o r w) (sym e) h) e;
+      t.only p q more w (subst (λ x. (arm one other x).takes p q w) guard h) e alike;
+  clean = λ g o r w h e. t.clean g o r w (subst (λ x. (arm one other (starts test x)).refuses g o r w) (sym e) h) e;
 }
 
 choice_begins : {A : Type 0} (test : ℕ → Bool) (one other : Part A) (follow : A → List ℕ → Type 0) (text front over : List ℕ) → text ≡ front ++ over
@@ -33,25 +33,24 @@ choice_begins : {A : Type 0} (test : ℕ → Bool) (one other : Part A) (follow 
     → (more : List ℕ) × (w : A) × ((q : List ℕ) → follow w q → (choice test one other).takes (front ++ more) q w)
 choice_begins test one other follow text [] over parts some h = some
 choice_begins test one other follow text (c ∷ front) over parts some h =
-    (h.0, h.1, λ q hq. subst (λ (x : Bool). (arm one other x).takes ((c ∷ front) ++ h.0) q h.1) (ap (starts test) parts) (h.2 q hq))
+    (h.0, h.1, λ q hq. subst (λ x. (arm one other x).takes ((c ∷ front) ++ h.0) q h.1) (ap (starts test) parts) (h.2 q hq))
 
 choice_stuck : {A : Type 0} (test : ℕ → Bool) (one other : Part A) (follow : A → List ℕ → Type 0) (text : List ℕ) (f : Refusal)
-    → Fine (choice test one other) follow
-    → Stuck (arm one other (starts test text)) follow text f → Stuck (choice test one other) follow text f
+    → Fine (choice test one other) follow → Stuck (arm one other (starts test text)) follow text f → Stuck (choice test one other) follow text f
 choice_stuck test one other follow text f fine s = record {
   front = s.front;
   over = s.over;
   rest = s.rest;
   parts = s.parts;
   left = s.left;
-  due = subst (λ (x : List ℕ). (arm one other (starts test x)).refuses s.front s.over s.rest f.what) s.parts s.due;
+  due = subst (λ x. (arm one other (starts test x)).refuses s.front s.over s.rest f.what) s.parts s.due;
   begins = choice_begins test one other follow text s.front (s.over ++ s.rest) s.parts fine.some s.begins;
   ends = λ p q more w h e alike.
       let whole : (s.front ++ s.over) ++ s.rest ≡ text = append_assoc s.front s.over s.rest ∙ sym s.parts in
       let guard : starts test (p ++ q) ≡ starts test text = ap (starts test) e
       ∙ starts_front test (s.front ++ s.over) more s.rest alike ∙ ap (starts test) whole in
-      s.ends p q more w (subst (λ (x : Bool). (arm one other x).takes p q w) guard h) e alike;
-  one = λ g o r w h e. s.one g o r w (subst (λ (x : List ℕ). (arm one other (starts test x)).refuses g o r w) (sym e) h) e;
+      s.ends p q more w (subst (λ x. (arm one other x).takes p q w) guard h) e alike;
+  one = λ g o r w h e. s.one g o r w (subst (λ x. (arm one other (starts test x)).refuses g o r w) (sym e) h) e;
 }
 
 -- a reading of the part that the first byte chooses is a reading of the choice, where the choice is fine
@@ -87,7 +86,7 @@ front_empty (c ∷ a) b e = cc
 
 -- two parts, one behind the other, never take nothing where the first never does
 pub chain_full : {A B : Type 0} (first : Part A) (next : A → Part B) → Full first → Full (chain first next)
-chain_full first next full rest v h = full (h.1 ++ rest) h.2 (subst (λ (x : List ℕ). first.takes x (h.1 ++ rest) h.2) (front_empty h.0 h.1 h.3) h.4)
+chain_full first next full rest v h = full (h.1 ++ rest) h.2 (subst (λ x. first.takes x (h.1 ++ rest) h.2) (front_empty h.0 h.1 h.3) h.4)
 
 -- one byte is never nothing
 pub byte_full : (b : ℕ) (due : What) → Full (byte b due)
@@ -106,7 +105,7 @@ empty_stays : {A : Type 0} (test : ℕ → Bool) (one other : Part A) (follow : 
     → (arm one other b).takes [] rest v → follow v q → (arm one other (starts test q)).takes [] q v
 empty_stays test one other follow rest q v true e fine never stays h hq = absurd (never rest v h e)
 empty_stays test one other follow rest q v false e fine never stays h hq =
-    subst (λ (x : Bool). (arm one other x).takes [] q v) (sym (stays rest q v h hq)) (fine.before [] rest q v h hq)
+    subst (λ x. (arm one other x).takes [] q v) (sym (stays rest q v h hq)) (fine.before [] rest q v h hq)
 
 arm_before : {A : Type 0} (one other : Part A) (follow : A → List ℕ → Type 0) → Fine one follow → Fine other follow
     → (b : Bool) (a rest q : List ℕ) (v : A) → (arm one other b).takes a rest v → follow v q → (arm one other b).takes a q v
@@ -120,8 +119,7 @@ choice_before test one other follow f g never stays [] rest q v h hq = empty_sta
 choice_before test one other follow f g never stays (c ∷ a) rest q v h hq = arm_before one other follow f g (test c) (c ∷ a) rest q v h hq
 
 arm_reads : {A : Type 0} {one other : Part A} {follow : A → List ℕ → Type 0} {r s : List ℕ → Result (A × List ℕ) Refusal}
-    → Good one follow r → Good other follow s → (text : List ℕ) (b : Bool)
-    → Reads (arm one other b) follow text (if b then r text else s text)
+    → Good one follow r → Good other follow s → (text : List ℕ) (b : Bool) → Reads (arm one other b) follow text (if b then r text else s text)
 arm_reads g h text true = g.reads text
 arm_reads g h text false = h.reads text
 

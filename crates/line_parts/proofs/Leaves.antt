@@ -9,7 +9,7 @@ use Rattle.line_parts.specs.Parts.{Alike, starts, done}
 use Rattle.line_parts.specs.Leaves.{is, AtFirst, byte, letters, EachIs, IsRun, run, is_digit, is_capital, is_word_byte}
 use Rattle.line_parts.specs.Leaves.{many_digits, spaces, NoPair, until, end, anything}
 use Rattle.line_parts.specs.Reading.{refusal_at, byte_at, letters_at, taken, after_spaces, run_at, digits_end, until_at, end_at}
-use Rattle.line_parts.proofs.Sequence.{Took, Stuck, Reads, Fine, Good, good_then}
+use Rattle.line_parts.proofs.Sequence.{Took, Stuck, Reads, Good, good_then}
 use Rattle.line_parts.proofs.Choices.{starts_front}
 
 -- anything may follow
@@ -40,14 +40,13 @@ not_both h k = cc
 -- a refusal at the first byte is the only one there
 pub first_one : (test : ℕ → Bool) (due : What) (text g o r : List ℕ) (w : What) → AtFirst test due g o r w → text ≡ g ++ (o ++ r)
     → (length (o ++ r) ≡ length text) × (w ≡ due)
-first_one test due text g o r w h e = (sym (ap length (e ∙ ap (λ (x : List ℕ). x ++ (o ++ r)) h.0)), h.2)
+first_one test due text g o r w h e = (sym (ap length (e ∙ ap (λ x. x ++ (o ++ r)) h.0)), h.2)
 
 -- a text whose first byte passes isn't refused for its first byte
 pub first_clean : (test : ℕ → Bool) (due : What) (text g o r : List ℕ) (w : What) → AtFirst test due g o r w
     → text ≡ g ++ (o ++ r) → starts test text ≡ true → ⊥
 first_clean test due text g o r w h e yes_ =
-    let is : text ≡ r = e ∙ ap (λ (x : List ℕ). x ++ (o ++ r)) h.0 ∙ ap (λ (x : List ℕ). x ++ r) h.1 in
-    not_both yes_ (ap (starts test) is ∙ h.3)
+    let is : text ≡ r = e ∙ ap (λ x. x ++ (o ++ r)) h.0 ∙ ap (λ x. x ++ r) h.1 in not_both yes_ (ap (starts test) is ∙ h.3)
 
 -- What begins with a byte that passes does not go on as a text that begins with none.
 pub first_ends : (test : ℕ → Bool) (text whole more : List ℕ) → starts test text ≡ false → starts test whole ≡ true → whole ≡ more → Alike more text → ⊥
@@ -64,7 +63,7 @@ byte_stuck b due text none = record {
   left = refl;
   due = (refl, refl, refl, none);
   begins = (b ∷ [], tt, λ q h. refl);
-  ends = λ p q more v h e alike. first_ends (is b) text (p ++ q) more none (ap (λ (x : List ℕ). starts (is b) (x ++ q)) h ∙ is_same b) e alike;
+  ends = λ p q more v h e alike. first_ends (is b) text (p ++ q) more none (ap (λ x. starts (is b) (x ++ q)) h ∙ is_same b) e alike;
   one = λ g o r w h e. first_one (is b) due text g o r w h e;
 }
 
@@ -74,19 +73,15 @@ byte_took b due c rest h =
     record {
       front = c ∷ [];
       parts = refl;
-      takes = ap (λ (x : ℕ). x ∷ []) same;
-      only = λ p q more w k e alike. (k ∙ ap (λ (x : ℕ). x ∷ []) (sym same), refl);
+      takes = ap (λ x. x ∷ []) same;
+      only = λ p q more w k e alike. (k ∙ ap (λ x. x ∷ []) (sym same), refl);
       clean = λ g o r w k e. first_clean (is b) due (c ∷ rest) g o r w k e h;
     }
 
 byte_reads : (b : ℕ) (due : What) (text : List ℕ) → Reads (byte b due) Any text (byte_at b due text)
 unfolding byte_at
 byte_reads b due [] = byte_stuck b due [] refl
-byte_reads b due (c ∷ rest) =
-    elim (bool_cases (is b c)) [
-      | inl h ↦ rw h (byte_took b due c rest h)
-      | inr h ↦ rw h (byte_stuck b due (c ∷ rest) h)
-    ]
+byte_reads b due (c ∷ rest) = elim (bool_cases (is b c)) [ inl h ↦ rw h (byte_took b due c rest h) | inr h ↦ rw h (byte_stuck b due (c ∷ rest) h) ]
 
 -- one byte is read by byte_at, and anything may follow
 pub byte_good : (b : ℕ) (due : What) → Good (byte b due) Any (byte_at b due)
@@ -109,16 +104,12 @@ letters_good (b ∷ word) due = good_then (byte_good b due) (λ u. letters_good 
 
 -- the bytes that are taken pass the test, the text is these and the others, and the others don't begin with one that
 -- passes
-pub taken_is : (test : ℕ → Bool) (text : List ℕ)
-    → EachIs test (taken test text).0 × (text ≡ (taken test text).0 ++ (taken test text).1)
+pub taken_is : (test : ℕ → Bool) (text : List ℕ) → EachIs test (taken test text).0 × (text ≡ (taken test text).0 ++ (taken test text).1)
     × (starts test (taken test text).1 ≡ false)
 unfolding taken
 taken_is test [] = (tt, refl, refl)
 taken_is test (c ∷ rest) =
-    elim (bool_cases (test c)) [
-      | inl h ↦ let r = taken_is test rest in rw h ((h, r.0), ap (λ (x : List ℕ). c ∷ x) r.1, r.2)
-      | inr h ↦ rw h (tt, refl, h)
-    ]
+    elim (bool_cases (test c)) [ inl h ↦ let r = taken_is test rest in rw h ((h, r.0), ap (λ x. c ∷ x) r.1, r.2) | inr h ↦ rw h (tt, refl, h) ]
 
 -- Two runs to their end that go on alike are one.
 pub same_run : (test : ℕ → Bool) (rest p front q more : List ℕ) → EachIs test p → EachIs test front → starts test q ≡ false
@@ -127,10 +118,7 @@ same_run test rest [] [] q more hp hf hq hr e alike = refl
 same_run test rest [] (c ∷ front) q more hp hf hq hr e alike = absurd (not_both (ap (starts test) e ∙ hf.0) hq)
 same_run test rest (b ∷ p) [] q more hp hf hq hr e alike = absurd (first_ends test rest (b ∷ (p ++ q)) more hr hp.0 e alike)
 same_run test rest (b ∷ p) (c ∷ front) q more hp hf hq hr e alike =
-    let t : p ++ q ≡ front ++ more = cc in
-    let i = same_run test rest p front q more hp.1 hf.1 hq hr t alike in
-    let h : b ≡ c = cc in
-    cc
+    let t : p ++ q ≡ front ++ more = cc in let i = same_run test rest p front q more hp.1 hf.1 hq hr t alike in let h : b ≡ c = cc in cc
 
 -- a run, with what stands behind it, begins with a byte that passes the first test
 pub run_starts : (first later : ℕ → Bool) (p q : List ℕ) → IsRun first later p → starts first (p ++ q) ≡ true
@@ -142,10 +130,7 @@ run_same : (first later : ℕ → Bool) (rest p front q more : List ℕ) → IsR
 run_same first later rest [] front q more hp hf hq hr e alike = absurd hp
 run_same first later rest (b ∷ p) [] q more hp hf hq hr e alike = absurd hf
 run_same first later rest (b ∷ p) (c ∷ front) q more hp hf hq hr e alike =
-    let t : p ++ q ≡ front ++ more = cc in
-    let i = same_run later rest p front q more hp.1 hf.1 hq hr t alike in
-    let h : b ≡ c = cc in
-    cc
+    let t : p ++ q ≡ front ++ more = cc in let i = same_run later rest p front q more hp.1 hf.1 hq hr t alike in let h : b ≡ c = cc in cc
 
 run_stuck : (first later : ℕ → Bool) (due : What) (b : ℕ) (text : List ℕ) → first b ≡ true → starts first text ≡ false
     → Stuck (run first later due) (λ v q. starts later q ≡ false) text (refusal_at text due)
@@ -175,13 +160,11 @@ run_reads : (first later : ℕ → Bool) (due : What) (b : ℕ) → first b ≡ 
     → Reads (run first later due) (λ v q. starts later q ≡ false) text (run_at first later due text)
 unfolding run_at
 run_reads first later due b sample [] = run_stuck first later due b [] sample refl
-run_reads first later due b sample (c ∷ rest) =
-    elim (bool_cases (first c)) [
-      | inl h ↦ let r = taken_is later rest in rw h
-          (run_took first later due (c ∷ rest) (c ∷ (taken later rest).0) (taken later rest).1 (ap (λ (x : List ℕ). c ∷ x) r.1)
-          (h, r.0) r.2)
-      | inr h ↦ rw h (run_stuck first later due b (c ∷ rest) sample h)
-    ]
+run_reads first later due b sample (c ∷ rest) = elim (bool_cases (first c)) [
+  | inl h ↦ let r = taken_is later rest in rw h
+      (run_took first later due (c ∷ rest) (c ∷ (taken later rest).0) (taken later rest).1 (ap (λ x. c ∷ x) r.1) (h, r.0) r.2)
+  | inr h ↦ rw h (run_stuck first later due b (c ∷ rest) sample h)
+]
 
 -- A run is good, where b is a byte that begins one.
 pub run_good : (first later : ℕ → Bool) (due : What) (b : ℕ) → first b ≡ true
@@ -195,23 +178,18 @@ run_good first later due b sample = record {
 pub digits_good : (due : What) → Good (many_digits due) (λ v q. starts is_digit q ≡ false) (digits_end due)
 unfolding digits_end
 digits_good due = good_then (run_good is_digit is_digit due 48 refl) (λ d. done_good tt (λ v q. starts is_digit q ≡ false))
-    (λ v b q w h hq. ap (λ (y : List ℕ). starts is_digit (y ++ q)) h.0 ∙ hq)
+    (λ v b q w h hq. ap (λ y. starts is_digit (y ++ q)) h.0 ∙ hq)
 
 -- what is left behind the bytes that pass isn't longer than the text
 pub taken_shorter : (test : ℕ → Bool) (text : List ℕ) → length (taken test text).1 ≤ length text
-taken_shorter test text =
-    let r = taken_is test text in
-    let k = ap length r.1 ∙ length-append (taken test text).0 (taken test text).1 in
-    omega arith
+taken_shorter test text = let r = taken_is test text in let k = ap length r.1 ∙ length-append (taken test text).0 (taken test text).1 in omega arith
 
 taken_front : (test : ℕ → Bool) (text : List ℕ) → take (length text - length (taken test text).1) text ≡ (taken test text).0
 taken_front test text =
-    let r = taken_is test text in
-    let front = (taken test text).0 in
-    let after = (taken test text).1 in
+    let r = taken_is test text in let front = (taken test text).0 in let after = (taken test text).1 in
     let k : length text ≡ length front + length after = ap length r.1 ∙ length-append front after in
     let n : length text - length after ≡ length front = omega arith in
-    ap (λ (x : ℕ). take x text) n ∙ ap (λ (x : List ℕ). take (length front) x) r.1 ∙ take-append_seam front after
+    ap (λ x. take x text) n ∙ ap (λ x. take (length front) x) r.1 ∙ take-append_seam front after
 
 run_is_taken : (first later : ℕ → Bool) (due : What) (text : List ℕ) → ((b : ℕ) → first b ≡ true → later b ≡ true)
     → starts first text ≡ true → run_at first later due text ≡ Ok ((taken later text).0, (taken later text).1)
@@ -221,10 +199,9 @@ run_is_taken first later due (c ∷ rest) sub h = rw h (rw (sub c h) refl)
 
 -- a run as the code cuts it off
 pub run_cut : (first later : ℕ → Bool) (due : What) (text rest : List ℕ) → ((b : ℕ) → first b ≡ true → later b ≡ true)
-    → starts first text ≡ true → rest ≡ (taken later text).1
-    → run_at first later due text ≡ Ok (take (length text - length rest) text, rest)
+    → starts first text ≡ true → rest ≡ (taken later text).1 → run_at first later due text ≡ Ok (take (length text - length rest) text, rest)
 run_cut first later due text rest sub h e =
-    rw e (run_is_taken first later due text sub h ∙ ap (λ (x : List ℕ). Ok (x, (taken later text).1)) (sym (taken_front later text)))
+    rw e (run_is_taken first later due text sub h ∙ ap (λ x. Ok (x, (taken later text).1)) (sym (taken_front later text)))
 
 -- a text whose first byte passes no first test of a run is refused at its front
 pub run_missing : (first later : ℕ → Bool) (due : What) (text : List ℕ) → starts first text ≡ false → run_at first later due text ≡ Err (refusal_at text due)
@@ -250,10 +227,7 @@ spaces_reads text =
 
 -- spaces are read by after_spaces, where what follows doesn't begin with a space
 pub spaces_good : Good spaces (λ v q. starts (is 32) q ≡ false) (λ text. Ok (tt, after_spaces text))
-spaces_good = record {
-  fine = record { some = ([], tt, λ q h. (tt, h)); before = λ a rest q v h hq. (h.0, hq) };
-  reads = spaces_reads;
-}
+spaces_good = record { fine = record { some = ([], tt, λ q h. (tt, h)); before = λ a rest q v h hq. (h.0, hq) }; reads = spaces_reads }
 
 -- ---- the end, and all that is left
 
@@ -264,7 +238,7 @@ end_reads due v [] = record {
   parts = refl;
   takes = (refl, refl, refl);
   only = λ p q more w h e alike. (h.0, h.2);
-  clean = λ g o r w h e. h.3 (sym (e ∙ ap (λ (x : List ℕ). x ++ (o ++ r)) h.0 ∙ ap (λ (x : List ℕ). x ++ r) h.1));
+  clean = λ g o r w h e. h.3 (sym (e ∙ ap (λ x. x ++ (o ++ r)) h.0 ∙ ap (λ x. x ++ r) h.1));
 }
 end_reads due v (c ∷ rest) = record {
   front = [];
@@ -274,17 +248,13 @@ end_reads due v (c ∷ rest) = record {
   left = refl;
   due = (refl, refl, refl, λ e. cc);
   begins = ([], v, λ q h. (refl, h, refl));
-  ends = λ p q more w h e alike. let none : [] ≡ more = sym (ap (λ (x : List ℕ). x ++ q) h.0 ∙ h.1) ∙ e in
-      subst (λ (x : List ℕ). Alike x (c ∷ rest)) (sym none) alike;
-  one = λ g o r w h e. (sym (ap length (e ∙ ap (λ (x : List ℕ). x ++ (o ++ r)) h.0)), h.2);
+  ends = λ p q more w h e alike. let none : [] ≡ more = sym (ap (λ x. x ++ q) h.0 ∙ h.1) ∙ e in subst (λ x. Alike x (c ∷ rest)) (sym none) alike;
+  one = λ g o r w h e. (sym (ap length (e ∙ ap (λ x. x ++ (o ++ r)) h.0)), h.2);
 }
 
 -- the end of the text is read by end_at, and nothing follows
 pub end_good : {A : Type 0} (due : What) (v : A) → Good (end due v) Last (end_at due v)
-end_good {A} due v = record {
-  fine = record { some = ([], v, λ q h. (refl, h, refl)); before = λ a rest q w h hq. (h.0, hq, h.2) };
-  reads = end_reads due v;
-}
+end_good {A} due v = record { fine = record { some = ([], v, λ q h. (refl, h, refl)); before = λ a rest q w h hq. (h.0, hq, h.2) }; reads = end_reads due v }
 
 alike_end : (more : List ℕ) → Alike more [] → more ≡ []
 alike_end [] h = refl
@@ -296,17 +266,9 @@ anything_took test v text none = record {
   front = text;
   parts = sym (append-nil text);
   takes = (refl, refl, none);
-  only = λ p q more w h e alike. (
-    sym (append-nil p) ∙ ap (λ (x : List ℕ). p ++ x) (sym h.0) ∙ e
-        ∙ ap (λ (x : List ℕ). text ++ x) (alike_end more alike) ∙ append-nil text,
-    h.1,
-  );
+  only = λ p q more w h e alike. (sym (append-nil p) ∙ ap (λ x. p ++ x) (sym h.0) ∙ e ∙ ap (λ x. text ++ x) (alike_end more alike) ∙ append-nil text, h.1);
   clean = λ g o r w h e. h;
 }
-
--- all that is left is a fine part, where nothing follows
-pub anything_fine : {A : Type 0} (test : ℕ → Bool) (v : A) → Fine (anything test v) Last
-anything_fine test v = record { some = ([], v, λ q h. (h, refl, refl)); before = λ a rest q w h hq. (hq, h.1, h.2) }
 
 -- no text begins with a byte that passes a test that no byte passes
 pub no_byte_starts : (text : List ℕ) → starts (λ b. false) text ≡ false
@@ -315,42 +277,32 @@ no_byte_starts (b ∷ text) = refl
 
 -- where no byte passes the test, all that is left is read by giving the value and leaving nothing
 pub anything_good : {A : Type 0} (v : A) → Good (anything (λ b. false) v) Last (λ text. Ok (v, []))
-anything_good v = record { fine = anything_fine (λ b. false) v; reads = λ text. anything_took (λ b. false) v text (no_byte_starts text) }
+anything_good v = record {
+  fine = record { some = ([], v, λ q h. (h, refl, refl)); before = λ a rest q w h hq. (hq, h.1, h.2) };
+  reads = λ text. anything_took (λ b. false) v text (no_byte_starts text);
+}
 
 -- ---- bytes to a pair
 
 pub until_same : (x y : ℕ) (rest p front q more : List ℕ) → is y x ≡ false → NoPair x y p → NoPair x y front
-    → starts (is y) q ≡ true → starts (is y) rest ≡ true → (p ++ (x ∷ [])) ++ q ≡ (front ++ (x ∷ [])) ++ more → Alike more rest
-    → p ≡ front
+    → starts (is y) q ≡ true → starts (is y) rest ≡ true → (p ++ (x ∷ [])) ++ q ≡ (front ++ (x ∷ [])) ++ more → Alike more rest → p ≡ front
 until_same x y rest [] [] q more apart hp hf hq hr e alike = refl
-until_same x y rest [] (c ∷ []) q more apart hp hf hq hr e alike =
-    let k : q ≡ x ∷ more = cc in
-    absurd (not_both hq (ap (starts (is y)) k ∙ apart))
+until_same x y rest [] (c ∷ []) q more apart hp hf hq hr e alike = let k : q ≡ x ∷ more = cc in absurd (not_both hq (ap (starts (is y)) k ∙ apart))
 until_same x y rest [] (c ∷ d ∷ front) q more apart hp hf hq hr e alike =
-    let k : q ≡ d ∷ ((front ++ (x ∷ [])) ++ more) = cc in
-    let h : c ≡ x = cc in
-    absurd (not_both hq (ap (starts (is y)) k ∙ hf.0 h))
+    let k : q ≡ d ∷ ((front ++ (x ∷ [])) ++ more) = cc in let h : c ≡ x = cc in absurd (not_both hq (ap (starts (is y)) k ∙ hf.0 h))
 until_same x y rest (b ∷ []) [] q more apart hp hf hq hr e alike =
-    let k : x ∷ q ≡ more = cc in
-    absurd (not_both hr (sym (ap (starts (is y)) k ∙ starts_front (is y) [] more rest alike) ∙ apart))
+    let k : x ∷ q ≡ more = cc in absurd (not_both hr (sym (ap (starts (is y)) k ∙ starts_front (is y) [] more rest alike) ∙ apart))
 until_same x y rest (b ∷ d ∷ p) [] q more apart hp hf hq hr e alike =
-    let k : d ∷ ((p ++ (x ∷ [])) ++ q) ≡ more = cc in
-    let h : b ≡ x = cc in
+    let k : d ∷ ((p ++ (x ∷ [])) ++ q) ≡ more = cc in let h : b ≡ x = cc in
     absurd (not_both hr (sym (ap (starts (is y)) k ∙ starts_front (is y) [] more rest alike) ∙ hp.0 h))
 until_same x y rest (b ∷ p) (c ∷ front) q more apart hp hf hq hr e alike =
     let t : (p ++ (x ∷ [])) ++ q ≡ (front ++ (x ∷ [])) ++ more = cc in
-    let i = until_same x y rest p front q more apart hp.1 hf.1 hq hr t alike in
-    let h : b ≡ c = cc in
-    cc
+    let i = until_same x y rest p front q more apart hp.1 hf.1 hq hr t alike in let h : b ≡ c = cc in cc
 
 until_none : (x y : ℕ) (p q text : List ℕ) → NoPair x y text → starts (is y) q ≡ true → (p ++ (x ∷ [])) ++ q ≡ text → ⊥
-until_none x y [] q [] hf hq e = cc
-until_none x y (b ∷ p) q [] hf hq e = cc
-until_none x y [] q (c ∷ text) hf hq e =
-    let h : c ≡ x = cc in
-    let k : q ≡ text = cc in
-    not_both hq (ap (starts (is y)) k ∙ hf.0 h)
+until_none x y [] q (c ∷ text) hf hq e = let h : c ≡ x = cc in let k : q ≡ text = cc in not_both hq (ap (starts (is y)) k ∙ hf.0 h)
 until_none x y (b ∷ p) q (c ∷ text) hf hq e = until_none x y p q text hf.1 hq cc
+until_none x y p q text hf hq e = cc
 
 -- the first x that a y follows stands behind the body, and until_at leaves the rest
 pub record Before (x y : ℕ) (due : What) (text : List ℕ) (body rest : List ℕ) : Type 0 where
@@ -375,7 +327,7 @@ until_on x y due c text none on (inl h) = inl (
   c ∷ h.0,
   h.1,
   record {
-    parts = ap (λ (t : List ℕ). c ∷ t) h.2.parts;
+    parts = ap (λ t. c ∷ t) h.2.parts;
     none = (λ e. body_starts (is y) h.0 x h.1 text h.2.parts (none e), h.2.none);
     next = h.2.next;
     is_read = on ∙ h.2.is_read;
@@ -383,19 +335,17 @@ until_on x y due c text none on (inl h) = inl (
 )
 until_on x y due c text none on (inr h) = inr ((none, h.0), on ∙ h.1)
 
-until_cases : (x y : ℕ) (due : What) (text : List ℕ)
-    → ((body rest : List ℕ) × Before x y due text body rest)
+until_cases : (x y : ℕ) (due : What) (text : List ℕ) → ((body rest : List ℕ) × Before x y due text body rest)
     ⊎ (NoPair x y text × (until_at x y due text ≡ Err (refusal_at [] due)))
 unfolding until_at
 until_cases x y due [] = inr (tt, refl)
-until_cases x y due (c ∷ text) =
-    elim (bool_cases (is x c)) [
-      | inl h ↦ elim (bool_cases (starts (is y) text)) [
-        | inl k ↦ let same = same_is x c h in inl ([], text, record { parts = cc; none = tt; next = k; is_read = rw h (rw k refl) })
-        | inr k ↦ until_on x y due c text (λ e. k) (rw h (rw k refl)) (until_cases x y due text)
-      ]
-      | inr h ↦ until_on x y due c text (λ e. absurd (not_both (ap (is x) e ∙ is_same x) h)) (rw h refl) (until_cases x y due text)
-    ]
+until_cases x y due (c ∷ text) = elim (bool_cases (is x c)) [
+  | inl h ↦ elim (bool_cases (starts (is y) text)) [
+    | inl k ↦ let same = same_is x c h in inl ([], text, record { parts = cc; none = tt; next = k; is_read = rw h (rw k refl) })
+    | inr k ↦ until_on x y due c text (λ e. k) (rw h (rw k refl)) (until_cases x y due text)
+  ]
+  | inr h ↦ until_on x y due c text (λ e. absurd (not_both (ap (is x) e ∙ is_same x) h)) (rw h refl) (until_cases x y due text)
+]
 
 until_took : (x y : ℕ) (due : What) (text body rest : List ℕ) → is y x ≡ false → Before x y due text body rest → Took (until x y due) text tt rest
 until_took x y due text body rest apart b = record {
@@ -403,10 +353,9 @@ until_took x y due text body rest apart b = record {
   parts = b.parts;
   takes = (body, refl, b.none, b.next);
   only = λ p q more v h e alike.
-      let s = until_same x y rest h.0 body q more apart h.2 b.none h.3 b.next (ap (λ (t : List ℕ). t ++ q) (sym h.1) ∙ e) alike in
-      (h.1 ∙ ap (λ (t : List ℕ). t ++ (x ∷ [])) s, refl);
+      let s = until_same x y rest h.0 body q more apart h.2 b.none h.3 b.next (ap (λ t. t ++ q) (sym h.1) ∙ e) alike in (h.1 ∙ ap (λ t. t ++ (x ∷ [])) s, refl);
   clean = λ g o r w h e.
-      let whole : text ≡ g = e ∙ ap (λ (t : List ℕ). g ++ (t ++ r)) h.0 ∙ ap (λ (t : List ℕ). g ++ t) h.1 ∙ append-nil g in
+      let whole : text ≡ g = e ∙ ap (λ t. g ++ (t ++ r)) h.0 ∙ ap (λ t. g ++ t) h.1 ∙ append-nil g in
       until_none x y body rest g h.3 b.next (sym b.parts ∙ whole);
 }
 
@@ -420,21 +369,17 @@ until_stuck x y due text none = record {
   due = (refl, refl, refl, none);
   begins = (x ∷ [], tt, λ q h. (text, refl, none, h));
   ends = λ p q more v h e alike.
-      until_none x y h.0 q text none h.3 (ap (λ (t : List ℕ). t ++ q) (sym h.1) ∙ e
-      ∙ ap (λ (t : List ℕ). (text ++ []) ++ t) (alike_end more alike) ∙ append-nil (text ++ []) ∙ append-nil text);
-  one = λ g o r w h e. (ap (λ (t : List ℕ). length (t ++ r)) h.0 ∙ ap length h.1, h.2);
+      until_none x y h.0 q text none h.3 (ap (λ t. t ++ q) (sym h.1) ∙ e
+      ∙ ap (λ t. (text ++ []) ++ t) (alike_end more alike) ∙ append-nil (text ++ []) ∙ append-nil text);
+  one = λ g o r w h e. (ap (λ t. length (t ++ r)) h.0 ∙ ap length h.1, h.2);
 }
-
-until_reads : (x y : ℕ) (due : What) → is y x ≡ false → (text : List ℕ) → Reads (until x y due) (λ v q. starts (is y) q ≡ true) text (until_at x y due text)
-until_reads x y due apart text =
-    elim (until_cases x y due text) [
-      | inl h ↦ rw h.2.is_read (until_took x y due text h.0 h.1 apart h.2)
-      | inr h ↦ rw h.1 (until_stuck x y due text h.0)
-    ]
 
 -- bytes to an x with a y behind it are read by until_at, where x isn't y and what follows begins with y
 pub until_good : (x y : ℕ) (due : What) → is y x ≡ false → Good (until x y due) (λ v q. starts (is y) q ≡ true) (until_at x y due)
 until_good x y due apart = record {
   fine = record { some = (x ∷ [], tt, λ q h. ([], refl, tt, h)); before = λ a rest q v h hq. (h.0, h.1, h.2, hq) };
-  reads = until_reads x y due apart;
+  reads = λ text. elim (until_cases x y due text) [
+    | inl h ↦ rw h.2.is_read (until_took x y due text h.0 h.1 apart h.2)
+    | inr h ↦ rw h.1 (until_stuck x y due text h.0)
+  ];
 }

@@ -15,16 +15,13 @@ pub lines_to : (text : List ℕ) (at : ℕ) → at < length text → get_or text
     → ((k : ℕ) → k < at → get_or text k 0 ≢ 10) → lines_of text ≡ take at text ∷ lines_of (drop (suc at) text)
 lines_to [] at within here before = absurd (omega arith)
 lines_to (byte ∷ text) zero within here before = rw here refl
-lines_to (byte ∷ text) (suc at) within here before =
-    lines_on byte text (before 0 (omega arith))
+lines_to (byte ∷ text) (suc at) within here before = lines_on byte text (before 0 (omega arith))
     ∙ ap (put_first byte) (lines_to text at (omega arith) here (λ k below. before (suc k) (omega arith)))
 
 -- a text without a newline is one line
-pub lines_whole : (byte : ℕ) (text : List ℕ) → ((k : ℕ) → k < suc (length text) → get_or (byte ∷ text) k 0 ≢ 10)
-    → lines_of (byte ∷ text) ≡ (byte ∷ text) ∷ []
+pub lines_whole : (byte : ℕ) (text : List ℕ) → ((k : ℕ) → k < suc (length text) → get_or (byte ∷ text) k 0 ≢ 10) → lines_of (byte ∷ text) ≡ (byte ∷ text) ∷ []
 lines_whole byte [] none = lines_on byte [] (none 0 (omega arith))
-lines_whole byte (next ∷ text) none =
-    lines_on byte (next ∷ text) (none 0 (omega arith))
+lines_whole byte (next ∷ text) none = lines_on byte (next ∷ text) (none 0 (omega arith))
     ∙ ap (put_first byte) (lines_whole next text (λ k below. none (suc k) (omega arith)))
 
 -- what `&text[at..]` holds is what comes behind the first bytes
@@ -33,10 +30,8 @@ all_behind at text = rw (← length-drop at text) (take-length (drop at text))
 
 -- the same with `memchr`'s test
 pub lines_found : (text : List ℕ) (at : ℕ) → at < length text → nat_eq (get_or text at 0) 10 ≡ true
-    → ((k : ℕ) → k < at → nat_eq (get_or text k 0) 10 ≡ true → ⊥)
-    → lines_of text ≡ take at text ∷ lines_of (take (length text - (at + 1)) (drop (at + 1) text))
-lines_found text at within here before =
-    rw (all_behind (at + 1) text, add-one)
+    → ((k : ℕ) → k < at → nat_eq (get_or text k 0) 10 ≡ true → ⊥) → lines_of text ≡ take at text ∷ lines_of (take (length text - (at + 1)) (drop (at + 1) text))
+lines_found text at within here before = rw (all_behind (at + 1) text, add-one)
     (lines_to text at within (eqb-true _ _ here) (λ k below is. before k below (eq-eqb _ _ is)))
 
 -- a text that has bytes and, by `memchr`'s test, no newline is one line

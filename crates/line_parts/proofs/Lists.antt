@@ -118,8 +118,7 @@ unfolding worth
 join_no_numeral [] h = tt
 join_no_numeral (c ∷ q) h = elim (join_byte c h) [
   | inl k ↦ rw k (omega arith, omega arith)
-  | inr k ↦
-      elim k [ inl l ↦ rw l (omega arith, omega arith) | inr l ↦ rw l (omega arith, omega arith) ]
+  | inr k ↦ elim k [ inl l ↦ rw l (omega arith, omega arith) | inr l ↦ rw l (omega arith, omega arith) ]
 ]
 
 -- ---- the list is an item with the rest of the list behind it
@@ -137,19 +136,19 @@ fold_choice : (item : Part (Option ℕ)) (bits n : ℕ) (a b front rest : List �
     → item.takes a (b ++ rest) (Some n) → starts (is 124) (b ++ rest) ≡ x
     → (arm (chain (byte 124 Comma) (λ u. listed item (bit_or bits n))) (done (Some (bit_or bits n))) x).takes b rest v → (listed item bits).takes front rest v
 fold_choice item bits n a b front rest v true e h bar k =
-    let is_b : b ≡ 124 ∷ k.1 = k.3 ∙ ap (λ (y : List ℕ). y ++ k.1) k.4 in
-    (n ∷ k.5.0, (a, k.1, e ∙ ap (λ (y : List ℕ). a ++ y) is_b, subst (λ (y : List ℕ). item.takes a (y ++ rest) (Some n)) is_b h, k.5.1))
+    let is_b : b ≡ 124 ∷ k.1 = k.3 ∙ ap (λ y. y ++ k.1) k.4 in
+    (n ∷ k.5.0, (a, k.1, e ∙ ap (λ y. a ++ y) is_b, subst (λ y. item.takes a (y ++ rest) (Some n)) is_b h, k.5.1))
 fold_choice item bits n a b front rest v false e h bar k =
-    let is_front : front ≡ a = e ∙ ap (λ (y : List ℕ). a ++ y) k.0 ∙ append-nil a in
-    let h1 : item.takes a rest (Some n) = subst (λ (y : List ℕ). item.takes a (y ++ rest) (Some n)) k.0 h in
-    ([], (Some n, subst (λ (y : List ℕ). item.takes y rest (Some n)) (sym is_front) h1, sym (ap (λ (y : List ℕ). starts (is 124) (y ++ rest)) k.0) ∙ bar, k.1))
+    let is_front : front ≡ a = e ∙ ap (λ y. a ++ y) k.0 ∙ append-nil a in
+    let h1 : item.takes a rest (Some n) = subst (λ y. item.takes a (y ++ rest) (Some n)) k.0 h in
+    ([], (Some n, subst (λ y. item.takes y rest (Some n)) (sym is_front) h1, sym (ap (λ y. starts (is 124) (y ++ rest)) k.0) ∙ bar, k.1))
 
 fold_takes : (item : Part (Option ℕ)) (bits : ℕ) (front rest : List ℕ) (v : Option ℕ) (a b : List ℕ) (u : Option ℕ)
     → front ≡ a ++ b → item.takes a (b ++ rest) u → (behind item bits u).takes b rest v → (listed item bits).takes front rest v
 fold_takes item bits front rest v a b None e h k =
-    let is_front : front ≡ a = e ∙ ap (λ (y : List ℕ). a ++ y) k.0 ∙ append-nil a in
-    let h1 : item.takes a rest None = subst (λ (y : List ℕ). item.takes a (y ++ rest) None) k.0 h in
-    ([], (None, subst (λ (y : List ℕ). item.takes y rest None) (sym is_front) h1, tt, k.1))
+    let is_front : front ≡ a = e ∙ ap (λ y. a ++ y) k.0 ∙ append-nil a in
+    let h1 : item.takes a rest None = subst (λ y. item.takes a (y ++ rest) None) k.0 h in
+    ([], (None, subst (λ y. item.takes y rest None) (sym is_front) h1, tt, k.1))
 fold_takes item bits front rest v a b (Some n) e h k = fold_choice item bits n a b front rest v (starts (is 124) (b ++ rest)) e h refl k
 
 unfold_last : (item : Part (Option ℕ)) (bits : ℕ) (front rest : List ℕ) (v u : Option ℕ) → item.takes front rest u → NoBar u rest
@@ -161,8 +160,7 @@ unfold_last item bits front rest v (Some n) h bar e = (
   Some n,
   sym (append-nil front),
   h,
-  subst (λ (x : Bool). (arm (chain (byte 124 Comma) (λ u. listed item (bit_or bits n))) (done (Some (bit_or bits n)))
-      x).takes [] rest v) (sym bar) (refl, e),
+  subst (λ x. (arm (chain (byte 124 Comma) (λ u. listed item (bit_or bits n))) (done (Some (bit_or bits n))) x).takes [] rest v) (sym bar) (refl, e),
 )
 
 unfold_takes : (item : Part (Option ℕ)) (bits : ℕ) (front rest : List ℕ) (v : Option ℕ) (before : List ℕ)
@@ -175,17 +173,15 @@ fold_choice_refuses : (item : Part (Option ℕ)) (bits n : ℕ) (a b front over 
     → (arm (chain (byte 124 Comma) (λ u. listed item (bit_or bits n))) (done (Some (bit_or bits n))) x).refuses b over rest w
     → (listed item bits).refuses front over rest w
 fold_choice_refuses item bits n a b front over rest w true e h bar (inl k) =
-    let is_rest : b ++ (over ++ rest) ≡ rest = ap (λ (y : List ℕ). y ++ (over ++ rest)) k.0 ∙ ap (λ (y : List ℕ). y ++ rest) k.1 in
-    let none : starts (is 124) (b ++ (over ++ rest)) ≡ false = ap (starts (is 124)) is_rest ∙ k.3 in
-    absurd cc
+    let is_rest : b ++ (over ++ rest) ≡ rest = ap (λ y. y ++ (over ++ rest)) k.0 ∙ ap (λ y. y ++ rest) k.1 in
+    let none : starts (is 124) (b ++ (over ++ rest)) ≡ false = ap (starts (is 124)) is_rest ∙ k.3 in absurd cc
 fold_choice_refuses item bits n a b front over rest w true e h bar (inr k) =
-    let is_b : b ≡ 124 ∷ k.1 = k.3 ∙ ap (λ (y : List ℕ). y ++ k.1) k.4 in
-    (n ∷ k.5.0, (a, k.1, e ∙ ap (λ (y : List ℕ). a ++ y) is_b, subst (λ (y : List ℕ). item.takes a (y ++ (over ++ rest)) (Some n)) is_b h, k.5.1))
+    let is_b : b ≡ 124 ∷ k.1 = k.3 ∙ ap (λ y. y ++ k.1) k.4 in
+    (n ∷ k.5.0, (a, k.1, e ∙ ap (λ y. a ++ y) is_b, subst (λ y. item.takes a (y ++ (over ++ rest)) (Some n)) is_b h, k.5.1))
 fold_choice_refuses item bits n a b front over rest w false e h bar k = absurd k
 
 fold_behind_refuses : (item : Part (Option ℕ)) (bits : ℕ) (front over rest : List ℕ) (w : What) (a b : List ℕ) (u : Option ℕ)
-    → front ≡ a ++ b → item.takes a (b ++ (over ++ rest)) u → (behind item bits u).refuses b over rest w
-    → (listed item bits).refuses front over rest w
+    → front ≡ a ++ b → item.takes a (b ++ (over ++ rest)) u → (behind item bits u).refuses b over rest w → (listed item bits).refuses front over rest w
 fold_behind_refuses item bits front over rest w a b None e h k = absurd k
 fold_behind_refuses item bits front over rest w a b (Some n) e h k =
     fold_choice_refuses item bits n a b front over rest w (starts (is 124) (b ++ (over ++ rest))) e h refl k
@@ -212,7 +208,7 @@ items_head : (test : ℕ → Bool) (item : Part (Option ℕ)) (bits : ℕ) → H
     → (b q : List ℕ) (w : Option ℕ) (before : List ℕ) → Items item bits before b q w → starts test (b ++ q) ≡ true
 items_head test item bits heads b q w [] h = heads b q h.0 h.1
 items_head test item bits heads b q w (n ∷ before) h =
-    let e : b ++ q ≡ h.0 ++ (124 ∷ (h.1 ++ q)) = ap (λ (y : List ℕ). y ++ q) h.2 ∙ append_assoc h.0 (124 ∷ h.1) q in
+    let e : b ++ q ≡ h.0 ++ (124 ∷ (h.1 ++ q)) = ap (λ y. y ++ q) h.2 ∙ append_assoc h.0 (124 ∷ h.1) q in
     ap (starts test) e ∙ heads h.0 (124 ∷ (h.1 ++ q)) (Some n) h.3
 
 -- what each item begins with, the list begins with
@@ -228,8 +224,7 @@ more_ends bits (Some n) q h = (close_joins q h, close_no_bar q h)
 items_before : (item : Part (Option ℕ)) → Fine item ItemEnds → (before : List ℕ) (bits : ℕ) (a rest q : List ℕ) (v : Option ℕ)
     → Items item bits before a rest v → ListEnds v q → Items item bits before a q v
 items_before item fine [] bits a rest q v h hq =
-    let k = more_ends bits h.0 q (subst (λ (x : Option ℕ). ListEnds x q) h.3 hq) in
-    (h.0, fine.before a rest q h.0 h.1 k.0, k.1, h.3)
+    let k = more_ends bits h.0 q (subst (λ x. ListEnds x q) h.3 hq) in (h.0, fine.before a rest q h.0 h.1 k.0, k.1, h.3)
 items_before item fine (n ∷ before) bits a rest q v h hq = (
   h.0,
   h.1,
@@ -248,15 +243,14 @@ listed_fine item fine bits =
     }
 
 bar_nonempty : {A : Type 0} (next : Unit {0} → Part A) → Nonempty (is 124) (chain (byte 124 Comma) next)
-bar_nonempty next rest v h bar = let e : [] ≡ 124 ∷ h.1 = h.3 ∙ ap (λ (y : List ℕ). y ++ h.1) h.4 in cc
+bar_nonempty next rest v h bar = let e : [] ≡ 124 ∷ h.1 = h.3 ∙ ap (λ y. y ++ h.1) h.4 in cc
 
 behind_fine : (item : Part (Option ℕ)) → Fine item ItemEnds → (bits : ℕ) (u : Option ℕ) → Fine (behind item bits u) ListEnds
 behind_fine item fine bits None = (done_good None ListEnds).fine
-behind_fine item fine bits (Some n) =
-    fine_choice (is 124) (fine_then (byte 124 Comma) (λ u. listed item (bit_or bits n)) Any ListEnds (λ v b q w h hq. tt)
+behind_fine item fine bits (Some n) = fine_choice (is 124) (fine_then (byte 124 Comma) (λ u. listed item (bit_or bits n)) Any ListEnds (λ v b q w h hq. tt)
     (byte_good 124 Comma).fine (λ u. listed_fine item fine (bit_or bits n)))
     (done_good (Some (bit_or bits n)) ListEnds).fine (bar_nonempty (λ u. listed item (bit_or bits n)))
-    (λ rest q v h hq. close_no_bar q (subst (λ (x : Option ℕ). ListEnds x q) h.1 hq)) (
+    (λ rest q v h hq. close_no_bar q (subst (λ x. ListEnds x q) h.1 hq)) (
       [],
       Some (bit_or bits n),
       λ q hq. subst (λ (x : Bool).
@@ -268,11 +262,10 @@ behind_follows_choice : (item : Part (Option ℕ)) (bits n : ℕ) (b q : List �
     → (arm (chain (byte 124 Comma) (λ u. listed item (bit_or bits n))) (done (Some (bit_or bits n))) x).takes b q w → ListEnds w q
     → starts is_join (b ++ q) ≡ true
 behind_follows_choice item bits n b q w true bar h hq = bar_joins (b ++ q) bar
-behind_follows_choice item bits n b q w false bar h hq = ap (λ (y : List ℕ). starts is_join (y ++ q)) h.0
-    ∙ close_joins q (subst (λ (x : Option ℕ). ListEnds x q) h.1 hq)
+behind_follows_choice item bits n b q w false bar h hq = ap (λ y. starts is_join (y ++ q)) h.0 ∙ close_joins q (subst (λ x. ListEnds x q) h.1 hq)
 
 behind_follows : (item : Part (Option ℕ)) (bits : ℕ) → Follows ItemEnds (behind item bits) ListEnds
-behind_follows item bits None b q w h hq = ap (λ (y : List ℕ). y ++ q) h.0 ∙ subst (λ (x : Option ℕ). ListEnds x q) h.1 hq
+behind_follows item bits None b q w h hq = ap (λ y. y ++ q) h.0 ∙ subst (λ x. ListEnds x q) h.1 hq
 behind_follows item bits (Some n) b q w h hq = behind_follows_choice item bits n b q w (starts (is 124) (b ++ q)) refl h hq
 
 -- ---- the list is read
@@ -296,8 +289,7 @@ bar_behind item bits rest r fine bar h =
     reads_then (byte 124 Comma) (λ u. listed item bits) Any ListEnds rest (Ok (tt, behind_first rest)) (λ u. r) (λ v b q w k hq. tt)
     (byte_good 124 Comma).fine (λ u. listed_fine item fine bits)
     (subst (Reads (byte 124 Comma) Any rest) (byte_taken rest bar) ((byte_good 124 Comma).reads rest))
-    (λ x t. let e : behind_first rest ≡ x.1 = ap behind_first (t.parts ∙ ap (λ (y : List ℕ). y ++ x.1) t.takes) in
-    subst (λ (y : List ℕ). Reads (listed item bits) ListEnds y r) e h)
+    (λ x t. let e : behind_first rest ≡ x.1 = ap behind_first (t.parts ∙ ap (λ y. y ++ x.1) t.takes) in subst (λ y. Reads (listed item bits) ListEnds y r) e h)
 
 bar_reads : (item : Part (Option ℕ)) (read : List ℕ → Result (Option ℕ × List ℕ) Refusal) (k bits n : ℕ) (rest : List ℕ)
     (x : Bool) → Fine item ItemEnds → ListReads item read k → length rest ≤ k → starts (is 124) rest ≡ x
@@ -347,8 +339,7 @@ any_bar read j k bits n rest true on lj lk bar = let s = behind_shorter rest bar
 any_bar read j k bits n rest false on lj lk bar = refl
 
 any_next : (read : List ℕ → Result (Option ℕ × List ℕ) Refusal) (j k bits : ℕ) (text : List ℕ)
-    (r : Result (Option ℕ × List ℕ) Refusal) → ((b : ℕ) (t : List ℕ) → length t < j → length t < k
-    → list_at read j b t ≡ list_at read k b t)
+    (r : Result (Option ℕ × List ℕ) Refusal) → ((b : ℕ) (t : List ℕ) → length t < j → length t < k → list_at read j b t ≡ list_at read k b t)
     → ((v : Option ℕ) (rest : List ℕ) → r ≡ Ok (v, rest) → (length rest ≤ j) × (length rest ≤ k))
     → (r >>= λ x. list_next (list_at read j) bits x.0 x.1) ≡ (r >>= λ x. list_next (list_at read k) bits x.0 x.1)
 any_next read j k bits text (Err f) on short = refl
@@ -363,8 +354,7 @@ pub any_count : (read : List ℕ → Result (Option ℕ × List ℕ) Refusal)
 unfolding list_at
 any_count read short zero k bits text lj lk = absurd (omega arith)
 any_count read short (suc j) zero bits text lj lk = absurd (omega arith)
-any_count read short (suc j) (suc k) bits text lj lk =
-    any_next read j k bits text (read text) (λ b t l m. any_count read short j k b t l m)
+any_count read short (suc j) (suc k) bits text lj lk = any_next read j k bits text (read text) (λ b t l m. any_count read short j k b t l m)
     (λ v rest e. let s = short text rest v e in (omega arith, omega arith))
 
 -- ---- a list in a loop, item by item
@@ -389,8 +379,7 @@ list_on read short bits more left rest e bar =
 
 -- where no bar stands behind an item, the list ends, with the item's bits
 pub list_last : (read : List ℕ → Result (Option ℕ × List ℕ) Refusal) (bits more : ℕ) (left rest : List ℕ)
-    → read left ≡ Ok (Some more, rest) → starts (is 124) rest ≡ false
-    → list_at read (suc (length left)) bits left ≡ Ok (Some (bit_or bits more), rest)
+    → read left ≡ Ok (Some more, rest) → starts (is 124) rest ≡ false → list_at read (suc (length left)) bits left ≡ Ok (Some (bit_or bits more), rest)
 unfolding list_at
 list_last read bits more left rest e bar = rw e (rw bar refl)
 

@@ -71,34 +71,33 @@ alike_behind (b ∷ front) more rest h = refl
 
 -- what is taken of a text
 split_takes : (p a b q : List ℕ) (x : List ℕ) → p ≡ a ++ b → p ++ q ≡ x → a ++ (b ++ q) ≡ x
-split_takes p a b q x e h = sym (append_assoc a b q) ∙ ap (λ (y : List ℕ). y ++ q) (sym e) ∙ h
+split_takes p a b q x e h = sym (append_assoc a b q) ∙ ap (λ y. y ++ q) (sym e) ∙ h
 
 split_back : (p a b q : List ℕ) → p ≡ a ++ b → p ++ q ≡ a ++ (b ++ q)
-split_back p a b q e = ap (λ (y : List ℕ). y ++ q) e ∙ append_assoc a b q
+split_back p a b q e = ap (λ y. y ++ q) e ∙ append_assoc a b q
 
 took_both : {A B : Type 0} (first : Part A) (next : A → Part B) (text rest last : List ℕ) (v : A) (w : B) → Took first text v rest
     → Took (next v) rest w last → Took (chain first next) text w last
 took_both {A} first next text rest last v w t u = record {
   front = t.front ++ u.front;
-  parts = t.parts ∙ ap (λ (x : List ℕ). t.front ++ x) u.parts ∙ sym (append_assoc t.front u.front last);
-  takes = (t.front, u.front, v, refl, subst (λ (x : List ℕ). first.takes t.front x v) u.parts t.takes, u.takes);
+  parts = t.parts ∙ ap (λ x. t.front ++ x) u.parts ∙ sym (append_assoc t.front u.front last);
+  takes = (t.front, u.front, v, refl, subst (λ x. first.takes t.front x v) u.parts t.takes, u.takes);
   only = λ p q more w1 h e alike.
       let e1 : h.0 ++ (h.1 ++ q) ≡ t.front ++ (u.front ++ more) =
       split_takes p h.0 h.1 q (t.front ++ (u.front ++ more)) h.3 (e ∙ append_assoc t.front u.front more) in
-      let alike1 = subst (λ (x : List ℕ). Alike (u.front ++ more) x) (sym u.parts) (alike_behind u.front more last alike) in
+      let alike1 = subst (λ x. Alike (u.front ++ more) x) (sym u.parts) (alike_behind u.front more last alike) in
       let one = t.only h.0 (h.1 ++ q) (u.front ++ more) h.2 h.4 e1 alike1 in
-      let e2 = append_cancel_left t.front (h.1 ++ q) (u.front ++ more) (ap (λ (x : List ℕ). x ++ (h.1 ++ q)) (sym one.0) ∙ e1) in
-      let two = u.only h.1 q more w1 (subst (λ (x : A). (next x).takes h.1 q w1) one.1 h.5) e2 alike in
-      (h.3 ∙ ap (λ (x : List ℕ). x ++ h.1) one.0 ∙ ap (λ (x : List ℕ). t.front ++ x) two.0, two.1);
-  clean = λ g o r w1 h e.
-      elim h [
-        | inl k ↦ t.clean g o r w1 k e
-        | inr k ↦
-            let e1 : k.0 ++ (k.1 ++ (o ++ r)) ≡ t.front ++ rest = split_takes g k.0 k.1 (o ++ r) (t.front ++ rest) k.3 (sym e ∙ t.parts) in
-            let one = t.only k.0 (k.1 ++ (o ++ r)) rest k.2 k.4 e1 (alike_same rest) in
-            let e2 = append_cancel_left t.front (k.1 ++ (o ++ r)) rest (ap (λ (x : List ℕ). x ++ (k.1 ++ (o ++ r))) (sym one.0) ∙ e1) in
-            u.clean k.1 o r w1 (subst (λ (x : A). (next x).refuses k.1 o r w1) one.1 k.5) (sym e2)
-      ];
+      let e2 = append_cancel_left t.front (h.1 ++ q) (u.front ++ more) (ap (λ x. x ++ (h.1 ++ q)) (sym one.0) ∙ e1) in
+      let two = u.only h.1 q more w1 (subst (λ x. (next x).takes h.1 q w1) one.1 h.5) e2 alike in
+      (h.3 ∙ ap (λ x. x ++ h.1) one.0 ∙ ap (λ x. t.front ++ x) two.0, two.1);
+  clean = λ g o r w1 h e. elim h [
+    | inl k ↦ t.clean g o r w1 k e
+    | inr k ↦
+        let e1 : k.0 ++ (k.1 ++ (o ++ r)) ≡ t.front ++ rest = split_takes g k.0 k.1 (o ++ r) (t.front ++ rest) k.3 (sym e ∙ t.parts) in
+        let one = t.only k.0 (k.1 ++ (o ++ r)) rest k.2 k.4 e1 (alike_same rest) in
+        let e2 = append_cancel_left t.front (k.1 ++ (o ++ r)) rest (ap (λ x. x ++ (k.1 ++ (o ++ r))) (sym one.0) ∙ e1) in
+        u.clean k.1 o r w1 (subst (λ x. (next x).refuses k.1 o r w1) one.1 k.5) (sym e2)
+  ];
 }
 
 stuck_behind : {A B : Type 0} (first : Part A) (next : A → Part B) (follow : A → List ℕ → Type 0) (last : B → List ℕ → Type 0)
@@ -106,15 +105,14 @@ stuck_behind : {A B : Type 0} (first : Part A) (next : A → Part B) (follow : A
     → Follows follow next last → Fine first follow → Took first text v rest → Stuck (next v) last rest f → Stuck (chain first next) last text f
 stuck_behind {A} {B} first next follow last text rest v f follows fine t s =
     let is : rest ≡ (s.front ++ s.over) ++ s.rest = s.parts ∙ sym (append_assoc s.front s.over s.rest) in
-    let more = s.begins.0 in
-    let w = s.begins.1 in
+    let more = s.begins.0 in let w = s.begins.1 in
     record {
       front = t.front ++ s.front;
       over = s.over;
       rest = s.rest;
-      parts = t.parts ∙ ap (λ (x : List ℕ). t.front ++ x) s.parts ∙ sym (append_assoc t.front s.front (s.over ++ s.rest));
+      parts = t.parts ∙ ap (λ x. t.front ++ x) s.parts ∙ sym (append_assoc t.front s.front (s.over ++ s.rest));
       left = s.left;
-      due = inr (t.front, s.front, v, refl, subst (λ (x : List ℕ). first.takes t.front x v) s.parts t.takes, s.due);
+      due = inr (t.front, s.front, v, refl, subst (λ x. first.takes t.front x v) s.parts t.takes, s.due);
       begins = (
         more,
         w,
@@ -130,29 +128,26 @@ stuck_behind {A} {B} first next follow last text rest v f follows fine t s =
       );
       ends = λ p q after w1 h e alike.
           let place : (t.front ++ s.front) ++ s.over ≡ t.front ++ (s.front ++ s.over) = append_assoc t.front s.front s.over in
-          let whole : p ++ q ≡ t.front ++ ((s.front ++ s.over) ++ after) = e ∙ ap (λ (x : List ℕ). x ++ after) place
-          ∙ append_assoc t.front (s.front ++ s.over) after in
+          let whole : p ++ q ≡ t.front ++ ((s.front ++ s.over) ++ after) = e ∙ ap (λ x. x ++ after) place ∙ append_assoc t.front (s.front ++ s.over) after in
           let e1 = split_takes p h.0 h.1 q (t.front ++ ((s.front ++ s.over) ++ after)) h.3 whole in
-          let alike1 = subst (λ (x : List ℕ). Alike ((s.front ++ s.over) ++ after) x) (sym is) (alike_behind (s.front ++ s.over) after s.rest alike) in
+          let alike1 = subst (λ x. Alike ((s.front ++ s.over) ++ after) x) (sym is) (alike_behind (s.front ++ s.over) after s.rest alike) in
           let one = t.only h.0 (h.1 ++ q) ((s.front ++ s.over) ++ after) h.2 h.4 e1 alike1 in
-          let e2 = append_cancel_left t.front (h.1 ++ q) ((s.front ++ s.over) ++ after) (ap (λ (x : List ℕ). x ++ (h.1 ++ q)) (sym one.0) ∙ e1) in
-          s.ends h.1 q after w1 (subst (λ (x : A). (next x).takes h.1 q w1) one.1 h.5) e2 alike;
-      one = λ g o r w1 h e.
-          elim h [
-            | inl k ↦ absurd (t.clean g o r w1 k e)
-            | inr k ↦
-                let e1 : k.0 ++ (k.1 ++ (o ++ r)) ≡ t.front ++ rest = split_takes g k.0 k.1 (o ++ r) (t.front ++ rest) k.3 (sym e ∙ t.parts) in
-                let one = t.only k.0 (k.1 ++ (o ++ r)) rest k.2 k.4 e1 (alike_same rest) in
-                let e2 = append_cancel_left t.front (k.1 ++ (o ++ r)) rest (ap (λ (x : List ℕ). x ++ (k.1 ++ (o ++ r))) (sym one.0) ∙ e1) in
-                s.one k.1 o r w1 (subst (λ (x : A). (next x).refuses k.1 o r w1) one.1 k.5) (sym e2)
-          ];
+          let e2 = append_cancel_left t.front (h.1 ++ q) ((s.front ++ s.over) ++ after) (ap (λ x. x ++ (h.1 ++ q)) (sym one.0) ∙ e1) in
+          s.ends h.1 q after w1 (subst (λ x. (next x).takes h.1 q w1) one.1 h.5) e2 alike;
+      one = λ g o r w1 h e. elim h [
+        | inl k ↦ absurd (t.clean g o r w1 k e)
+        | inr k ↦
+            let e1 : k.0 ++ (k.1 ++ (o ++ r)) ≡ t.front ++ rest = split_takes g k.0 k.1 (o ++ r) (t.front ++ rest) k.3 (sym e ∙ t.parts) in
+            let one = t.only k.0 (k.1 ++ (o ++ r)) rest k.2 k.4 e1 (alike_same rest) in
+            let e2 = append_cancel_left t.front (k.1 ++ (o ++ r)) rest (ap (λ x. x ++ (k.1 ++ (o ++ r))) (sym one.0) ∙ e1) in
+            s.one k.1 o r w1 (subst (λ x. (next x).refuses k.1 o r w1) one.1 k.5) (sym e2)
+      ];
     }
 
 stuck_before : {A B : Type 0} (first : Part A) (next : A → Part B) (follow : A → List ℕ → Type 0) (last : B → List ℕ → Type 0) (text : List ℕ) (f : Refusal)
     → Follows follow next last → ((v : A) → Fine (next v) last) → Stuck first follow text f → Stuck (chain first next) last text f
 stuck_before {A} first next follow last text f follows fine s =
-    let v = s.begins.1 in
-    let g = (fine v).some in
+    let v = s.begins.1 in let g = (fine v).some in
     record {
       front = s.front;
       over = s.over;
@@ -164,17 +159,15 @@ stuck_before {A} first next follow last text f follows fine s =
         s.begins.0 ++ g.0,
         g.1,
         λ q hq.
-            let k = g.2 q hq in
-            (s.front ++ s.begins.0, g.0, v, sym (append_assoc s.front s.begins.0 g.0), s.begins.2 (g.0 ++ q) (follows v g.0 q g.1 k hq), k),
+            let k = g.2 q hq in (s.front ++ s.begins.0, g.0, v, sym (append_assoc s.front s.begins.0 g.0), s.begins.2 (g.0 ++ q) (follows v g.0 q g.1 k hq), k),
       );
       ends = λ p q after w1 h e alike. s.ends h.0 (h.1 ++ q) after h.2 h.4 (split_takes p h.0 h.1 q ((s.front ++ s.over) ++ after) h.3 e) alike;
-      one = λ g1 o r w1 h e.
-          elim h [
-            | inl k ↦ s.one g1 o r w1 k e
-            | inr k ↦
-                let e1 = split_takes g1 k.0 k.1 (o ++ r) ((s.front ++ s.over) ++ s.rest) k.3 (sym e ∙ s.parts ∙ sym (append_assoc s.front s.over s.rest)) in
-                absurd (s.ends k.0 (k.1 ++ (o ++ r)) s.rest k.2 k.4 e1 (alike_same s.rest))
-          ];
+      one = λ g1 o r w1 h e. elim h [
+        | inl k ↦ s.one g1 o r w1 k e
+        | inr k ↦
+            let e1 = split_takes g1 k.0 k.1 (o ++ r) ((s.front ++ s.over) ++ s.rest) k.3 (sym e ∙ s.parts ∙ sym (append_assoc s.front s.over s.rest)) in
+            absurd (s.ends k.0 (k.1 ++ (o ++ r)) s.rest k.2 k.4 e1 (alike_same s.rest))
+      ];
     }
 
 reads_behind : {A B : Type 0} (first : Part A) (next : A → Part B) (follow : A → List ℕ → Type 0) (last : B → List ℕ → Type 0)
@@ -187,8 +180,7 @@ reads_behind first next follow last text rest v (Err f) follows fine t s = stuck
 pub reads_then : {A B : Type 0} (first : Part A) (next : A → Part B) (follow : A → List ℕ → Type 0) (last : B → List ℕ → Type 0)
     (text : List ℕ) (r : Result (A × List ℕ) Refusal) (f : A × List ℕ → Result (B × List ℕ) Refusal)
     → Follows follow next last → Fine first follow → ((v : A) → Fine (next v) last) → Reads first follow text r
-    → ((x : A × List ℕ) → Took first text x.0 x.1 → Reads (next x.0) last x.1 (f x))
-    → Reads (chain first next) last text (r >>= f)
+    → ((x : A × List ℕ) → Took first text x.0 x.1 → Reads (next x.0) last x.1 (f x)) → Reads (chain first next) last text (r >>= f)
 reads_then first next follow last text (Ok x) f follows one fine t others = reads_behind first next follow last text x.1 x.0 (f x) follows one t (others x t)
 reads_then first next follow last text (Err e) f follows one fine s others = stuck_before first next follow last text e follows fine s
 
@@ -196,13 +188,11 @@ reads_then first next follow last text (Err e) f follows one fine s others = stu
 pub fine_then : {A B : Type 0} (first : Part A) (next : A → Part B) (follow : A → List ℕ → Type 0) (last : B → List ℕ → Type 0)
     → Follows follow next last → Fine first follow → ((v : A) → Fine (next v) last) → Fine (chain first next) last
 fine_then {A} first next follow last follows one fine =
-    let v = one.some.1 in
-    let g = (fine v).some in
+    let v = one.some.1 in let g = (fine v).some in
     record {
       some = (one.some.0 ++ g.0, g.1, λ q hq. let k = g.2 q hq in (one.some.0, g.0, v, refl, one.some.2 (g.0 ++ q) (follows v g.0 q g.1 k hq), k));
       before = λ a rest q w h hq.
-          let k = (fine h.2).before h.1 rest q w h.5 hq in
-          (h.0, h.1, h.2, h.3, one.before h.0 (h.1 ++ rest) (h.1 ++ q) h.2 h.4 (follows h.2 h.1 q w k hq), k);
+          let k = (fine h.2).before h.1 rest q w h.5 hq in (h.0, h.1, h.2, h.3, one.before h.0 (h.1 ++ rest) (h.1 ++ q) h.2 h.4 (follows h.2 h.1 q w k hq), k);
     }
 
 -- A part that is read by a function on lists.
@@ -226,18 +216,14 @@ good_then {A} {B} {first} {next} {follow} {last} {r} {f} one others follows = re
 pub shorter : {A : Type 0} {part : Part A} {follow : A → List ℕ → Type 0} {read : List ℕ → Result (A × List ℕ) Refusal}
     → Good part follow read → (text rest : List ℕ) (v : A) → read text ≡ Ok (v, rest) → length rest ≤ length text
 shorter {A} {part} {follow} {read} good text rest v e =
-    let t : Took part text v rest = subst (Reads part follow text) e (good.reads text) in
-    let k = ap length t.parts ∙ length-append t.front rest in
-    omega arith
+    let t : Took part text v rest = subst (Reads part follow text) e (good.reads text) in let k = ap length t.parts ∙ length-append t.front rest in omega arith
 
 -- at a refusal no more bytes are left than the text has
 pub refusal_within : {A : Type 0} {part : Part A} {follow : A → List ℕ → Type 0} {read : List ℕ → Result (A × List ℕ) Refusal}
     → Good part follow read → (text : List ℕ) (f : Refusal) → read text ≡ Err f → f.left ≤ length text
 refusal_within {A} {part} {follow} {read} good text f e =
     let s : Stuck part follow text f = subst (Reads part follow text) e (good.reads text) in
-    let k = ap length s.parts ∙ length-append s.front (s.over ++ s.rest) in
-    let l = s.left in
-    omega arith
+    let k = ap length s.parts ∙ length-append s.front (s.over ++ s.rest) in let l = s.left in omega arith
 
 -- What a part begins with: all that it takes, with what stands behind, passes the test.
 abbrev pub Heads : {A : Type 0} → (ℕ → Bool) → Part A → Type 0

@@ -1,13 +1,11 @@
 -- Words within a body, and that a body tells one thing.
-use Rattle.std.proofs.Common.{◌≡◌, ◌⊎◌, ℕ, ◌+◌, ◌%◌, ◌/◌, ◌<◌, ◌≤◌, List, ◌∷◌, ◌++◌, length, take, drop, codes, Bool, Option, Some, None, refl, sym, ap}
-use Rattle.std.proofs.Common.{subst, ◌∙◌, append_assoc, inl, inr, arith}
-use Rattle.std.proofs.Common.{is_some}
+use Rattle.std.proofs.Common.{◌≡◌, ◌⊎◌, ℕ, ◌+◌, ◌/◌, ◌≤◌, List, ◌∷◌, ◌++◌, length, take, drop, codes, Option, Some, None, refl, sym, ap, subst}
+use Rattle.std.proofs.Common.{◌∙◌, append_assoc, inl, inr, arith, is_some}
 use Rattle.std.specs.Prelude.{IfSome, IsNone}
 use Rattle.std.specs.Bool.{Decides}
-use Rattle.std.proofs.lemmas.List.{append_cancel_left, append_cancel_right, length-append}
+use Rattle.std.proofs.lemmas.List.{append_cancel_right, length-append}
 use Rattle.line_parts.specs.Leaves.{AllDigits, worth}
-use Rattle.strace_reader.specs.Grammar.{EndsWith}
-use Rattle.memchr.specs.Find.{OccursAt, FindsNeedle}
+use Rattle.memchr.specs.Find.{FindsNeedle}
 use Rattle.raw_lines.specs.declared.makers.MadeAs.{MadeAs}
 use Rattle.raw_lines.specs.declared.makers.MadeAs.TheVariants.{Thread, Process, Untold}
 use Rattle.raw_lines.specs.declared.makers.Making.{Making}
@@ -17,20 +15,13 @@ use Rattle.raw_lines.specs.Makers.{Holds, IsWithout, IsToResult, outer_words, Ha
 use Rattle.raw_lines.proofs.Searches.{at_word, word_at, last_place_same}
 use Rattle.raw_lines.proofs.NumberEnds.{number_one, digits_without}
 
--- a word that is found is held
-pub holds_found : (text word : List ℕ) (k : ℕ) → OccursAt text word k → Holds word text
-holds_found text word k h = (take k text, drop (k + length word) text, at_word text word k h)
-
--- a word that is found nowhere isn't
-pub holds_nowhere : (text word : List ℕ) → ((k : ℕ) → 0 ≤ k → k < length text + 1 → OccursAt text word k → ⊥) → Holds word text → ⊥
-holds_nowhere text word none h =
-    let e = ap length h.2 ∙ length-append h.0 (word ++ h.1) in
-    none (length h.0) (omega arith) (omega arith) (word_at text word h.0 h.1 h.2)
-
--- so whether a word is held is whether it is found
+-- whether a word is held is whether it is found
 pub holds_is : (text word : List ℕ) (r : Option ℕ) → FindsNeedle text word 0 r → Decides (is_some r) (Holds word text)
-holds_is text word None h = (λ e. absurd cc, λ g. absurd (holds_nowhere text word h g))
-holds_is text word (Some k) h = (λ e. holds_found text word k h.1, λ g. refl)
+holds_is text word None h = (
+  λ e. absurd cc,
+  λ g. absurd (let e = ap length g.2 ∙ length-append g.0 (word ++ g.1) in h (length g.0) (omega arith) (omega arith) (word_at text word g.0 g.1 g.2)),
+)
+holds_is text word (Some k) h = (λ e. (take k text, drop (k + length word) text, at_word text word k h.1), λ g. refl)
 
 -- ---- one result
 
@@ -42,9 +33,8 @@ without_one word text a b (inr h) (inr g) = h.0 ∙ sym g.0
 
 -- a body has one text up to its result
 pub result_text_one : (body a b : List ℕ) → IsToResult body a → IsToResult body b → a ≡ b
-result_text_one body a b h g =
-    let m : h.0 ≡ g.0 = without_one (codes " (DELAYED)") body h.0 g.0 h.1 g.1 in
-    without_one (codes " (INJECTED)") g.0 a b (subst (λ (x : List ℕ). IsWithout (codes " (INJECTED)") x a) m h.2) g.2
+result_text_one body a b h g = let m : h.0 ≡ g.0 = without_one (codes " (DELAYED)") body h.0 g.0 h.1 g.1 in
+    without_one (codes " (INJECTED)") g.0 a b (subst (λ x. IsWithout (codes " (INJECTED)") x a) m h.2) g.2
 
 -- a space is no digit
 pub space_no_digit : 16 ≤ worth 32
@@ -65,10 +55,7 @@ bases_apart text n m h g =
     let s = last_place_same 32 (h.0 ++ codes "=") (g.0 ++ codes "=") h.1 (48 ∷ 120 ∷ g.1)
     (digits_without 10 32 (let k = space_no_digit in omega arith) h.1 h.2.1)
     (refl, (refl, digits_without 16 32 space_no_digit g.1 g.2.1)) (sym left ∙ right_space) in
-    let all = subst (AllDigits 10) s.1 h.2.1 in
-    let k = all.1.0 in
-    let w = x_no_digit in
-    omega arith
+    let all = subst (AllDigits 10) s.1 h.2.1 in let k = all.1.0 in let w = x_no_digit in omega arith
 
 plain_one : (text : List ℕ) (n m : ℕ) → (EndsInNumber 10 (codes "=") 32 text n ⊎ EndsInNumber 16 (codes "= 0") 120 text n)
     → (EndsInNumber 10 (codes "=") 32 text m ⊎ EndsInNumber 16 (codes "= 0") 120 text m) → n ≡ m
@@ -78,18 +65,15 @@ plain_one text n m (inr h) (inl g) = absurd (bases_apart text m n g h)
 plain_one text n m (inr h) (inr g) = number_one 16 (codes "= 0") 120 text n m x_no_digit h g
 
 has_one : (text : List ℕ) (n m : ℕ) → HasResult text n → HasResult text m → n ≡ m
-has_one text n m (inl h) (inl g) =
-    let f : h.0 ≡ g.0 = append_cancel_right h.0 g.0 outer_words (sym h.1 ∙ g.1) in
-    number_one 10 (codes "/*") 32 g.0 n m (let k = space_no_digit in omega arith) (subst (λ (x : List ℕ). EndsInNumber 10 (codes "/*") 32 x n) f h.2) g.2
+has_one text n m (inl h) (inl g) = let f : h.0 ≡ g.0 = append_cancel_right h.0 g.0 outer_words (sym h.1 ∙ g.1) in
+    number_one 10 (codes "/*") 32 g.0 n m (let k = space_no_digit in omega arith) (subst (λ x. EndsInNumber 10 (codes "/*") 32 x n) f h.2) g.2
 has_one text n m (inl h) (inr g) = absurd (g.0 (h.0, h.1))
 has_one text n m (inr h) (inl g) = absurd (h.0 (g.0, g.1))
 has_one text n m (inr h) (inr g) = plain_one text n m h.1 g.1
 
 -- a body ends with one result
 pub result_one : (body : List ℕ) (n m : ℕ) → EndsWithNumber body n → EndsWithNumber body m → n ≡ m
-result_one body n m h g =
-    let t : h.0 ≡ g.0 = result_text_one body h.0 g.0 h.1 g.1 in
-    has_one g.0 n m (subst (λ (x : List ℕ). HasResult x n) t h.2) g.2
+result_one body n m h g = let t : h.0 ≡ g.0 = result_text_one body h.0 g.0 h.1 g.1 in has_one g.0 n m (subst (λ x. HasResult x n) t h.2) g.2
 
 -- what is said of an option's value is said of it in other words
 pub if_some : {A : Type 0} (r : Option A) (P Q : A → Type 0) → ((x : A) → P x → Q x) → IfSome r P → IfSome r Q
@@ -99,53 +83,38 @@ if_some (Some x) P Q f h = f x h
 -- the result that is found is what a body makes
 pub child_is : (body text : List ℕ) (r : Option ℕ) → IsToResult body text → IfSome r (HasResult text)
     → (IsNone r → (n : ℕ) → ¬ HasResult text n) → IsChild body r
-child_is body text None to some none = λ n h. none refl n (subst (λ (x : List ℕ). HasResult x n) (result_text_one body h.0 text h.1 to) h.2)
+child_is body text None to some none = λ n h. none refl n (subst (λ x. HasResult x n) (result_text_one body h.0 text h.1 to) h.2)
 child_is body text (Some n) to some none = (text, to, some)
 
 -- ---- one thing told
 
 made_one : (body : List ℕ) (a b : MadeAs) → IsMadeAs body a → IsMadeAs body b → a ≡ b
 made_one body Thread Thread h g = refl
-made_one body Thread Process h g = absurd (g.0 h)
-made_one body Thread Untold h g = absurd (g.0 h)
-made_one body Process Thread h g = absurd (h.0 g)
-made_one body Process Process h g = refl
+made_one body Thread b h g = absurd (g.0 h)
+made_one body a Thread h g = absurd (h.0 g)
 made_one body Process Untold h g = absurd (h.1 g.1)
-made_one body Untold Thread h g = absurd (h.0 g)
 made_one body Untold Process h g = absurd (g.1 h.1)
-made_one body Untold Untold h g = refl
+made_one body a b h g = refl
 
 child_one : (body : List ℕ) (a b : Option ℕ) → IsChild body a → IsChild body b → a ≡ b
 child_one body None None h g = refl
 child_one body None (Some n) h g = absurd (h n g)
 child_one body (Some n) None h g = absurd (g n h)
-child_one body (Some n) (Some m) h g = ap (λ (x : ℕ). Some x) (result_one body n m h g)
+child_one body (Some n) (Some m) h g = ap (λ x. Some x) (result_one body n m h g)
 
 -- a body tells one thing
 pub making_one : (body : List ℕ) (a b : Making) → IsMaking body a → IsMaking body b → a ≡ b
-making_one body (Makes k c) (Makes l d) h g =
-    ap (λ (x : MadeAs). Makes x c) (made_one body k l h.2 g.2) ∙ ap (λ (x : Option ℕ). Makes l x) (child_one body c d h.3 g.3)
+making_one body (Makes k c) (Makes l d) h g = ap (λ x. Makes x c) (made_one body k l h.2 g.2) ∙ ap (λ x. Makes l x) (child_one body c d h.3 g.3)
 making_one body (Makes k c) (Begins l) h g = absurd (h.1 g.1)
-making_one body (Makes k c) (Ends d) h g = absurd (g.0 h.0)
-making_one body (Makes k c) Execs h g = absurd (g.0 h.0)
-making_one body (Makes k c) Nothing h g = absurd (g.0 h.0)
+making_one body (Makes k c) b h g = absurd (g.0 h.0)
 making_one body (Begins k) (Makes l d) h g = absurd (g.1 h.1)
-making_one body (Begins k) (Begins l) h g = ap (λ (x : MadeAs). Begins x) (made_one body k l h.2 g.2)
-making_one body (Begins k) (Ends d) h g = absurd (g.0 h.0)
-making_one body (Begins k) Execs h g = absurd (g.0 h.0)
-making_one body (Begins k) Nothing h g = absurd (g.0 h.0)
-making_one body (Ends c) (Makes l d) h g = absurd (h.0 g.0)
-making_one body (Ends c) (Begins l) h g = absurd (h.0 g.0)
-making_one body (Ends c) (Ends d) h g = ap (λ (x : Option ℕ). Ends x) (child_one body c d h.2 g.2)
-making_one body (Ends c) Execs h g = absurd (g.1 h.1)
-making_one body (Ends c) Nothing h g = absurd (g.1 h.1)
-making_one body Execs (Makes l d) h g = absurd (h.0 g.0)
-making_one body Execs (Begins l) h g = absurd (h.0 g.0)
-making_one body Execs (Ends d) h g = absurd (h.1 g.1)
-making_one body Execs Execs h g = refl
+making_one body (Begins k) (Begins l) h g = ap (λ x. Begins x) (made_one body k l h.2 g.2)
+making_one body (Begins k) b h g = absurd (g.0 h.0)
+making_one body a (Makes l d) h g = absurd (h.0 g.0)
+making_one body a (Begins l) h g = absurd (h.0 g.0)
+making_one body (Ends c) (Ends d) h g = ap (λ x. Ends x) (child_one body c d h.2 g.2)
+making_one body (Ends c) b h g = absurd (g.1 h.1)
+making_one body a (Ends d) h g = absurd (h.1 g.1)
 making_one body Execs Nothing h g = absurd (g.2 h.2 h.3)
-making_one body Nothing (Makes l d) h g = absurd (h.0 g.0)
-making_one body Nothing (Begins l) h g = absurd (h.0 g.0)
-making_one body Nothing (Ends d) h g = absurd (h.1 g.1)
 making_one body Nothing Execs h g = absurd (h.2 g.2 g.3)
-making_one body Nothing Nothing h g = refl
+making_one body a b h g = refl

@@ -1,33 +1,6 @@
 -- The number that a text ends with: its digits stand behind the last place of a byte that is none.
-use Rattle.std.proofs.Common.{
-  ◌≡◌,
-  ◌≢◌,
-  ℕ,
-  ◌+◌,
-  ◌-◌,
-  ◌*◌,
-  ◌^◌,
-  ◌<◌,
-  ◌≤◌,
-  List,
-  [],
-  ◌∷◌,
-  ◌++◌,
-  length,
-  take,
-  drop,
-  Bool,
-  true,
-  false,
-  refl,
-  sym,
-  ap,
-  subst,
-  ◌∙◌,
-  append_assoc,
-  arith,
-}
-use Rattle.std.proofs.Common.{get_or, length-drop}
+use Rattle.std.proofs.Common.{◌≡◌, ◌≢◌, ℕ, ◌+◌, ◌-◌, ◌*◌, ◌^◌, ◌<◌, ◌≤◌, List, [], ◌∷◌, ◌++◌, length, take, drop, Bool, true, false, refl, sym, ap, subst, ◌∙◌}
+use Rattle.std.proofs.Common.{append_assoc, arith, get_or, length-drop}
 use Rattle.std.specs.Prelude.{nat_lt, ◌==◌}
 use Rattle.std.proofs.lemmas.Bool.{lt-ltb, eqb-true}
 use Rattle.std.proofs.lemmas.Bool.Decides.{nat_tests}
@@ -61,18 +34,15 @@ digits_left base n [] h = refl
 digits_left base n (b ∷ text) h = rw (lt-ltb (worth b) base h.0) (digits_left base (n * base + worth b) text h.1)
 
 digits_alone : (base : ℕ) (text : List ℕ) → (digits_of base 0 text).1 ≡ [] → AllDigits base text
-digits_alone base text h =
-    let r = run_takes base 0 text in
-    let k : r.1 ≡ [] = sym (ap (λ (x : ℕ × List ℕ). x.1) r.2.is_read) ∙ h in
-    let e : text ≡ r.0 = r.2.parts ∙ ap (λ (x : List ℕ). r.0 ++ x) k ∙ append-nil r.0 in
-    subst (AllDigits base) (sym e) r.2.all
+digits_alone base text h = let r = run_takes base 0 text in let k : r.1 ≡ [] = sym (ap (λ x. x.1) r.2.is_read) ∙ h in
+    let e : text ≡ r.0 = r.2.parts ∙ ap (λ x. r.0 ++ x) k ∙ append-nil r.0 in subst (AllDigits base) (sym e) r.2.all
 
 -- what digits alone are read as
 digits_whole : (base : ℕ) (digits : List ℕ) → AllDigits base digits → (digits_of base 0 digits).0 ≡ value base 0 digits
 digits_whole base digits all =
     let r = run_takes base 0 digits in
     let s : r.0 ≡ digits = same_digits base [] r.0 digits r.1 [] r.2.all all r.2.ended tt (sym r.2.parts ∙ sym (append-nil digits)) tt in
-    ap (λ (x : ℕ × List ℕ). x.0) r.2.is_read ∙ ap (value base 0) s
+    ap (λ x. x.0) r.2.is_read ∙ ap (value base 0) s
 
 -- what is empty has no bytes
 pub empty_of : (text : List ℕ) (b : Bool) → b ≡ (length text == 0) → b ≡ true → text ≡ []
@@ -127,37 +97,29 @@ number_rest base word mark text at n s h =
 -- at least one
 pub number_some : (base : ℕ) (word : List ℕ) (mark : ℕ) (text : List ℕ) (at n : ℕ) → IsLastMark base mark text at → at + 1 ≡ length text
     → EndsInNumber base word mark text n → ⊥
-number_some base word mark text at n s e h =
-    let l = ap length (sym (all_behind (at + 1) text) ∙ (number_parts base word mark text at n s h).1) in
-    let k = length-drop (at + 1) text in
-    let some = h.2.0 in
-    omega arith
+number_some base word mark text at n s e h = let l = ap length (sym (all_behind (at + 1) text) ∙ (number_parts base word mark text at n s h).1) in
+    let k = length-drop (at + 1) text in let some = h.2.0 in omega arith
 
 -- and their number has 32 bits
 pub number_narrow : (base : ℕ) (word : List ℕ) (mark : ℕ) (text : List ℕ) (at n : ℕ) → IsLastMark base mark text at
     → 2 ^ 32 ≤ (digits_of base 0 (behind at text)).0 → EndsInNumber base word mark text n → ⊥
-number_narrow base word mark text at n s wide h =
-    let e = (number_parts base word mark text at n s h).1 in
-    let v = ap (λ (x : List ℕ). (digits_of base 0 x).0) e ∙ digits_whole base h.1 h.2.1 in
-    let is = h.2.2 in
-    let small = h.3 in
-    omega arith
+number_narrow base word mark text at n s wide h = let e = (number_parts base word mark text at n s h).1 in
+    let v = ap (λ x. (digits_of base 0 x).0) e ∙ digits_whole base h.1 h.2.1 in let is = h.2.2 in let small = h.3 in omega arith
 
 -- where all that stands so, the text ends with this number
 pub number_found : (base : ℕ) (word : List ℕ) (mark : ℕ) (text : List ℕ) (at n : ℕ) → IsLastMark base mark text at → EndsWith word (take at text)
     → (digits_of base 0 (behind at text)).1 ≡ [] → at + 1 ≢ length text → n ≡ (digits_of base 0 (behind at text)).0 → n < 2 ^ 32
     → EndsInNumber base word mark text n
 number_found base word mark text at n s words rest some is small =
-    let digits = behind at text in
-    let all = digits_alone base digits rest in
+    let digits = behind at text in let all = digits_alone base digits rest in
     let l = ap length (all_behind (at + 1) text) ∙ length-drop (at + 1) text in
     let within = s.within in (
       words.0,
       digits,
       (omega arith, all, is ∙ digits_whole base digits all),
       small,
-      at_byte mark text at s.within s.is ∙ ap (λ (x : List ℕ). take at text ++ (mark ∷ x)) (sym (all_behind (at + 1) text))
-          ∙ ap (λ (x : List ℕ). x ++ (mark ∷ digits)) words.1 ∙ append_assoc words.0 word (mark ∷ digits),
+      at_byte mark text at s.within s.is ∙ ap (λ x. take at text ++ (mark ∷ x)) (sym (all_behind (at + 1) text))
+          ∙ ap (λ x. x ++ (mark ∷ digits)) words.1 ∙ append_assoc words.0 word (mark ∷ digits),
     )
 
 -- ---- one number
@@ -167,5 +129,4 @@ pub number_one : (base : ℕ) (word : List ℕ) (mark : ℕ) (text : List ℕ) (
     → EndsInNumber base word mark text m → n ≡ m
 number_one base word mark text n m none h g =
     let k = last_place_same mark (h.0 ++ word) (g.0 ++ word) h.1 g.1 (digits_without base mark none h.1 h.2.1) (digits_without base mark none g.1 g.2.1)
-    (sym (number_whole base word mark text n h) ∙ number_whole base word mark text m g) in
-    h.2.2 ∙ ap (value base 0) k.1 ∙ sym g.2.2
+    (sym (number_whole base word mark text n h) ∙ number_whole base word mark text m g) in h.2.2 ∙ ap (value base 0) k.1 ∙ sym g.2.2

@@ -1,11 +1,9 @@
 -- A line has one plain text, and one that is as long as the line is the line.
 use Rattle.std.proofs.Common.{◌≡◌, ℕ, List, [], ◌∷◌, ◌++◌, length, codes, refl, sym, ap, subst, ◌∙◌, append_assoc, inl, inr, arith}
 use Rattle.std.proofs.lemmas.List.{append-nil, length-append, append_cancel_right}
-use Rattle.line_parts.specs.Leaves.{is, EachIs}
+use Rattle.line_parts.specs.Leaves.{EachIs}
 use Rattle.line_parts.specs.Reading.{behind_first}
-use Rattle.line_parts.proofs.Leaves.{same_is}
-use Rattle.strace_reader.specs.Grammar.{EndsWith}
-use Rattle.strace_reader.proofs.FormFacts.{cut_same}
+use Rattle.strace_reader.proofs.FormFacts.{cut_same, trailing}
 use Rattle.raw_lines.specs.Fields.{AreFields, is_clock_byte}
 use Rattle.raw_lines.specs.Plain.{IsFront, IsBeforeReturns, IsBeforeTime, IsUntimed, IsTaken, IsPlain}
 use Rattle.raw_lines.proofs.Searches.{first_byte}
@@ -13,49 +11,22 @@ use Rattle.raw_lines.proofs.FieldFacts.{fields_same, fields_front, clock_each}
 
 -- a line has one front and one body
 pub front_same : (text f b g c : List ℕ) → IsFront text f b → IsFront text g c → (f ≡ g) × (b ≡ c)
-front_same text f b g c h k =
-    let s = cut_same text h.0 k.0 b c h.1 k.1 in
-    (append_cancel_right f g c (ap (λ (x : List ℕ). f ++ x) (sym s.1) ∙ sym h.2 ∙ k.2), s.1)
-
--- a run of one byte may be turned round
-rotate : (x : ℕ) (s : List ℕ) → EachIs (is x) s → s ++ (x ∷ []) ≡ x ∷ s
-rotate x [] h = refl
-rotate x (b ∷ s) h =
-    let k : b ≡ x = same_is x b h.0 in
-    ap (λ (y : List ℕ). b ∷ y) (rotate x s h.1) ∙ ap (λ (y : ℕ). y ∷ (x ∷ s)) k ∙ ap (λ (y : ℕ). x ∷ (y ∷ s)) (sym k)
-
--- the text before all carriage returns at the end is one
-pub returns_same : (a b s t : List ℕ) → EachIs (is 13) s → EachIs (is 13) t → ¬ EndsWith (13 ∷ []) a → ¬ EndsWith (13 ∷ []) b
-    → a ++ s ≡ b ++ t → a ≡ b
-returns_same a b [] [] hs ht na nb e = sym (append-nil a) ∙ e ∙ append-nil b
-returns_same a b [] (c ∷ t) hs ht na nb e =
-    let k : c ∷ t ≡ t ++ (13 ∷ []) = ap (λ (x : ℕ). x ∷ t) (same_is 13 c ht.0) ∙ sym (rotate 13 t ht.1) in
-    absurd (na (b ++ t, sym (append-nil a) ∙ e ∙ ap (λ (x : List ℕ). b ++ x) k ∙ sym (append_assoc b t (13 ∷ []))))
-returns_same a b (c ∷ s) [] hs ht na nb e =
-    let k : c ∷ s ≡ s ++ (13 ∷ []) = ap (λ (x : ℕ). x ∷ s) (same_is 13 c hs.0) ∙ sym (rotate 13 s hs.1) in
-    absurd (nb (a ++ s, sym (append-nil b) ∙ sym e ∙ ap (λ (x : List ℕ). a ++ x) k ∙ sym (append_assoc a s (13 ∷ []))))
-returns_same a b (c ∷ s) (d ∷ t) hs ht na nb e =
-    let k : c ∷ s ≡ s ++ (13 ∷ []) = ap (λ (x : ℕ). x ∷ s) (same_is 13 c hs.0) ∙ sym (rotate 13 s hs.1) in
-    let l : d ∷ t ≡ t ++ (13 ∷ []) = ap (λ (x : ℕ). x ∷ t) (same_is 13 d ht.0) ∙ sym (rotate 13 t ht.1) in
-    let e1 : (a ++ s) ++ (13 ∷ []) ≡ (b ++ t) ++ (13 ∷ []) = append_assoc a s (13 ∷ []) ∙ ap (λ (x : List ℕ). a ++ x) (sym k) ∙ e
-    ∙ ap (λ (x : List ℕ). b ++ x) l ∙ sym (append_assoc b t (13 ∷ [])) in
-    returns_same a b s t hs.1 ht.1 na nb (append_cancel_right (a ++ s) (b ++ t) (13 ∷ []) e1)
+front_same text f b g c h k = let s = cut_same text h.0 k.0 b c h.1 k.1 in (append_cancel_right f g c (ap (λ x. f ++ x) (sym s.1) ∙ sym h.2 ∙ k.2), s.1)
 
 before_returns_same : (text a b : List ℕ) → IsBeforeReturns text a → IsBeforeReturns text b → a ≡ b
-before_returns_same text a b h g = returns_same a b h.0 g.0 h.1 g.1 h.3 g.3 (sym h.2 ∙ g.2)
+before_returns_same text a b h g = trailing 13 a b h.0 g.0 h.1 g.1 (λ f e. h.3 (f, e)) (λ f e. g.3 (f, e)) (sym h.2 ∙ g.2)
 
 -- bytes of a clock and `>` hold no space with `<` behind it
 no_space_inside : (c b d : List ℕ) → EachIs is_clock_byte c → c ++ codes ">" ≡ b ++ (codes " <" ++ d) → ⊥
-no_space_inside [] [] d hc e = absurd cc
 no_space_inside [] (x ∷ []) d hc e = absurd cc
-no_space_inside [] (x ∷ y ∷ b) d hc e = absurd cc
 no_space_inside (x ∷ c) [] d hc e = let k : x ≡ 32 = cc in let l = ap is_clock_byte k in absurd cc
 no_space_inside (x ∷ c) (y ∷ b) d hc e = let t : c ++ codes ">" ≡ b ++ (codes " <" ++ d) = cc in no_space_inside c b d hc.1 t
+no_space_inside c b d hc e = absurd cc
 
 -- nor do a space, `<`, bytes of a clock and `>`, but at their start
 no_other_start : (x : ℕ) (c b d : List ℕ) → EachIs is_clock_byte c → codes " <" ++ (c ++ codes ">") ≡ x ∷ (b ++ (codes " <" ++ d)) → ⊥
-no_other_start x c [] d hc e = let k : ◌≡◌ {A = ℕ} 60 32 = ap (λ (l : List ℕ). first_byte (behind_first l)) e in omega arith
-no_other_start x c (y ∷ b) d hc e = no_space_inside c b d hc (ap (λ (l : List ℕ). behind_first (behind_first l)) e)
+no_other_start x c [] d hc e = let k : ◌≡◌ {A = ℕ} 60 32 = ap (λ l. first_byte (behind_first l)) e in omega arith
+no_other_start x c (y ∷ b) d hc e = no_space_inside c b d hc (ap (λ l. behind_first (behind_first l)) e)
 
 -- a text that ends with a time has one front before it
 time_same : (a b c d : List ℕ) → EachIs is_clock_byte c → EachIs is_clock_byte d
@@ -63,16 +34,11 @@ time_same : (a b c d : List ℕ) → EachIs is_clock_byte c → EachIs is_clock_
 time_same [] [] c d hc hd e = refl
 time_same [] (x ∷ b) c d hc hd e = absurd (no_other_start x c b (d ++ codes ">") hc e)
 time_same (x ∷ a) [] c d hc hd e = absurd (no_other_start x d a (c ++ codes ">") hd (sym e))
-time_same (x ∷ a) (y ∷ b) c d hc hd e =
-    let h : x ≡ y = cc in
-    let t : a ++ (codes " <" ++ (c ++ codes ">")) ≡ b ++ (codes " <" ++ (d ++ codes ">")) = cc in
-    ap (λ (z : List ℕ). x ∷ z) (time_same a b c d hc hd t) ∙ ap (λ (z : ℕ). z ∷ b) h
-
-before_time_same : (text a b : List ℕ) → IsBeforeTime text a → IsBeforeTime text b → a ≡ b
-before_time_same text a b h g = time_same a b h.0 g.0 (clock_each h.0 h.1) (clock_each g.0 g.1) (sym h.2 ∙ g.2)
+time_same (x ∷ a) (y ∷ b) c d hc hd e = let h : x ≡ y = cc in let t : a ++ (codes " <" ++ (c ++ codes ">")) ≡ b ++ (codes " <" ++ (d ++ codes ">")) = cc in
+    ap (λ z. x ∷ z) (time_same a b c d hc hd t) ∙ ap (λ z. z ∷ b) h
 
 untimed_same : (text a b : List ℕ) → IsUntimed text a → IsUntimed text b → a ≡ b
-untimed_same text a b (inl h) (inl g) = before_time_same text a b h g
+untimed_same text a b (inl h) (inl g) = time_same a b h.0 g.0 (clock_each h.0 h.1) (clock_each g.0 g.1) (sym h.2 ∙ g.2)
 untimed_same text a b (inl h) (inr g) = absurd (g.1 a h)
 untimed_same text a b (inr h) (inl g) = absurd (h.1 b g)
 untimed_same text a b (inr h) (inr g) = h.0 ∙ sym g.0
@@ -80,11 +46,10 @@ untimed_same text a b (inr h) (inr g) = h.0 ∙ sym g.0
 taken_same : (text a b : List ℕ) → IsTaken text a → IsTaken text b → a ≡ b
 taken_same text a b h g =
     let f = front_same text h.front h.body g.front g.body h.begins g.begins in
-    let k : h.behind ≡ g.behind = fields_same g.body h.behind g.behind (subst (λ (x : List ℕ). AreFields x h.behind) f.1 h.fields) g.fields in
-    let l : h.before ≡ g.before = before_returns_same g.behind h.before g.before
-    (subst (λ (x : List ℕ). IsBeforeReturns x h.before) k h.returns) g.returns in
-    let m : h.left ≡ g.left = untimed_same g.before h.left g.left (subst (λ (x : List ℕ). IsUntimed x h.left) l h.time) g.time in
-    h.same ∙ ap (λ (x : List ℕ). x ++ h.left) f.0 ∙ ap (λ (x : List ℕ). g.front ++ x) m ∙ sym g.same
+    let k : h.behind ≡ g.behind = fields_same g.body h.behind g.behind (subst (λ x. AreFields x h.behind) f.1 h.fields) g.fields in
+    let l : h.before ≡ g.before = before_returns_same g.behind h.before g.before (subst (λ x. IsBeforeReturns x h.before) k h.returns) g.returns in
+    let m : h.left ≡ g.left = untimed_same g.before h.left g.left (subst (λ x. IsUntimed x h.left) l h.time) g.time in
+    h.same ∙ ap (λ x. x ++ h.left) f.0 ∙ ap (λ x. g.front ++ x) m ∙ sym g.same
 
 -- a line has one plain text
 pub plain_same : (text a b : List ℕ) → IsPlain text a → IsPlain text b → a ≡ b
@@ -121,16 +86,15 @@ pub record AreTaken (text plain : List ℕ) : Type 0 where
 -- the parts of a line of which the plain text was taken
 pub taken_parts : (text plain : List ℕ) → IsTaken text plain → AreTaken text plain
 taken_parts text plain h =
-    let f = fields_front h.body h.behind h.fields in
-    let r = h.returns in
+    let f = fields_front h.body h.behind h.fields in let r = h.returns in
     let u = untimed_front h.before h.left h.time in
-    let end : h.behind ≡ h.left ++ (u.0 ++ r.0) = r.2 ∙ ap (λ (x : List ℕ). x ++ r.0) u.1 ∙ append_assoc h.left u.0 r.0 in
+    let end : h.behind ≡ h.left ++ (u.0 ++ r.0) = r.2 ∙ ap (λ x. x ++ r.0) u.1 ∙ append_assoc h.left u.0 r.0 in
     record {
       front = h.front;
       between = f.0;
       left = h.left;
       behind = u.0 ++ r.0;
-      parts = h.begins.2 ∙ ap (λ (x : List ℕ). h.front ++ x) (f.1 ∙ ap (λ (x : List ℕ). f.0 ++ x) end);
+      parts = h.begins.2 ∙ ap (λ x. h.front ++ x) (f.1 ∙ ap (λ x. f.0 ++ x) end);
       same = h.same;
     }
 
@@ -139,10 +103,9 @@ pub taken_long : (text plain : List ℕ) → IsTaken text plain → length plain
 taken_long text plain h e =
     let p = taken_parts text plain h in
     let a = ap length p.parts ∙ length-append p.front (p.between ++ (p.left ++ p.behind)) in
-    let b = length-append p.between (p.left ++ p.behind) in
-    let c = length-append p.left p.behind in
+    let b = length-append p.between (p.left ++ p.behind) in let c = length-append p.left p.behind in
     let d = ap length p.same ∙ length-append p.front p.left in
     let x : p.between ≡ [] = no_bytes p.between (omega arith) in
     let y : p.behind ≡ [] = no_bytes p.behind (omega arith) in
-    p.same ∙ ap (λ (z : List ℕ). p.front ++ z) (sym (append-nil p.left))
-    ∙ ap (λ (z : List ℕ). p.front ++ (p.left ++ z)) (sym y) ∙ ap (λ (z : List ℕ). p.front ++ (z ++ (p.left ++ p.behind))) (sym x) ∙ sym p.parts
+    p.same ∙ ap (λ z. p.front ++ z) (sym (append-nil p.left))
+    ∙ ap (λ z. p.front ++ (p.left ++ z)) (sym y) ∙ ap (λ z. p.front ++ (z ++ (p.left ++ p.behind))) (sym x) ∙ sym p.parts

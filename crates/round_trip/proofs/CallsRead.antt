@@ -1,7 +1,6 @@
 -- The text of a call is read as the call: each argument with the comma behind it, and then the end of the line.
-use Rattle.std.proofs.Common.{rules, ◌≡◌, ℕ, zero, suc, ◌^◌, ◌<◌, ◌≤◌, List, [], ◌∷◌, ◌++◌, length, codes}
-use Rattle.std.proofs.Common.{decimal, if◌then◌else◌, ◌==◌, false, Option, Some, None, refl, sym, subst, ◌∙◌, arith}
-use Rattle.std.proofs.Common.{append_assoc, append-nil, Bool, true}
+use Rattle.std.proofs.Common.{rules, ◌≡◌, ℕ, zero, suc, ◌^◌, ◌<◌, ◌≤◌, List, [], ◌∷◌, ◌++◌, length, codes, decimal, if◌then◌else◌, ◌==◌, false, Option, Some}
+use Rattle.std.proofs.Common.{None, refl, sym, subst, ◌∙◌, arith, append_assoc, append-nil, Bool, true}
 use Rattle.std.proofs.lemmas.List.{length-append}
 use Rattle.std.proofs.lemmas.Bool.Decides.{nat_tests}
 use Rattle.std.proofs.lemmas.Fmt.{length-decimal-le}
@@ -20,9 +19,8 @@ use Rattle.strace_reader.specs.declared.item.Item.TheVariants.{Played}
 use Rattle.strace_reader.specs.declared.item.Name.{Name}
 use Rattle.strace_reader.specs.declared.item.Name.TheVariants.{Mmap, Munmap, Mprotect, Fault as FaultName, Mseal, Brk as BrkName, Mremap}
 use Rattle.strace_reader.specs.Words.{call_head, access_of, may_of}
-use Rattle.strace_reader.specs.Calls.{call, arguments, unrecorded, addr, comma, access, closing, map_tail, descriptor}
-use Rattle.strace_reader.specs.Calls.{prot, flags, protect_behind_prot, map_behind_prot, map_behind_flags}
-use Rattle.strace_reader.specs.Calls.{munmap_arguments, mprotect_arguments, fault_arguments, mseal_arguments, mmap_arguments}
+use Rattle.strace_reader.specs.Calls.{call, arguments, unrecorded, addr, comma, access, closing, map_tail, descriptor, prot, flags, protect_behind_prot}
+use Rattle.strace_reader.specs.Calls.{map_behind_prot, map_behind_flags, munmap_arguments, mprotect_arguments, fault_arguments, mseal_arguments, mmap_arguments}
 use Rattle.strace_reader.specs.Calls.{optional, is_more, alone, hex_number, moving, brk_arguments, remap_lengths, remap_behind, mremap_arguments}
 use Rattle.strace_reader.specs.Grammar.{Spells, IsBody, NeverReturned, EndsWith, unfinished}
 use Rattle.strace_reader.proofs.BodyAnswers.{call_cut}
@@ -41,8 +39,7 @@ letters_take (b ∷ word) rest due = (b ∷ [], word, tt, refl, refl, letters_ta
 -- an address, NULL or behind 0x
 addr_takes : (n : ℕ) (rest : List ℕ) → n < 2 ^ 64 → NoNumeral rest → addr.takes (address_text n) rest n
 addr_takes zero rest small ends = (codes "NULL", [], tt, refl, letters_take (codes "NULL") rest Number, (refl, refl))
-addr_takes (suc k) rest small ends =
-    let some : (suc k == 0) ≡ false = grind (arith, nat_tests) in
+addr_takes (suc k) rest small ends = let some : (suc k == 0) ≡ false = grind (arith, nat_tests) in
     subst (λ none. addr.takes (if none then codes "NULL" else prefixed_hex (suc k)) rest (suc k)) (sym some) (hex_takes Number (suc k) rest small ends)
 
 comma_takes : (rest : List ℕ) → starts (is 32) rest ≡ false → comma.takes (codes ", ") rest tt
@@ -83,27 +80,22 @@ then_length next n more w small ends h =
 
 munmap_takes : (a n : ℕ) → a < 2 ^ 64 → n < 2 ^ 64
     → munmap_arguments.takes (address_text a ++ (codes ", " ++ (decimal n ++ codes ")"))) [] (unrecorded (Unmap a n))
-munmap_takes a n small_a small_n =
-    then_addr (λ a. chain comma (λ u. chain (number Number) (λ n. closing (Unmap a n)))) a
+munmap_takes a n small_a small_n = then_addr (λ a. chain comma (λ u. chain (number Number) (λ n. closing (Unmap a n)))) a
     (codes ", " ++ (decimal n ++ codes ")")) _ small_a (comma_ends_number [])
     (then_length (λ n. closing (Unmap a n)) n (codes ")") _ small_n close_ends_number (closing_takes (Unmap a n)))
 
 -- a comma and a protection, and what is read behind them
 then_prot : {B : Type 0} (next : Option ℕ → Part B) (bits : ℕ) (more : List ℕ) (w : B) → bits < 8 → Ends (more ++ []) → (next (Some bits)).takes more [] w
     → (chain comma (λ u. chain prot next)).takes (codes ", " ++ (prot_text (record { 0 = bits }) ++ more)) [] w
-then_prot next bits more w small ends h =
-    let text = prot_text (record { 0 = bits }) in
-    let read = prot_takes bits (more ++ []) small ends in
+then_prot next bits more w small ends h = let text = prot_text (record { 0 = bits }) in let read = prot_takes bits (more ++ []) small ends in
     then_comma (chain prot next) (text ++ more) w (rw append_assoc read.1) (text, more, Some bits, refl, read.0, h)
 
-mprotect_takes : (a n p : ℕ) → a < 2 ^ 64 → n < 2 ^ 64 → p < 8
-    → mprotect_arguments.takes
+mprotect_takes : (a n p : ℕ) → a < 2 ^ 64 → n < 2 ^ 64 → p < 8 → mprotect_arguments.takes
     (address_text a ++ (codes ", " ++ (decimal n ++ (codes ", " ++ (prot_text (record { 0 = p }) ++ codes ")"))))) []
     (unrecorded (Protect a n (record { 0 = p })))
 mprotect_takes a n p small_a small_n small_p =
     then_addr (λ a. chain comma (λ u. chain (number Number) (λ n. chain comma (λ v. chain prot (protect_behind_prot a n))))) a _ _
-    small_a (comma_ends_number [])
-    (then_length (λ n. chain comma (λ v. chain prot (protect_behind_prot a n))) n _ _ small_n (comma_ends_number [])
+    small_a (comma_ends_number []) (then_length (λ n. chain comma (λ v. chain prot (protect_behind_prot a n))) n _ _ small_n (comma_ends_number [])
     (then_prot (protect_behind_prot a n) p (codes ")") _ small_p close_ends (closing_takes (Protect a n (record { 0 = p })))))
 
 access_takes : (which : Access) → access.takes (access_text which) (codes ")") which
@@ -114,34 +106,28 @@ access_takes Exec = (search rules, refl, refl)
 
 access_starts : (which : Access) (more : List ℕ) → starts (is 32) (access_text which ++ more) ≡ false
 access_starts Read more = refl
-access_starts Write more = refl
-access_starts Exec more = refl
+access_starts which more = refl
 
 access_length : (which : Access) → length (access_text which) ≤ 10
 access_length Read = omega arith
-access_length Write = omega arith
-access_length Exec = omega arith
+access_length which = omega arith
 
 fault_takes : (a : ℕ) (which : Access) → a < 2 ^ 64
     → fault_arguments.takes (address_text a ++ (codes ", " ++ (access_text which ++ codes ")"))) [] (unrecorded (Fault a which))
-fault_takes a which small =
-    then_addr (λ a. chain comma (λ u. chain access (λ c. closing (Fault a c)))) a _ _ small (comma_ends_number [])
+fault_takes a which small = then_addr (λ a. chain comma (λ u. chain access (λ c. closing (Fault a c)))) a _ _ small (comma_ends_number [])
     (then_comma (chain access (λ c. closing (Fault a c))) (access_text which ++ codes ")") _ (rw append_assoc (access_starts which _))
     (access_text which, codes ")", which, refl, access_takes which, closing_takes (Fault a which)))
 
 mseal_takes : (a n f : ℕ) → a < 2 ^ 64 → n < 2 ^ 64 → f < 2 ^ 64
-    → mseal_arguments.takes (address_text a ++ (codes ", " ++ (decimal n ++ (codes ", " ++ (decimal f ++ codes ")"))))) []
-    (unrecorded (Seal a n f))
+    → mseal_arguments.takes (address_text a ++ (codes ", " ++ (decimal n ++ (codes ", " ++ (decimal f ++ codes ")"))))) [] (unrecorded (Seal a n f))
 mseal_takes a n f small_a small_n small_f =
     then_addr (λ a. chain comma (λ u. chain (number Number) (λ n. chain comma (λ v. chain (number Number) (λ f. closing (Seal a n f)))))) a _ _
-    small_a (comma_ends_number [])
-    (then_length (λ n. chain comma (λ v. chain (number Number) (λ f. closing (Seal a n f)))) n _ _ small_n (comma_ends_number [])
+    small_a (comma_ends_number []) (then_length (λ n. chain comma (λ v. chain (number Number) (λ f. closing (Seal a n f)))) n _ _ small_n (comma_ends_number [])
     (then_length (λ f. closing (Seal a n f)) f (codes ")") _ small_f close_ends_number (closing_takes (Seal a n f))))
 
 address_starts : (n : ℕ) (rest : List ℕ) → starts (is 32) (address_text n ++ rest) ≡ false
 address_starts zero rest = refl
-address_starts (suc k) rest =
-    let some : (suc k == 0) ≡ false = grind (arith, nat_tests) in
+address_starts (suc k) rest = let some : (suc k == 0) ≡ false = grind (arith, nat_tests) in
     subst (λ none. starts (is 32) ((if none then codes "NULL" else prefixed_hex (suc k)) ++ rest) ≡ false) (sym some) refl
 
 -- the base behind the address
@@ -152,14 +138,7 @@ then_base next n more w small ends h = (
   more,
   n,
   refl,
-  (
-    codes ", ",
-    address_text n,
-    tt,
-    refl,
-    comma_takes (address_text n ++ (more ++ [])) (address_starts n (more ++ [])),
-    addr_takes n (more ++ []) small ends,
-  ),
+  (codes ", ", address_text n, tt, refl, comma_takes (address_text n ++ (more ++ [])) (address_starts n (more ++ [])), addr_takes n (more ++ []) small ends),
   h,
 )
 
@@ -179,12 +158,11 @@ move_takes true rest ends no_more no_x = (
   codes "MREMAP_MAYMOVE",
   refl,
   (refl, search rules, ends.no_word),
-  subst (λ (x : Bool). (arm (anything no_byte None) (done (Some true)) x).takes [] rest (Some true)) (sym ends.no_bar) (refl, refl),
+  subst (λ x. (arm (anything no_byte None) (done (Some true)) x).takes [] rest (Some true)) (sym ends.no_bar) (refl, refl),
 )
 move_takes false rest ends no_more no_x =
-    let said = subst (λ (x : Bool). (arm (anything no_byte None) (done (Some false)) x).takes [] rest (Some false)) (sym no_more) (refl, refl) in
-    let behind = subst (λ (x : Bool). (arm (chain (byte 120 Number) (λ v. hex_number)) (alone is_more false) x).takes [] rest (Some false))
-    (sym no_x) said in
+    let said = subst (λ x. (arm (anything no_byte None) (done (Some false)) x).takes [] rest (Some false)) (sym no_more) (refl, refl) in
+    let behind = subst (λ x. (arm (chain (byte 120 Number) (λ v. hex_number)) (alone is_more false) x).takes [] rest (Some false)) (sym no_x) said in
     (48 ∷ [], [], tt, refl, refl, behind)
 
 move_starts : (may : Bool) (more : List ℕ) → starts (is 32) (move_text may ++ more) ≡ false
@@ -203,11 +181,9 @@ then_move a o n may zero small = (
   ([], codes ")", 0, refl, (refl, refl), closing_takes (Remap a o n may 0)),
 )
 then_move a o n may (suc k) small =
-    let some : (suc k == 0) ≡ false = grind (arith, nat_tests) in
-    let hint = codes ", " ++ prefixed_hex (suc k) in
+    let some : (suc k == 0) ≡ false = grind (arith, nat_tests) in let hint = codes ", " ++ prefixed_hex (suc k) in
     let hex = hex_takes Number (suc k) (codes ")") small close_ends_number in
-    subst
-    (λ none. (chain moving (remap_behind a o n)).takes (move_text may ++ ((if none then [] else hint) ++ codes ")")) []
+    subst (λ none. (chain moving (remap_behind a o n)).takes (move_text may ++ ((if none then [] else hint) ++ codes ")")) []
     (unrecorded (Remap a o n may (suc k)))) (sym some) (
       move_text may,
       hint ++ codes ")",
@@ -224,10 +200,8 @@ then_move a o n may (suc k) small =
       ),
     )
 
-mremap_takes : (a o n : ℕ) (may : Bool) (h : ℕ) → a < 2 ^ 64 → o < 2 ^ 64 → n < 2 ^ 64 → h < 2 ^ 64
-    → mremap_arguments.takes
-    (address_text a ++ (codes ", " ++ (decimal o ++ (codes ", "
-    ++ (decimal n ++ (codes ", " ++ (move_text may ++ (hint_text h ++ codes ")")))))))) []
+mremap_takes : (a o n : ℕ) (may : Bool) (h : ℕ) → a < 2 ^ 64 → o < 2 ^ 64 → n < 2 ^ 64 → h < 2 ^ 64 → mremap_arguments.takes
+    (address_text a ++ (codes ", " ++ (decimal o ++ (codes ", " ++ (decimal n ++ (codes ", " ++ (move_text may ++ (hint_text h ++ codes ")")))))))) []
     (unrecorded (Remap a o n may h))
 mremap_takes a o n may h small_a small_o small_n small_h =
     then_addr (λ a. chain comma (λ u. chain (number Number) (remap_lengths a))) a _ _ small_a (comma_ends_number [])
@@ -238,32 +212,21 @@ mremap_takes a o n may h small_a small_o small_n small_h =
 
 -- the descriptor -1 and the offset 0
 dropped_takes : (c : Call) → (map_tail c).takes (codes ", -1, 0)") [] (unrecorded c)
-dropped_takes c =
-    then_comma (chain descriptor (λ v. chain comma (λ w. chain (number Number) (λ o. closing c)))) (codes "-1, 0)") _ refl (
-      codes "-1",
-      codes ", 0)",
-      tt,
-      refl,
-      (
-        codes "-1",
-        [],
-        tt,
-        refl,
-        letters_take (codes "-1") (codes ", 0)") Number,
-        (refl, refl),
-      ),
-      (then_comma (chain (number Number) (λ o. closing c)) (codes "0)") _ refl
-          (codes "0", codes ")", 0, refl, zero_number (codes ")") close_ends_number, closing_takes c)),
-    )
+dropped_takes c = then_comma (chain descriptor (λ v. chain comma (λ w. chain (number Number) (λ o. closing c)))) (codes "-1, 0)") _ refl (
+  codes "-1",
+  codes ", 0)",
+  tt,
+  refl,
+  (codes "-1", [], tt, refl, letters_take (codes "-1") (codes ", 0)") Number, (refl, refl)),
+  (then_comma (chain (number Number) (λ o. closing c)) (codes "0)") _ refl
+      (codes "0", codes ")", 0, refl, zero_number (codes ")") close_ends_number, closing_takes c)),
+)
 
-mmap_takes : (a n p f : ℕ) → a < 2 ^ 64 → n < 2 ^ 64 → p < 8 → f < 16
-    → mmap_arguments.takes
-    (address_text a ++ (codes ", " ++ (decimal n ++ (codes ", "
+mmap_takes : (a n p f : ℕ) → a < 2 ^ 64 → n < 2 ^ 64 → p < 8 → f < 16 → mmap_arguments.takes (address_text a ++ (codes ", " ++ (decimal n ++ (codes ", "
     ++ (prot_text (record { 0 = p }) ++ (codes ", " ++ (flags_text (record { 0 = f }) ++ codes ", -1, 0)"))))))) []
     (unrecorded (Map a n (record { 0 = p }) (record { 0 = f })))
 mmap_takes a n p f small_a small_n small_p small_f =
-    let c = Map a n (record { 0 = p }) (record { 0 = f }) in
-    let read = flags_takes f (codes " -1, 0)") small_f in
+    let c = Map a n (record { 0 = p }) (record { 0 = f }) in let read = flags_takes f (codes " -1, 0)") small_f in
     let text = flags_text (record { 0 = f }) in
     then_addr (λ a. chain comma (λ u. chain (number Number) (λ n. chain comma (λ v. chain prot (map_behind_prot a n))))) a _ _ small_a (comma_ends_number [])
     (then_length (λ n. chain comma (λ v. chain prot (map_behind_prot a n))) n _ _ small_n (comma_ends_number [])
@@ -280,8 +243,7 @@ no_half text body e h =
 
 did_return : (text body : List ℕ) → text ≡ body ++ codes ")" → NeverReturned text → ⊥
 did_return text body e h =
-    let before = h.0 ++ (codes "<unfinished ...>)" ++ ((32 ∷ h.1) ++ codes "= ")) in
-    let k = last_same body before 41 63 (sym e ∙ h.3 ∙ simp append_assoc) in cc
+    let before = h.0 ++ (codes "<unfinished ...>)" ++ ((32 ∷ h.1) ++ codes "= ")) in let k = last_same body before 41 63 (sym e ∙ h.3 ∙ simp append_assoc) in cc
 
 -- a line of the name and arguments that are read
 spelled : (name : Name) (args text body : List ℕ) (c : Call) → (arguments name).takes args [] (unrecorded c)
@@ -290,15 +252,7 @@ unfolding Spells IsBody call
 spelled name args text body c h e ends = (
   text,
   call_cut name text (args, e),
-  (
-    name,
-    record {
-      names = (args, e);
-      returned = did_return text body ends;
-      whole = no_half text body ends;
-    },
-    (call_head name, args, tt, e, refl, h),
-  ),
+  (name, record { names = (args, e); returned = did_return text body ends; whole = no_half text body ends }, (call_head name, args, tt, e, refl, h)),
 )
 
 -- joined from the left or from the right, a text of several parts is the same
@@ -312,30 +266,25 @@ nest_protect o a c n p t = simp append_assoc
 pub call_text_spells : (c : Call) → IsNamedCall c → FitsCall c → Spells (call_text c) (Played 0 c None)
 call_text_spells (Map a n p f) named fits =
     let body = codes "mmap(" ++ address_text a ++ codes ", " ++ decimal n ++ codes ", " ++ prot_text p ++ codes ", " ++ flags_text f in
-    spelled Mmap _ (call_text (Map a n p f)) (body ++ codes ", -1, 0") _
-    (mmap_takes a n p.0 f.0 fits.0 fits.1 named.0 named.1)
+    spelled Mmap _ (call_text (Map a n p f)) (body ++ codes ", -1, 0") _ (mmap_takes a n p.0 f.0 fits.0 fits.1 named.0 named.1)
     (nest_map (codes "mmap(") (address_text a) (codes ", ") (decimal n) (prot_text p) (flags_text f) (codes ", -1, 0)"))
     (sym (append_assoc body (codes ", -1, 0") (codes ")")))
-call_text_spells (Unmap a n) named fits =
-    spelled Munmap _ (call_text (Unmap a n)) (codes "munmap(" ++ address_text a ++ codes ", " ++ decimal n) _
+call_text_spells (Unmap a n) named fits = spelled Munmap _ (call_text (Unmap a n)) (codes "munmap(" ++ address_text a ++ codes ", " ++ decimal n) _
     (munmap_takes a n fits.0 fits.1) (simp append_assoc) refl
 call_text_spells (Protect a n p) named fits =
     spelled Mprotect _ (call_text (Protect a n p)) (codes "mprotect(" ++ address_text a ++ codes ", " ++ decimal n ++ codes ", " ++ prot_text p) _
-    (mprotect_takes a n p.0 fits.0 fits.1 named)
-    (nest_protect (codes "mprotect(") (address_text a) (codes ", ") (decimal n) (prot_text p) (codes ")")) refl
+    (mprotect_takes a n p.0 fits.0 fits.1 named) (nest_protect (codes "mprotect(") (address_text a) (codes ", ") (decimal n) (prot_text p) (codes ")")) refl
 call_text_spells (Fault a which) named fits =
     spelled FaultName _ (call_text (Fault a which)) (codes "fault(" ++ address_text a ++ codes ", " ++ access_text which) _
     (fault_takes a which fits) (simp append_assoc) refl
 call_text_spells (Seal a n f) named fits =
     spelled Mseal _ (call_text (Seal a n f)) (codes "mseal(" ++ address_text a ++ codes ", " ++ decimal n ++ codes ", " ++ decimal f) _
     (mseal_takes a n f fits.0 fits.1 fits.2) (simp append_assoc) refl
-call_text_spells (Brk b a) named fits =
-    spelled BrkName _ (call_text (Brk b a)) (codes "brk(" ++ address_text a ++ codes ", " ++ address_text b) _
+call_text_spells (Brk b a) named fits = spelled BrkName _ (call_text (Brk b a)) (codes "brk(" ++ address_text a ++ codes ", " ++ address_text b) _
     (brk_takes b a fits.0 fits.1) (simp append_assoc) refl
 call_text_spells (Remap a o n may h) named fits =
     let body = codes "mremap(" ++ address_text a ++ codes ", " ++ decimal o ++ codes ", " ++ decimal n ++ codes ", " ++ move_text may ++ hint_text h in
-    spelled Mremap _ (call_text (Remap a o n may h)) body _
-    (mremap_takes a o n may h fits.0 fits.1 fits.2 fits.3) (simp append_assoc) refl
+    spelled Mremap _ (call_text (Remap a o n may h)) body _ (mremap_takes a o n may h fits.0 fits.1 fits.2 fits.3) (simp append_assoc) refl
 
 -- ---- how long a text is
 
@@ -354,35 +303,22 @@ pub call_text_length : (c : Call) → IsNamedCall c → FitsCall c → length (c
 call_text_length (Map a n p f) named fits =
     let addr_short = address_length a fits.0 in
     let len_short = length-decimal-le 20 n (omega arith) (omega arith) fits.1 in
-    let prot_short = (prot_takes p.0 (codes ")") named.0 close_ends).2 in
-    let flags_short = (flags_takes f.0 [] named.1).2 in
-    simp length-append (omega arith)
+    let prot_short = (prot_takes p.0 (codes ")") named.0 close_ends).2 in let flags_short = (flags_takes f.0 [] named.1).2 in simp length-append (omega arith)
 call_text_length (Unmap a n) named fits =
-    let addr_short = address_length a fits.0 in
-    let len_short = length-decimal-le 20 n (omega arith) (omega arith) fits.1 in
-    simp length-append (omega arith)
+    let addr_short = address_length a fits.0 in let len_short = length-decimal-le 20 n (omega arith) (omega arith) fits.1 in simp length-append (omega arith)
 call_text_length (Protect a n p) named fits =
     let addr_short = address_length a fits.0 in
     let len_short = length-decimal-le 20 n (omega arith) (omega arith) fits.1 in
-    let prot_short = (prot_takes p.0 (codes ")") named close_ends).2 in
-    simp length-append (omega arith)
+    let prot_short = (prot_takes p.0 (codes ")") named close_ends).2 in simp length-append (omega arith)
 call_text_length (Fault a which) named fits =
-    let addr_short = address_length a fits in
-    let access_short = access_length which in
-    simp length-append (omega arith)
+    let addr_short = address_length a fits in let access_short = access_length which in simp length-append (omega arith)
 call_text_length (Seal a n f) named fits =
     let addr_short = address_length a fits.0 in
     let len_short = length-decimal-le 20 n (omega arith) (omega arith) fits.1 in
-    let flags_short = length-decimal-le 20 f (omega arith) (omega arith) fits.2 in
-    simp length-append (omega arith)
-call_text_length (Brk b a) named fits =
-    let base_short = address_length b fits.0 in
-    let addr_short = address_length a fits.1 in
-    simp length-append (omega arith)
+    let flags_short = length-decimal-le 20 f (omega arith) (omega arith) fits.2 in simp length-append (omega arith)
+call_text_length (Brk b a) named fits = let base_short = address_length b fits.0 in let addr_short = address_length a fits.1 in simp length-append (omega arith)
 call_text_length (Remap a o n may h) named fits =
     let addr_short = address_length a fits.0 in
     let old_short = length-decimal-le 20 o (omega arith) (omega arith) fits.1 in
-    let new_short = length-decimal-le 20 n (omega arith) (omega arith) fits.2 in
-    let move_short = move_length may in
-    let hint_short = hint_length h fits.3 in
-    simp length-append (omega arith)
+    let new_short = length-decimal-le 20 n (omega arith) (omega arith) fits.2 in let move_short = move_length may in
+    let hint_short = hint_length h fits.3 in simp length-append (omega arith)

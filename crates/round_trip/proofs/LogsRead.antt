@@ -1,13 +1,13 @@
 -- The text of a log tells its entries. Each part of a line ends at the first byte that it can't have itself: a space
 -- behind a number, the closing parenthesis of a call, the `u` of `under` behind a reply, and the newline.
-use Rattle.std.proofs.Common.{◌≡◌, ◌≢◌, ℕ, zero, suc, ◌+◌, ◌^◌, ◌<◌, ◌≤◌, Bool, true, false, not, cond, ◌&&◌, List, []}
-use Rattle.std.proofs.Common.{◌∷◌, ◌++◌, length, get_or, drop, codes, decimal, if◌then◌else◌, All, None, refl, sym, ap}
-use Rattle.std.proofs.Common.{subst, ◌∙◌, inl, inr, arith, append_assoc}
+use Rattle.std.proofs.Common.{◌≡◌, ◌≢◌, ℕ, suc, ◌+◌, ◌^◌, ◌<◌, ◌≤◌, Bool, true, false, not, cond, ◌&&◌, List, [], ◌∷◌, ◌++◌, length, get_or, drop, codes}
+use Rattle.std.proofs.Common.{decimal, if◌then◌else◌, All, None, refl, sym, ap, subst, ◌∙◌, inl, inr, arith, append_assoc}
 use Rattle.std.specs.Prelude.{◌==◌}
 use Rattle.std.proofs.Math.Bridge.{le_prop}
 use Rattle.std.proofs.lemmas.Bool.{cases_lt}
 use Rattle.std.proofs.lemmas.Bool.Decides.{eqb_tells}
-use Rattle.std.proofs.lemmas.List.{get_or_default}
+use Rattle.std.proofs.lemmas.List.{append_cancel_right, get_or_default}
+use Rattle.std.proofs.lemmas.List.Elements.{All-head, All-tail}
 use Rattle.std.proofs.lemmas.Fmt.{decimal_injective}
 use Rattle.line_parts.specs.Leaves.{worth, AllDigits, value}
 use Rattle.line_parts.proofs.Leaves.{is_same}
@@ -25,7 +25,7 @@ use Rattle.page_types.specs.declared.pages.Field.{Field}
 use Rattle.page_types.specs.declared.pages.Field.TheVariants.{Addr, Len, Flags, End}
 use Rattle.page_types.specs.declared.pages.Span.{Span}
 use Rattle.page_types.specs.declared.sets.Access.{Access}
-use Rattle.page_types.specs.declared.sets.Access.TheVariants.{Read, Write, Exec}
+use Rattle.page_types.specs.declared.sets.Access.TheVariants.{Read}
 use Rattle.page_types.specs.declared.sets.Prot.{Prot}
 use Rattle.page_types.specs.declared.sets.MapFlags.{MapFlags}
 use Rattle.page_types.specs.Named.{IsNamedCall, IsNamedKind, IsNamedReply, IsNamedWhy}
@@ -88,7 +88,7 @@ lacks_used b bytes [] none all = refl
 lacks_used b bytes (x ∷ xs) none all = elim (eqb_tells x b) [
   | inl same ↦
       let has : not (lacks x bytes) ≡ true = first_of (not (lacks x bytes)) (uses bytes xs) all in
-      let hasnt : lacks x bytes ≡ true = subst (λ (y : ℕ). lacks y bytes ≡ true) (sym same.1) none in
+      let hasnt : lacks x bytes ≡ true = subst (λ y. lacks y bytes ≡ true) (sym same.1) none in
       absurd (let no : not (lacks x bytes) ≡ false = ap not hasnt in cc)
   | inr other ↦ both (not (x == b)) (lacks b xs) (ap not other.0) (lacks_used b bytes xs none (second_of (not (lacks x bytes)) (uses bytes xs) all))
 ]
@@ -124,29 +124,12 @@ split b (x ∷ xs) = if x == b then ([], xs) else (x ∷ (split b xs).0, (split 
 -- a text that lacks the byte is split from what stands behind the byte
 split_is : (b : ℕ) (xs r : List ℕ) → lacks b xs ≡ true → split b (xs ++ b ∷ r) ≡ (xs, r)
 split_is b [] r none = rw (is_same b) refl
-split_is b (x ∷ xs) r none =
-    rw (not_true (x == b) (first_of (not (x == b)) (lacks b xs) none))
-    (ap (λ (p : List ℕ × List ℕ). (x ∷ p.0, p.1)) (split_is b xs r (second_of (not (x == b)) (lacks b xs) none)))
+split_is b (x ∷ xs) r none = rw (not_true (x == b) (first_of (not (x == b)) (lacks b xs) none))
+    (ap (λ p. (x ∷ p.0, p.1)) (split_is b xs r (second_of (not (x == b)) (lacks b xs) none)))
 
 -- two texts that lack a byte and have it behind them: where the wholes are equal the parts are
 pub cut : (b : ℕ) (xs ys r s : List ℕ) → lacks b xs ≡ true → lacks b ys ≡ true → xs ++ b ∷ r ≡ ys ++ b ∷ s → (xs ≡ ys) × (r ≡ s)
-cut b xs ys r s p q e =
-    let both = sym (split_is b xs r p) ∙ ap (split b) e ∙ split_is b ys s q in
-    (ap (λ (t : List ℕ × List ℕ). t.0) both, ap (λ (t : List ℕ × List ℕ). t.1) both)
-
-none_behind : (a : ℕ) (l : List ℕ) → l ++ a ∷ [] ≡ [] → ⊥
-none_behind a [] e = cc
-none_behind a (x ∷ l) e = cc
-
--- a last byte less
-last_off : (a : ℕ) (xs ys : List ℕ) → xs ++ a ∷ [] ≡ ys ++ a ∷ [] → xs ≡ ys
-last_off a [] [] e = refl
-last_off a [] (y ∷ ys) e = absurd (none_behind a ys (sym (ap (drop 1) e)))
-last_off a (x ∷ xs) [] e = absurd (none_behind a xs (ap (drop 1) e))
-last_off a (x ∷ xs) (y ∷ ys) e =
-    let first : x ≡ y = ap (λ (l : List ℕ). get_or l 0 0) e in
-    let rest = last_off a xs ys (ap (drop 1) e) in
-    λ i. first i ∷ rest i
+cut b xs ys r s p q e = let both = sym (split_is b xs r p) ∙ ap (split b) e ∙ split_is b ys s q in (ap (λ t. t.0) both, ap (λ t. t.1) both)
 
 -- ---- numbers
 
@@ -182,14 +165,6 @@ pub dash_ends : 16 ≤ worth 45
 unfolding worth
 dash_ends = omega arith
 
-close_ends : 16 ≤ worth 41
-unfolding worth
-close_ends = omega arith
-
-u_ends : 16 ≤ worth 117
-unfolding worth
-u_ends = omega arith
-
 -- the newline is no digit
 pub line_ends : 16 ≤ worth 10
 unfolding worth
@@ -199,14 +174,9 @@ line_ends = omega arith
 cut_number : (n m : ℕ) (r s : List ℕ) → n < 2 ^ 64 → m < 2 ^ 64 → decimal n ++ 32 ∷ r ≡ decimal m ++ 32 ∷ s → (n ≡ m) × (r ≡ s)
 cut_number n m r s low high e =
     let parts = cut 32 (decimal n) (decimal m) r s (decimal_lacks 32 n low (omega (arith, space_ends)))
-    (decimal_lacks 32 m high (omega (arith, space_ends))) e in
-    (decimal_injective n m low high parts.0, parts.1)
+    (decimal_lacks 32 m high (omega (arith, space_ends))) e in (decimal_injective n m low high parts.0, parts.1)
 
 -- ---- calls
-
-address_lacks : (b n : ℕ) → n < 2 ^ 64 → lacks b (codes "NULL") ≡ true → lacks b (codes "0x") ≡ true → 16 ≤ worth b → lacks b (address_text n) ≡ true
-address_lacks b n small null x none = elim (n == 0) as (λ t. lacks b (cond t (codes "NULL") (prefixed_hex n)) ≡ true)
-    [ true ↦ null | false ↦ lacks_both b (codes "0x") (hex_digits n) x (hex_lacks b n small none) ]
 
 -- a test that passes for both truth values
 abbrev both_ways : (Bool → Bool) → Bool
@@ -219,10 +189,8 @@ either_way f h false = second_of (f true) (f false) h
 -- a test of four truth values that passes for all sixteen passes for these
 each_of_four : (f : Bool → Bool → Bool → Bool → Bool)
     → both_ways (λ a. both_ways (λ b. both_ways (λ c. both_ways (f a b c)))) ≡ true → (a b c d : Bool) → f a b c d ≡ true
-each_of_four f h a b c d =
-    let one = either_way (λ x. both_ways (λ y. both_ways (λ z. both_ways (f x y z)))) h a in
-    let two = either_way (λ y. both_ways (λ z. both_ways (f a y z))) one b in
-    either_way (f a b c) (either_way (λ z. both_ways (f a b z)) two c) d
+each_of_four f h a b c d = let one = either_way (λ x. both_ways (λ y. both_ways (λ z. both_ways (f x y z)))) h a in
+    let two = either_way (λ y. both_ways (λ z. both_ways (f a y z))) one b in either_way (f a b c) (either_way (λ z. both_ways (f a b z)) two c) d
 
 prot_uses : (p : Prot) → uses call_bytes (prot_text p) ≡ true
 prot_uses p = each_of_four (λ a b c d. uses call_bytes (words_or (codes "PROT_NONE")
@@ -236,8 +204,7 @@ flags_use f = each_of_four (λ a b c d. uses call_bytes (words_or (codes "0") (w
 
 access_uses : (a : Access) → uses call_bytes (access_text a) ≡ true
 access_uses Read = refl
-access_uses Write = refl
-access_uses Exec = refl
+access_uses a = refl
 
 move_uses : (may : Bool) → uses call_bytes (move_text may) ≡ true
 move_uses true = refl
@@ -274,9 +241,10 @@ module _ (b : ℕ) (apart : IsApart b) where
   number n small = decimal_lacks b n small (let none = apart.no_digit in omega arith)
 
   address : (n : ℕ) → n < 2 ^ 64 → lacks b (address_text n) ≡ true
-  address n small =
-      address_lacks b n small (lacks_used b call_bytes (codes "NULL") apart.no_word refl)
-      (lacks_used b call_bytes (codes "0x") apart.no_word refl) apart.no_digit
+  address n small = elim (n == 0) as (λ t. lacks b (cond t (codes "NULL") (prefixed_hex n)) ≡ true) [
+    | true ↦ lacks_used b call_bytes (codes "NULL") apart.no_word refl
+    | false ↦ lacks_both b (codes "0x") (hex_digits n) (lacks_used b call_bytes (codes "0x") apart.no_word refl) (hex_lacks b n small apart.no_digit)
+  ]
 
   hint : (n : ℕ) → n < 2 ^ 64 → lacks b (hint_text n) ≡ true
   hint n small = elim (n == 0) as (λ t. lacks b (cond t [] (codes ", " ++ prefixed_hex n)) ≡ true) [
@@ -291,23 +259,19 @@ module _ (b : ℕ) (apart : IsApart b) where
       let prot = more (more len (codes ", ") refl) (prot_text p) (prot_uses p) in
       let flags = more (more prot (codes ", ") refl) (flags_text f) (flags_use f) in
       of_clean b (Map a n p f) (more flags (codes ", -1, 0") refl) (sym (append_assoc flags.text (codes ", -1, 0") (41 ∷ [])))
-  body_of (Unmap a n) fits =
-      let first = onto (word (codes "munmap(") refl) (address_text a) (address a fits.0) in
+  body_of (Unmap a n) fits = let first = onto (word (codes "munmap(") refl) (address_text a) (address a fits.0) in
       of_clean b (Unmap a n) (onto (more first (codes ", ") refl) (decimal n) (number n fits.1)) refl
   body_of (Protect a n p) fits =
       let first = onto (word (codes "mprotect(") refl) (address_text a) (address a fits.0) in
       let len = onto (more first (codes ", ") refl) (decimal n) (number n fits.1) in
-      let prot = more (more len (codes ", ") refl) (prot_text p) (prot_uses p) in
-      of_clean b (Protect a n p) prot refl
-  body_of (Fault a which) fits =
-      let first = onto (word (codes "fault(") refl) (address_text a) (address a fits) in
+      let prot = more (more len (codes ", ") refl) (prot_text p) (prot_uses p) in of_clean b (Protect a n p) prot refl
+  body_of (Fault a which) fits = let first = onto (word (codes "fault(") refl) (address_text a) (address a fits) in
       of_clean b (Fault a which) (more (more first (codes ", ") refl) (access_text which) (access_uses which)) refl
   body_of (Seal a n f) fits =
       let first = onto (word (codes "mseal(") refl) (address_text a) (address a fits.0) in
       let len = onto (more first (codes ", ") refl) (decimal n) (number n fits.1) in
       of_clean b (Seal a n f) (onto (more len (codes ", ") refl) (decimal f) (number f fits.2)) refl
-  body_of (Brk base a) fits =
-      let first = onto (word (codes "brk(") refl) (address_text a) (address a fits.1) in
+  body_of (Brk base a) fits = let first = onto (word (codes "brk(") refl) (address_text a) (address a fits.1) in
       of_clean b (Brk base a) (onto (more first (codes ", ") refl) (address_text base) (address base fits.0)) refl
   body_of (Remap a o n may h) fits =
       let first = onto (word (codes "mremap(") refl) (address_text a) (address a fits.0) in
@@ -319,11 +283,11 @@ module _ (b : ℕ) (apart : IsApart b) where
 -- the text of a call lacks such a byte, where that isn't the parenthesis
 pub call_lacks : (b : ℕ) → IsApart b → lacks b (41 ∷ []) ≡ true → (c : Call) → FitsCall c → lacks b (call_text c) ≡ true
 call_lacks b apart no_close c fits =
-    let p = body_of b apart c fits in
-    subst (λ (t : List ℕ). lacks b t ≡ true) (sym p.whole) (lacks_both b p.body (41 ∷ []) p.lacks_it no_close)
+    let p = body_of b apart c fits in subst (λ t. lacks b t ≡ true) (sym p.whole) (lacks_both b p.body (41 ∷ []) p.lacks_it no_close)
 
 close_apart : IsApart 41
-close_apart = record { no_digit = close_ends; no_word = refl }
+unfolding worth
+close_apart = record { no_digit = omega arith; no_word = refl }
 
 -- the newline is such a byte
 pub line_apart : IsApart 10
@@ -335,29 +299,23 @@ close_cut c fits = let b = body_of 41 close_apart c fits in (b.body, b.lacks_it,
 
 -- a text has one call
 call_tells : (c d : Call) → IsNamedCall c → IsNamedCall d → FitsCall c → FitsCall d → call_text c ≡ call_text d → c ≡ d
-call_tells c d named_c named_d fits_c fits_d e =
-    let other = subst (λ t. Spells t (Played 0 d None)) (sym e) (call_text_spells d named_d fits_d) in
-    let same : Played 0 c None ≡ Played 0 d None = (one_outcome (call_text c)).item _ _ (call_text_spells c named_c fits_c) other in
-    cc
+call_tells c d named_c named_d fits_c fits_d e = let other = subst (λ t. Spells t (Played 0 d None)) (sym e) (call_text_spells d named_d fits_d) in
+    let same : Played 0 c None ≡ Played 0 d None = (one_outcome (call_text c)).item _ _ (call_text_spells c named_c fits_c) other in cc
 
 cut_call : (c d : Call) (r s : List ℕ) → IsNamedCall c → IsNamedCall d → FitsCall c → FitsCall d → call_text c ++ r ≡ call_text d ++ s → (c ≡ d) × (r ≡ s)
 cut_call c d r s named_c named_d fits_c fits_d e =
-    let b = body_of 41 close_apart c fits_c in
-    let a = body_of 41 close_apart d fits_d in
-    let left : call_text c ++ r ≡ b.body ++ 41 ∷ r = ap (λ (l : List ℕ). l ++ r) b.whole ∙ append_assoc b.body (41 ∷ []) r in
-    let right : call_text d ++ s ≡ a.body ++ 41 ∷ s = ap (λ (l : List ℕ). l ++ s) a.whole ∙ append_assoc a.body (41 ∷ []) s in
+    let b = body_of 41 close_apart c fits_c in let a = body_of 41 close_apart d fits_d in
+    let left : call_text c ++ r ≡ b.body ++ 41 ∷ r = ap (λ l. l ++ r) b.whole ∙ append_assoc b.body (41 ∷ []) r in
+    let right : call_text d ++ s ≡ a.body ++ 41 ∷ s = ap (λ l. l ++ s) a.whole ∙ append_assoc a.body (41 ∷ []) s in
     let parts = cut 41 b.body a.body r s b.lacks_it a.lacks_it (sym left ∙ e ∙ right) in
-    (call_tells c d named_c named_d fits_c fits_d (b.whole ∙ ap (λ (l : List ℕ). l ++ 41 ∷ []) parts.0 ∙ sym a.whole), parts.1)
+    (call_tells c d named_c named_d fits_c fits_d (b.whole ∙ ap (λ l. l ++ 41 ∷ []) parts.0 ∙ sym a.whole), parts.1)
 
 -- ---- replies: each is told back from its text
 
 -- the kind that four characters show, sealed where a space stands behind them
 unfoldable pub kind_back : List ℕ → Kind
 kind_back text = record {
-  prot = record {
-    0 =
-        cond (get_or text 0 0 == 114) 1 0 + cond (get_or text 1 0 == 119) 2 0 + cond (get_or text 2 0 == 120) 4 0;
-  };
+  prot = record { 0 = cond (get_or text 0 0 == 114) 1 0 + cond (get_or text 1 0 == 119) 2 0 + cond (get_or text 2 0 == 120) 4 0 };
   shared = get_or text 3 0 == 115;
   sealed = get_or text 4 0 == 32;
 }
@@ -367,22 +325,13 @@ abbrev letters : ℕ → List ℕ → List ℕ
 letters bits more = letter_if (has_bits bits 1) 114 ∷ letter_if (has_bits bits 2) 119 ∷ letter_if (has_bits bits 4) 120 ∷ more
 
 -- the bits are told back from the first three characters
-bits_told : (bits : ℕ) (more : List ℕ) → bits < 8
-    → cond (get_or (letters bits more) 0 0 == 114) 1 0 + cond (get_or (letters bits more) 1 0 == 119) 2 0
+bits_told : (bits : ℕ) (more : List ℕ) → bits < 8 → cond (get_or (letters bits more) 0 0 == 114) 1 0 + cond (get_or (letters bits more) 1 0 == 119) 2 0
     + cond (get_or (letters bits more) 2 0 == 120) 4 0 ≡ bits
-bits_told zero more low = refl
-bits_told (suc zero) more low = refl
-bits_told (suc (suc zero)) more low = refl
-bits_told (suc (suc (suc zero))) more low = refl
-bits_told (suc (suc (suc (suc zero)))) more low = refl
-bits_told (suc (suc (suc (suc (suc zero))))) more low = refl
-bits_told (suc (suc (suc (suc (suc (suc zero)))))) more low = refl
-bits_told (suc (suc (suc (suc (suc (suc (suc zero))))))) more low = refl
 bits_told (suc (suc (suc (suc (suc (suc (suc (suc n)))))))) more low = absurd (omega arith)
+bits_told bits more low = refl
 
 -- the sharing from the fourth
-sharing_told : (r w x : ℕ) (shared : Bool) (more : List ℕ)
-    → (get_or (r ∷ w ∷ x ∷ (if shared then 115 else 112) ∷ more) 3 0 == 115) ≡ shared
+sharing_told : (r w x : ℕ) (shared : Bool) (more : List ℕ) → (get_or (r ∷ w ∷ x ∷ (if shared then 115 else 112) ∷ more) 3 0 == 115) ≡ shared
 sharing_told r w x true more = refl
 sharing_told r w x false more = refl
 
@@ -395,10 +344,8 @@ seal_told r w x s false = refl
 pub kind_told : (k : Kind) → IsNamedKind k → kind_back (log_kind k) ≡ k
 unfolding kind_back
 kind_told k named =
-    let r = letter_if (has_bits (prot_bits k.prot) 1) 114 in
-    let w = letter_if (has_bits (prot_bits k.prot) 2) 119 in
-    let x = letter_if (has_bits (prot_bits k.prot) 4) 120 in
-    let s : ℕ = if k.shared then 115 else 112 in
+    let r = letter_if (has_bits (prot_bits k.prot) 1) 114 in let w = letter_if (has_bits (prot_bits k.prot) 2) 119 in
+    let x = letter_if (has_bits (prot_bits k.prot) 4) 120 in let s : ℕ = if k.shared then 115 else 112 in
     let seal : List ℕ = if k.sealed then codes " sealed" else [] in
     λ i. record {
       prot = record { 0 = bits_told (prot_bits k.prot) (s ∷ seal) named i };
@@ -413,39 +360,31 @@ field_back text = if get_or text 0 0 == 97 then Addr else if get_or text 0 0 == 
 field_told : (f : Field) → field_back (field_text f) ≡ f
 unfolding field_back
 field_told Addr = refl
-field_told Len = refl
-field_told Flags = refl
-field_told End = refl
+field_told f = refl
 
 hex_tells : (n m : ℕ) → n < 2 ^ 64 → m < 2 ^ 64 → hex_digits n ≡ hex_digits m → n ≡ m
 hex_tells n m low high e = sym (hex_back n low) ∙ ap (value 16 0) e ∙ hex_back m high
 
 -- two texts that differ at a place differ
 apart : (place : ℕ) (xs ys : List ℕ) → get_or xs place 0 ≢ get_or ys place 0 → xs ≡ ys → ⊥
-apart place xs ys differ e = differ (ap (λ (l : List ℕ). get_or l place 0) e)
+apart place xs ys differ e = differ (ap (λ l. get_or l place 0) e)
 
 short_back : List ℕ → Short
-short_back text = if get_or text 0 0 == 109 then Missing (value 16 0 (drop 15 text))
-    else if get_or text 0 0 == 101 then PastEnd (value 16 0 (drop 11 text))
-    else if get_or text 0 0 == 110 then NoGap (value 10 0 (split 32 (drop 10 text)).0)
-    else Rows (value 10 0 (drop 5 text))
+short_back text = if get_or text 0 0 == 109 then Missing (value 16 0 (drop 15 text)) else if get_or text 0 0 == 101 then PastEnd (value 16 0 (drop 11 text))
+    else if get_or text 0 0 == 110 then NoGap (value 10 0 (split 32 (drop 10 text)).0) else Rows (value 10 0 (drop 5 text))
 
 short_told : (s : Short) → FitsShort s → short_back (short_text s) ≡ s
 unfolding short_back
 short_told (Missing p) a = ap Missing (hex_back p a)
 short_told (PastEnd p) a = ap PastEnd (hex_back p a)
-short_told (NoGap n) a =
-    let parts = split_is 32 (decimal n) (codes "pages") (decimal_lacks 32 n a (omega (arith, space_ends))) in
-    ap (λ (t : List ℕ × List ℕ). NoGap (value 10 0 t.0)) parts ∙ ap NoGap (decimal_back n a)
+short_told (NoGap n) a = let parts = split_is 32 (decimal n) (codes "pages") (decimal_lacks 32 n a (omega (arith, space_ends))) in
+    ap (λ t. NoGap (value 10 0 t.0)) parts ∙ ap NoGap (decimal_back n a)
 short_told (Rows n) a = ap Rows (decimal_back n a)
 
 why_back : List ℕ → Why
-why_back text = if get_or text 5 0 == 78 then Einval (field_back (drop 10 text))
-    else if get_or text 5 0 == 79 then Enomem (short_back (drop 10 text))
-    else if get_or text 5 0 == 88 then Eexist (value 16 0 (drop 17 text))
-    else if get_or text 5 0 == 69 then Eperm (value 16 0 (drop 16 text))
-    else if get_or text 5 0 == 65 then Efault (value 16 0 (drop 17 text))
-    else if get_or text 8 0 == 77 then MapErr (value 16 0 (drop 22 text))
+why_back text = if get_or text 5 0 == 78 then Einval (field_back (drop 10 text)) else if get_or text 5 0 == 79 then Enomem (short_back (drop 10 text))
+    else if get_or text 5 0 == 88 then Eexist (value 16 0 (drop 17 text)) else if get_or text 5 0 == 69 then Eperm (value 16 0 (drop 16 text))
+    else if get_or text 5 0 == 65 then Efault (value 16 0 (drop 17 text)) else if get_or text 8 0 == 77 then MapErr (value 16 0 (drop 22 text))
     else AccErr (value 16 0 (split 32 (drop 22 text)).0) (kind_back (split 32 (drop 22 text)).1)
 
 why_told : (w : Why) → FitsWhy w → IsNamedWhy w → why_back (why_text w) ≡ w
@@ -458,22 +397,15 @@ why_told (Efault p) a b = ap Efault (hex_back p a)
 why_told (MapErr p) a b = ap MapErr (hex_back p a)
 why_told (AccErr p k) a b =
     let parts = ap (split 32) (append_assoc (hex_digits p) (codes " ") (log_kind k)) ∙ split_is 32 (hex_digits p) (log_kind k) (hex_lacks 32 p a space_ends) in
-    ap (λ (t : List ℕ × List ℕ). AccErr (value 16 0 t.0) (kind_back t.1)) parts ∙ (λ i. AccErr (hex_back p a i) (kind_told k b i))
+    ap (λ t. AccErr (value 16 0 t.0) (kind_back t.1)) parts ∙ (λ i. AccErr (hex_back p a i) (kind_told k b i))
 
 minus : (w : Why) → get_or (why_text w) 0 0 ≡ 45
 minus (Einval f) = refl
-minus (Enomem f) = refl
-minus (Eexist p) = refl
-minus (Eperm p) = refl
-minus (Efault p) = refl
-minus (MapErr p) = refl
-minus (AccErr p k) = refl
+minus w = refl
 
 reply_back : List ℕ → Reply
-reply_back text = if get_or text 0 0 == 45 then Refused (why_back text)
-    else if get_or text 0 0 == 103 then Granted (kind_back (drop 8 text))
-    else if get_or text 1 0 == 120 then At (value 16 0 (drop 2 text))
-    else Zero
+reply_back text = if get_or text 0 0 == 45 then Refused (why_back text) else if get_or text 0 0 == 103 then Granted (kind_back (drop 8 text))
+    else if get_or text 1 0 == 120 then At (value 16 0 (drop 2 text)) else Zero
 
 reply_told : (r : Reply) → FitsReply r → IsNamedReply r → reply_back (reply_text r) ≡ r
 unfolding reply_back
@@ -481,9 +413,6 @@ reply_told (At n) a b = ap At (hex_back n a)
 reply_told Zero a b = refl
 reply_told (Granted k) a b = ap Granted (kind_told k b)
 reply_told (Refused w) a b = rw (minus w) (ap Refused (why_told w a b))
-
-reply_tells : (r s : Reply) → FitsReply r → FitsReply s → IsNamedReply r → IsNamedReply s → reply_text r ≡ reply_text s → r ≡ s
-reply_tells r s a b c d e = sym (reply_told r a c) ∙ ap reply_back e ∙ reply_told s b d
 
 -- ---- what was held
 
@@ -494,17 +423,14 @@ span_of lo hi a b = record { lo = lo; hi = hi; ordered = a; in_range = b }
 -- two spans with the same ends are one
 pub same_ends : (lo hi : ℕ) (a : lo < hi) (b : hi ≤ LIMIT) (x : ℕ) → lo ≡ x → (y : ℕ) → hi ≡ y → (c : x < y) (d : y ≤ LIMIT)
     → span_of lo hi a b ≡ span_of x y c d
-same_ends lo hi a b x p y q =
-    subst (λ (v : ℕ). (c : v < y) (d : y ≤ LIMIT) → span_of lo hi a b ≡ span_of v y c d) p
-    (subst (λ (v : ℕ). (c : lo < v) (d : v ≤ LIMIT) → span_of lo hi a b ≡ span_of lo v c d) q (λ c d. λ i. span_of lo hi (le_prop a c i) (le_prop b d i)))
+same_ends lo hi a b x p y q = subst (λ v. (c : v < y) (d : y ≤ LIMIT) → span_of lo hi a b ≡ span_of v y c d) p
+    (subst (λ v. (c : lo < v) (d : v ≤ LIMIT) → span_of lo hi a b ≡ span_of lo v c d) q (λ c d. λ i. span_of lo hi (le_prop a c i) (le_prop b d i)))
 
 span_tells : (s t : Span) → s.lo < 2 ^ 64 → s.hi < 2 ^ 64 → t.lo < 2 ^ 64 → t.hi < 2 ^ 64 → span_text s ≡ span_text t → s ≡ t
 span_tells s t a b c d e =
     let parts = cut 45 (hex_digits s.lo) (hex_digits t.lo) (prefixed_hex s.hi) (prefixed_hex t.hi) (hex_lacks 45 s.lo a dash_ends)
-    (hex_lacks 45 t.lo c dash_ends) (dashes s t e) in
-    let lo = hex_tells s.lo t.lo a c parts.0 in
-    let hi = hex_tells s.hi t.hi b d (ap (drop 2) parts.1) in
-    whole s t lo hi
+    (hex_lacks 45 t.lo c dash_ends) (dashes s t e) in let lo = hex_tells s.lo t.lo a c parts.0 in
+    let hi = hex_tells s.hi t.hi b d (ap (drop 2) parts.1) in whole s t lo hi
   where
     whole : (s t : Span) → s.lo ≡ t.lo → s.hi ≡ t.hi → s ≡ t
     whole s t lo hi = same_ends s.lo s.hi s.ordered s.in_range t.lo lo t.hi hi t.ordered t.in_range
@@ -515,25 +441,13 @@ span_tells s t a b c d e =
 
 under_tells : (u v : Under) → FitsHeld u → FitsHeld v → under_text u ≡ under_text v → u ≡ v
 under_tells Nothing Nothing a b e = refl
-under_tells Nothing (Reader t) a b e = absurd (apart 0 _ _ (λ x. omega (arith, x)) e)
-under_tells Nothing (Area t) a b e = absurd (apart 0 _ _ (λ x. omega (arith, x)) e)
-under_tells Nothing Whole a b e = absurd (apart 0 _ _ (λ x. omega (arith, x)) e)
-under_tells (Reader s) Nothing a b e = absurd (apart 0 _ _ (λ x. omega (arith, x)) e)
 under_tells (Reader s) (Reader t) a b e = ap Reader (span_tells s t a.0 a.1 b.0 b.1 (ap (drop 7) e))
-under_tells (Reader s) (Area t) a b e = absurd (apart 0 _ _ (λ x. omega (arith, x)) e)
-under_tells (Reader s) Whole a b e = absurd (apart 0 _ _ (λ x. omega (arith, x)) e)
-under_tells (Area s) Nothing a b e = absurd (apart 0 _ _ (λ x. omega (arith, x)) e)
-under_tells (Area s) (Reader t) a b e = absurd (apart 0 _ _ (λ x. omega (arith, x)) e)
 under_tells (Area s) (Area t) a b e = ap Area (span_tells s t a.0 a.1 b.0 b.1 (ap (drop 5) e))
-under_tells (Area s) Whole a b e = absurd (apart 0 _ _ (λ x. omega (arith, x)) e)
-under_tells Whole Nothing a b e = absurd (apart 0 _ _ (λ x. omega (arith, x)) e)
-under_tells Whole (Reader t) a b e = absurd (apart 0 _ _ (λ x. omega (arith, x)) e)
-under_tells Whole (Area t) a b e = absurd (apart 0 _ _ (λ x. omega (arith, x)) e)
 under_tells Whole Whole a b e = refl
+under_tells u v a b e = absurd (apart 0 _ _ (λ x. omega (arith, x)) e)
 
 span_lacks : (s : Span) → s.lo < 2 ^ 64 → s.hi < 2 ^ 64 → lacks 10 (span_text s) ≡ true
-span_lacks s a b =
-    let lo = onto (clean 10 (codes "0x") refl) (hex_digits s.lo) (hex_lacks 10 s.lo a line_ends) in
+span_lacks s a b = let lo = onto (clean 10 (codes "0x") refl) (hex_digits s.lo) (hex_lacks 10 s.lo a line_ends) in
     (onto (onto lo (codes "-") refl) (prefixed_hex s.hi) (lacks_both 10 (codes "0x") (hex_digits s.hi) refl (hex_lacks 10 s.hi b line_ends))).lacks_it
 
 -- what was held lacks the newline
@@ -545,10 +459,6 @@ under_lacks Whole a = refl
 
 -- ---- the bytes of a reply
 
-kind_uses : (k : Kind) → uses reply_bytes (kind_text k) ≡ true
-kind_uses k = each_of_four (λ a b c d. uses reply_bytes (letter_if a 114 ∷ letter_if b 119 ∷ letter_if c 120 ∷ (if d then 115 else 112) ∷ [])) refl
-    (has_bits (prot_bits k.prot) 1) (has_bits (prot_bits k.prot) 2) (has_bits (prot_bits k.prot) 4) k.shared
-
 -- a reply lacks a byte that is no digit and stands in none of its words
 module _ (b : ℕ) (no_digit : 16 ≤ worth b) (no_word : lacks b reply_bytes ≡ true) where
   abbrev said : (text : List ℕ) → uses reply_bytes text ≡ true → Clean b
@@ -556,18 +466,16 @@ module _ (b : ℕ) (no_digit : 16 ≤ worth b) (no_word : lacks b reply_bytes �
 
   -- a kind lacks it
   pub kind_lacks : (k : Kind) → lacks b (kind_text k) ≡ true
-  kind_lacks k = lacks_used b reply_bytes (kind_text k) no_word (kind_uses k)
+  kind_lacks k = lacks_used b reply_bytes (kind_text k) no_word (each_of_four
+      (λ x y z t. uses reply_bytes (letter_if x 114 ∷ letter_if y 119 ∷ letter_if z 120 ∷ (if t then 115 else 112) ∷ [])) refl
+      (has_bits (prot_bits k.prot) 1) (has_bits (prot_bits k.prot) 2) (has_bits (prot_bits k.prot) 4) k.shared)
 
   seal_lacks : (sealed : Bool) → lacks b (if sealed then codes " sealed" else []) ≡ true
   seal_lacks true = lacks_used b reply_bytes (codes " sealed") no_word refl
   seal_lacks false = refl
 
-  -- a kind in a log lacks it too
-  log_kind_lacks : (k : Kind) → lacks b (log_kind k) ≡ true
-  log_kind_lacks k = lacks_both b (kind_text k) (if k.sealed then codes " sealed" else []) (kind_lacks k) (seal_lacks k.sealed)
-
   abbrev with_kind : Clean b → (k : Kind) → Clean b
-  with_kind first k = onto first (log_kind k) (log_kind_lacks k)
+  with_kind first k = onto first (log_kind k) (lacks_both b (kind_text k) (if k.sealed then codes " sealed" else []) (kind_lacks k) (seal_lacks k.sealed))
 
   abbrev with_page : Clean b → (n : ℕ) → n < 2 ^ 64 → Clean b
   with_page first n small = onto first (prefixed_hex n) (lacks_both b (codes "0x") (hex_digits n)
@@ -579,23 +487,19 @@ module _ (b : ℕ) (no_digit : 16 ≤ worth b) (no_word : lacks b reply_bytes �
   short_lacks : (s : Short) → FitsShort s → lacks b (short_text s) ≡ true
   short_lacks (Missing p) a = (with_page (said (codes "missing page ") refl) p a).lacks_it
   short_lacks (PastEnd p) a = (with_page (said (codes "end page ") refl) p a).lacks_it
-  short_lacks (NoGap n) a =
-      (onto (with_number (said (codes "no gap of ") refl) n a) (codes " pages") (said (codes " pages") refl).lacks_it).lacks_it
+  short_lacks (NoGap n) a = (onto (with_number (said (codes "no gap of ") refl) n a) (codes " pages") (said (codes " pages") refl).lacks_it).lacks_it
   short_lacks (Rows n) a = (with_number (said (codes "rows ") refl) n a).lacks_it
 
   why_lacks : (w : Why) → FitsWhy w → lacks b (why_text w) ≡ true
   why_lacks (Einval Addr) a = (said (why_text (Einval Addr)) refl).lacks_it
-  why_lacks (Einval Len) a = (said (why_text (Einval Len)) refl).lacks_it
-  why_lacks (Einval Flags) a = (said (why_text (Einval Flags)) refl).lacks_it
-  why_lacks (Einval End) a = (said (why_text (Einval End)) refl).lacks_it
+  why_lacks (Einval f) a = (said (why_text (Einval f)) refl).lacks_it
   why_lacks (Enomem s) a = (onto (said (codes "-1 ENOMEM ") refl) (short_text s) (short_lacks s a)).lacks_it
   why_lacks (Eexist p) a = (with_page (said (codes "-1 EEXIST page ") refl) p a).lacks_it
   why_lacks (Eperm p) a = (with_page (said (codes "-1 EPERM page ") refl) p a).lacks_it
   why_lacks (Efault p) a = (with_page (said (codes "-1 EFAULT page ") refl) p a).lacks_it
   why_lacks (MapErr p) a = (with_page (said (codes "-1 SEGV_MAPERR page ") refl) p a).lacks_it
   why_lacks (AccErr p k) a =
-      let page = with_page (said (codes "-1 SEGV_ACCERR page ") refl) p a in
-      (with_kind (onto page (codes " ") (said (codes " ") refl).lacks_it) k).lacks_it
+      let page = with_page (said (codes "-1 SEGV_ACCERR page ") refl) p a in (with_kind (onto page (codes " ") (said (codes " ") refl).lacks_it) k).lacks_it
 
   -- so does a reply
   pub reply_lacks : (r : Reply) → FitsReply r → lacks b (reply_text r) ≡ true
@@ -620,17 +524,17 @@ reply_parts r rest = sym (append_assoc r (32 ∷ []) (117 ∷ (codes "nder " ++ 
 
 -- what is behind the call tells the reply and what was held
 cut_behind : (e f : Entry) (r s : List ℕ) → FitsReply e.reply → FitsReply f.reply → FitsHeld e.under → FitsHeld f.under
-    → IsNamedReply e.reply → IsNamedReply f.reply
-    → behind_call e r ≡ behind_call f s → (e.reply ≡ f.reply) × (e.under ≡ f.under) × (r ≡ s)
-unfolding behind_call
+    → IsNamedReply e.reply → IsNamedReply f.reply → behind_call e r ≡ behind_call f s → (e.reply ≡ f.reply) × (e.under ≡ f.under) × (r ≡ s)
+unfolding behind_call worth
 cut_behind e f r s a b c d named_e named_f is =
     let reply = ap (drop 3) is in
     let parts = cut 117 (reply_text e.reply ++ 32 ∷ []) (reply_text f.reply ++ 32 ∷ []) _ _
-    (lacks_both 117 (reply_text e.reply) (32 ∷ []) (reply_lacks 117 u_ends refl e.reply a) refl)
-    (lacks_both 117 (reply_text f.reply) (32 ∷ []) (reply_lacks 117 u_ends refl f.reply b) refl)
+    (lacks_both 117 (reply_text e.reply) (32 ∷ []) (reply_lacks 117 (omega arith) refl e.reply a) refl)
+    (lacks_both 117 (reply_text f.reply) (32 ∷ []) (reply_lacks 117 (omega arith) refl f.reply b) refl)
     (sym (reply_parts (reply_text e.reply) (under_text e.under ++ 10 ∷ r)) ∙ reply ∙ reply_parts (reply_text f.reply) (under_text f.under ++ 10 ∷ s)) in
     let held = cut 10 (under_text e.under) (under_text f.under) r s (under_lacks e.under c) (under_lacks f.under d) (ap (drop 5) parts.1) in (
-      reply_tells e.reply f.reply a b named_e named_f (last_off 32 (reply_text e.reply) (reply_text f.reply) parts.0),
+      sym (reply_told e.reply a named_e) ∙ ap reply_back (append_cancel_right (reply_text e.reply) (reply_text f.reply) (32 ∷ []) parts.0)
+          ∙ reply_told f.reply b named_f,
       under_tells e.under f.under c d held.0,
       held.1,
     )
@@ -656,14 +560,6 @@ no_empty_line e rest is = none_then 32 (decimal e.number) _ (sym (line_parts e r
     none_then b [] more e = cc
     none_then b (x ∷ l) more e = cc
 
--- what holds of all items holds of the first
-pub all_first : {X : Type 0} (P : X → Type 0) (x : X) (xs : List X) → All P (x ∷ xs) → P x
-all_first P x xs all = all 0 x (omega arith)
-
--- and of all behind it
-pub all_rest : {X : Type 0} (P : X → Type 0) (x : X) (xs : List X) → All P (x ∷ xs) → All P xs
-all_rest P x xs all k d low = all (suc k) d (omega arith)
-
 -- a log tells its entries
 pub log_tells : (entries others : List Entry) → All HasWordNumbers entries → All HasWordNumbers others → All IsNamedEntry entries
     → All IsNamedEntry others → log_text entries ≡ log_text others → entries ≡ others
@@ -671,21 +567,17 @@ log_tells [] [] a b c d is = refl
 log_tells [] (f ∷ fs) a b c d is = absurd (no_empty_line f (log_text fs) (sym is))
 log_tells (e ∷ es) [] a b c d is = absurd (no_empty_line e (log_text es) is)
 log_tells (e ∷ es) (f ∷ fs) a b c d is =
-    let first = cut_line e f (log_text es) (log_text fs) (all_first HasWordNumbers e es a) (all_first HasWordNumbers f fs b)
-    (all_first IsNamedEntry e es c) (all_first IsNamedEntry f fs d) is in
-    let rest = log_tells es fs (all_rest HasWordNumbers e es a) (all_rest HasWordNumbers f fs b) (all_rest IsNamedEntry e es c)
-    (all_rest IsNamedEntry f fs d) first.1 in
-    λ i. first.0 i ∷ rest i
+    let first = cut_line e f (log_text es) (log_text fs) (All-head HasWordNumbers e es a) (All-head HasWordNumbers f fs b)
+    (All-head IsNamedEntry e es c) (All-head IsNamedEntry f fs d) is in
+    let rest = log_tells es fs (All-tail HasWordNumbers e es a) (All-tail HasWordNumbers f fs b) (All-tail IsNamedEntry e es c)
+    (All-tail IsNamedEntry f fs d) first.1 in λ i. first.0 i ∷ rest i
 
 -- ---- one entry more
 
 -- where something holds of the entries before this one, and of itself, it holds of one entry more
 pub each_next : (P : Entry → Type 0) (entries : List Entry) (i : ℕ) (e : Entry) → i < length entries
-    → ((k : ℕ) (d : Entry) → k < i → P (get_or entries k d)) → e ≡ get_or entries i e → P e
-    → (k : ℕ) (d : Entry) → k < i + 1 → P (get_or entries k d)
+    → ((k : ℕ) (d : Entry) → k < i → P (get_or entries k d)) → e ≡ get_or entries i e → P e → (k : ℕ) (d : Entry) → k < i + 1 → P (get_or entries k d)
 each_next P entries i e low so_far is holds k d below = elim (cases_lt k i) [
   | inl before ↦ so_far k d before
-  | inr behind ↦
-      let same : i ≡ k = omega arith in
-      subst P (is ∙ get_or_default entries i e d low ∙ ap (λ (j : ℕ). get_or entries j d) same) holds
+  | inr behind ↦ let same : i ≡ k = omega arith in subst P (is ∙ get_or_default entries i e d low ∙ ap (λ j. get_or entries j d) same) holds
 ]

@@ -22,17 +22,12 @@ digits_are base (c ∷ ds) low h = let w = worth_is c (omega (arith, h.0)) in (o
 value_is : (base n : ℕ) (ds : List ℕ) → base ≤ 16 → StdDigits base ds → value base n ds ≡ digits_value_after base n ds
 value_is base n [] low h = refl
 value_is base n (c ∷ ds) low h =
-    let w = worth_is c (omega (arith, h.0)) in
-    ap (λ d. value base (n * base + d) ds) w ∙ value_is base (n * base + digit_value c) ds low h.1
+    let w = worth_is c (omega (arith, h.0)) in ap (λ d. value base (n * base + d) ds) w ∙ value_is base (n * base + digit_value c) ds low h.1
 
 -- the digits that are written
 pub decimal_digits : (n : ℕ) → n < 2 ^ 64 → Digits 10 (decimal n) n
 decimal_digits n small =
-    let h = decimal_is_IsNumeral n small in (
-      h.0.0,
-      digits_are 10 (decimal n) (omega arith) h.0.1,
-      sym (value_is 10 0 (decimal n) (omega arith) h.0.1 ∙ h.1),
-    )
+    let h = decimal_is_IsNumeral n small in (h.0.0, digits_are 10 (decimal n) (omega arith) h.0.1, sym (value_is 10 0 (decimal n) (omega arith) h.0.1 ∙ h.1))
 
 -- the hexadecimal digits that are written of a number are its digits
 pub hex_are_digits : (n : ℕ) → n < 2 ^ 64 → Digits 16 (hex_digits n) n
@@ -57,16 +52,12 @@ no_0x : (ds rest : List ℕ) → 0 < length ds → AllDigits 10 ds → NoNumeral
 no_0x [] rest some all ends t e = absurd (omega arith)
 no_0x (a ∷ []) [] some all ends t e = absurd cc
 no_0x (a ∷ []) (b ∷ rest) some all ends t e = ends.1 cc
-no_0x (a ∷ b ∷ ds) rest some all ends t e =
-    let x : b ≡ 120 = cc in
-    let w = ap worth x in
-    omega (arith, all.1.0, x_is_no_digit)
+no_0x (a ∷ b ∷ ds) rest some all ends t e = let x : b ≡ 120 = cc in let w = ap worth x in omega (arith, all.1.0, x_is_no_digit)
 
 -- the decimal digits that are written of a number are read as it, before what may follow a number
 pub decimal_takes : (due : What) (n : ℕ) (rest : List ℕ) → n < 2 ^ 64 → NoNumeral rest → (number due).takes (decimal n) rest n
 decimal_takes due n rest small ends =
-    let h = decimal_digits n small in
-    (inl (h, ends_digits 10 rest (omega arith) ends, no_0x (decimal n) rest h.0 h.1 ends), small)
+    let h = decimal_digits n small in (inl (h, ends_digits 10 rest (omega arith) ends, no_0x (decimal n) rest h.0 h.1 ends), small)
 
 -- 0x and the hexadecimal digits that are written of a number are read as it, before what may follow a number
 pub hex_takes : (due : What) (n : ℕ) (rest : List ℕ) → n < 2 ^ 64 → NoNumeral rest → (number due).takes (48 ∷ 120 ∷ hex_digits n) rest n

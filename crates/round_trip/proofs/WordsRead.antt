@@ -1,5 +1,5 @@
 -- Words joined by bars are read as the bits that they stand for.
-use Rattle.std.proofs.Common.{rules, ◌≡◌, ℕ, zero, suc, ◌<◌, ◌≤◌, List, [], ◌∷◌, ◌++◌, length, codes}
+use Rattle.std.proofs.Common.{rules, ◌≡◌, ℕ, suc, ◌<◌, ◌≤◌, List, [], ◌∷◌, ◌++◌, length, codes}
 use Rattle.std.proofs.Common.{true, false, if◌then◌else◌, Option, Some, refl, sym, subst, arith, append-nil}
 use Rattle.std.specs.Int.RustNames.{bit_or}
 use Rattle.std.specs.List.{join_with_byte}
@@ -42,8 +42,7 @@ all_bits bits (w ∷ words) = all_bits (bit_or bits w.1) words
 joined : (item : Part (Option ℕ)) (bits : ℕ) (w : List ℕ × ℕ) (words : List (List ℕ × ℕ)) (rest : List ℕ) → EachReads item (w ∷ words) → Ends rest
     → (listed item bits).takes (join_with_byte 124 (texts (w ∷ words))) rest (Some (all_bits bits (w ∷ words)))
 joined item bits w [] rest reads ends = ([], (Some w.1, reads.0 rest ends.no_word, ends.no_bar, refl))
-joined item bits w (u ∷ words) rest reads ends =
-    let later = joined item (bit_or bits w.1) u words rest reads.1 ends in
+joined item bits w (u ∷ words) rest reads ends = let later = joined item (bit_or bits w.1) u words rest reads.1 ends in
     (w.1 ∷ later.0, (w.0, join_with_byte 124 (texts (u ∷ words)), refl, reads.0 (124 ∷ (join_with_byte 124 (texts (u ∷ words)) ++ rest)) refl, later.1))
 
 -- these words are read as all their bits, or where there is none the other text
@@ -62,70 +61,38 @@ chosen bits (w ∷ words) = if has_bits bits w.1 then w ∷ chosen bits words el
 
 each_chosen : (item : Part (Option ℕ)) (bits : ℕ) (words : List (List ℕ × ℕ)) → EachReads item words → EachReads item (chosen bits words)
 each_chosen item bits [] reads = tt
-each_chosen item bits (w ∷ words) reads =
-    let more = each_chosen item bits words reads.1 in
+each_chosen item bits (w ∷ words) reads = let more = each_chosen item bits words reads.1 in
     elim (has_bits bits w.1) as (λ t. EachReads item (if t then w ∷ chosen bits words else chosen bits words)) [ true ↦ (reads.0, more) | false ↦ more ]
 
 -- a known word, whatever item it is
-known_reads : (of : List ℕ → Option ℕ) (w rest : List ℕ) (bits : ℕ) → IsRun is_capital is_word_byte w → of w ≡ Some bits → starts is_word_byte rest ≡ false
-    → (chain word (λ v. known (of v))).takes w rest (Some bits)
-known_reads of w rest bits all e ends =
-    (w, [], w, sym (append-nil w), (refl, all, ends), subst (λ o. (known o).takes [] rest (Some bits)) (sym e) (refl, refl))
-
-prot_reads : ReadsAs prot_word (codes "PROT_READ", 1)
-unfolding prot_of
-prot_reads rest ends = known_reads prot_of (codes "PROT_READ") rest 1 (search rules) refl ends
-
-prot_writes : ReadsAs prot_word (codes "PROT_WRITE", 2)
-unfolding prot_of
-prot_writes rest ends = known_reads prot_of (codes "PROT_WRITE") rest 2 (search rules) refl ends
-
-prot_execs : ReadsAs prot_word (codes "PROT_EXEC", 4)
-unfolding prot_of
-prot_execs rest ends = known_reads prot_of (codes "PROT_EXEC") rest 4 (search rules) refl ends
+known_reads : (of : List ℕ → Option ℕ) (w : List ℕ) (bits : ℕ) → IsRun is_capital is_word_byte w → of w ≡ Some bits
+    → ReadsAs (chain word (λ v. known (of v))) (w, bits)
+known_reads of w bits all e rest ends = (w, [], w, sym (append-nil w), (refl, all, ends), subst (λ o. (known o).takes [] rest (Some bits)) (sym e) (refl, refl))
 
 prot_none : ReadsAs prot_word (codes "PROT_NONE", 0)
 unfolding prot_of
-prot_none rest ends = known_reads prot_of (codes "PROT_NONE") rest 0 (search rules) refl ends
+prot_none = known_reads prot_of (codes "PROT_NONE") 0 (search rules) refl
 
 -- the words of protections, with their bits
 abbrev prot_list : List (List ℕ × ℕ)
 prot_list = (codes "PROT_READ", 1) ∷ (codes "PROT_WRITE", 2) ∷ (codes "PROT_EXEC", 4) ∷ []
 
+prots_read : EachReads prot_word prot_list
+unfolding prot_of
+prots_read = (
+  known_reads prot_of (codes "PROT_READ") 1 (search rules) refl,
+  (known_reads prot_of (codes "PROT_WRITE") 2 (search rules) refl, (known_reads prot_of (codes "PROT_EXEC") 4 (search rules) refl, tt)),
+)
+
 prot_of_bits : (bits : ℕ) (rest : List ℕ) → Ends rest → TakesAs prot_word (codes "PROT_NONE") (chosen bits prot_list) rest
-prot_of_bits bits rest ends =
-    words_take prot_word (codes "PROT_NONE") (chosen bits prot_list) rest (each_chosen prot_word bits prot_list (prot_reads, (prot_writes, (prot_execs, tt))))
+prot_of_bits bits rest ends = words_take prot_word (codes "PROT_NONE") (chosen bits prot_list) rest (each_chosen prot_word bits prot_list prots_read)
     ends (joined prot_word 0 (codes "PROT_NONE", 0) [] rest (prot_none, tt) ends)
 
 -- each protection is read as its bits, begins with no space, and has at most 30 bytes
-pub prot_takes : (bits : ℕ) (rest : List ℕ) → bits < 8 → Ends rest
-    → prot.takes (prot_text (record { 0 = bits })) rest (Some bits)
+pub prot_takes : (bits : ℕ) (rest : List ℕ) → bits < 8 → Ends rest → prot.takes (prot_text (record { 0 = bits })) rest (Some bits)
     × (starts (is 32) (prot_text (record { 0 = bits }) ++ rest) ≡ false) × (length (prot_text (record { 0 = bits })) ≤ 30)
-prot_takes zero rest small ends = (prot_of_bits 0 rest ends, refl, omega arith)
-prot_takes (suc zero) rest small ends = (prot_of_bits 1 rest ends, refl, omega arith)
-prot_takes (suc (suc zero)) rest small ends = (prot_of_bits 2 rest ends, refl, omega arith)
-prot_takes (suc (suc (suc zero))) rest small ends = (prot_of_bits 3 rest ends, refl, omega arith)
-prot_takes (suc (suc (suc (suc zero)))) rest small ends = (prot_of_bits 4 rest ends, refl, omega arith)
-prot_takes (suc (suc (suc (suc (suc zero))))) rest small ends = (prot_of_bits 5 rest ends, refl, omega arith)
-prot_takes (suc (suc (suc (suc (suc (suc zero)))))) rest small ends = (prot_of_bits 6 rest ends, refl, omega arith)
-prot_takes (suc (suc (suc (suc (suc (suc (suc zero))))))) rest small ends = (prot_of_bits 7 rest ends, refl, omega arith)
 prot_takes (suc (suc (suc (suc (suc (suc (suc (suc k)))))))) rest small ends = absurd (omega arith)
-
-flag_shared : ReadsAs flag_word (codes "MAP_SHARED", 1)
-unfolding flag_of
-flag_shared rest ends = known_reads flag_of (codes "MAP_SHARED") rest 1 (search rules) refl ends
-
-flag_private : ReadsAs flag_word (codes "MAP_PRIVATE", 2)
-unfolding flag_of
-flag_private rest ends = known_reads flag_of (codes "MAP_PRIVATE") rest 2 (search rules) refl ends
-
-flag_fixed : ReadsAs flag_word (codes "MAP_FIXED", 4)
-unfolding flag_of
-flag_fixed rest ends = known_reads flag_of (codes "MAP_FIXED") rest 4 (search rules) refl ends
-
-flag_noreplace : ReadsAs flag_word (codes "MAP_FIXED_NOREPLACE", 8)
-unfolding flag_of
-flag_noreplace rest ends = known_reads flag_of (codes "MAP_FIXED_NOREPLACE") rest 8 (search rules) refl ends
+prot_takes bits rest small ends = (prot_of_bits bits rest ends, refl, omega arith)
 
 -- a comma ends all that it may follow
 pub comma_ends : (rest : List ℕ) → Ends (44 ∷ rest)
@@ -138,38 +105,29 @@ comma_ends_number rest = (omega arith, λ e. cc)
 
 -- no flag at all is the number 0
 flags_none : (rest : List ℕ) → flags.takes (48 ∷ []) (44 ∷ rest) (Some 0)
-flags_none rest =
-    let zero_is = zero_number (44 ∷ rest) (comma_ends_number rest) in
+flags_none rest = let zero_is = zero_number (44 ∷ rest) (comma_ends_number rest) in
     ([], (Some 0, (48 ∷ [], [], 0, refl, zero_is, ([], [], tt, refl, (refl, refl), (refl, refl))), refl, refl))
 
 -- the words of flags, with their bits
 abbrev flag_list : List (List ℕ × ℕ)
 flag_list = (codes "MAP_SHARED", 1) ∷ (codes "MAP_PRIVATE", 2) ∷ (codes "MAP_FIXED", 4) ∷ (codes "MAP_FIXED_NOREPLACE", 8) ∷ []
 
+flags_read : EachReads flag_word flag_list
+unfolding flag_of
+flags_read = (
+  known_reads flag_of (codes "MAP_SHARED") 1 (search rules) refl,
+  (
+    known_reads flag_of (codes "MAP_PRIVATE") 2 (search rules) refl,
+    (known_reads flag_of (codes "MAP_FIXED") 4 (search rules) refl, (known_reads flag_of (codes "MAP_FIXED_NOREPLACE") 8 (search rules) refl, tt)),
+  ),
+)
+
 flags_of_bits : (bits : ℕ) (rest : List ℕ) → TakesAs flag_word (codes "0") (chosen bits flag_list) (44 ∷ rest)
-flags_of_bits bits rest =
-    words_take flag_word (codes "0") (chosen bits flag_list) (44 ∷ rest)
-    (each_chosen flag_word bits flag_list (flag_shared, (flag_private, (flag_fixed, (flag_noreplace, tt))))) (comma_ends rest) (flags_none rest)
+flags_of_bits bits rest = words_take flag_word (codes "0") (chosen bits flag_list) (44 ∷ rest)
+    (each_chosen flag_word bits flag_list flags_read) (comma_ends rest) (flags_none rest)
 
 -- all flags are read as their bits, begin with no space, and have at most 52 bytes
-pub flags_takes : (bits : ℕ) (rest : List ℕ) → bits < 16
-    → flags.takes (flags_text (record { 0 = bits })) (44 ∷ rest) (Some bits)
+pub flags_takes : (bits : ℕ) (rest : List ℕ) → bits < 16 → flags.takes (flags_text (record { 0 = bits })) (44 ∷ rest) (Some bits)
     × (starts (is 32) (flags_text (record { 0 = bits }) ++ 44 ∷ rest) ≡ false) × (length (flags_text (record { 0 = bits })) ≤ 52)
-flags_takes zero rest small = (flags_of_bits 0 rest, refl, omega arith)
-flags_takes (suc zero) rest small = (flags_of_bits 1 rest, refl, omega arith)
-flags_takes (suc (suc zero)) rest small = (flags_of_bits 2 rest, refl, omega arith)
-flags_takes (suc (suc (suc zero))) rest small = (flags_of_bits 3 rest, refl, omega arith)
-flags_takes (suc (suc (suc (suc zero)))) rest small = (flags_of_bits 4 rest, refl, omega arith)
-flags_takes (suc (suc (suc (suc (suc zero))))) rest small = (flags_of_bits 5 rest, refl, omega arith)
-flags_takes (suc (suc (suc (suc (suc (suc zero)))))) rest small = (flags_of_bits 6 rest, refl, omega arith)
-flags_takes (suc (suc (suc (suc (suc (suc (suc zero))))))) rest small = (flags_of_bits 7 rest, refl, omega arith)
-flags_takes (suc (suc (suc (suc (suc (suc (suc (suc zero)))))))) rest small = (flags_of_bits 8 rest, refl, omega arith)
-flags_takes (suc (suc (suc (suc (suc (suc (suc (suc (suc zero))))))))) rest small = (flags_of_bits 9 rest, refl, omega arith)
-flags_takes (suc (suc (suc (suc (suc (suc (suc (suc (suc (suc zero)))))))))) rest small = (flags_of_bits 10 rest, refl, omega arith)
-flags_takes (suc (suc (suc (suc (suc (suc (suc (suc (suc (suc (suc zero))))))))))) rest small = (flags_of_bits 11 rest, refl, omega arith)
-flags_takes (suc (suc (suc (suc (suc (suc (suc (suc (suc (suc (suc (suc zero)))))))))))) rest small = (flags_of_bits 12 rest, refl, omega arith)
-flags_takes (suc (suc (suc (suc (suc (suc (suc (suc (suc (suc (suc (suc (suc zero))))))))))))) rest small = (flags_of_bits 13 rest, refl, omega arith)
-flags_takes (suc (suc (suc (suc (suc (suc (suc (suc (suc (suc (suc (suc (suc (suc zero)))))))))))))) rest small = (flags_of_bits 14 rest, refl, omega arith)
-flags_takes (suc (suc (suc (suc (suc (suc (suc (suc (suc (suc (suc (suc (suc (suc (suc zero))))))))))))))) rest small =
-    (flags_of_bits 15 rest, refl, omega arith)
 flags_takes (suc (suc (suc (suc (suc (suc (suc (suc (suc (suc (suc (suc (suc (suc (suc (suc k)))))))))))))))) rest small = absurd (omega arith)
+flags_takes bits rest small = (flags_of_bits bits rest, refl, omega arith)

@@ -26,9 +26,8 @@ use Rattle.strace_reader.specs.declared.arguments.WordList.{WordList}
 use Rattle.strace_reader.specs.declared.arguments.WordList.TheVariants.{Prot, Flags}
 use Rattle.strace_reader.specs.Calls.{comma, addr, word, known, prot_word, prot, commented, operand, shifted, flag_word, flags, path, descriptor, access}
 use Rattle.strace_reader.specs.Calls.{optional}
-use Rattle.strace_reader.specs.Reading.{comma_at, addr_at, word_at, known_at, prot_word_at, prot_at, commented_at}
-use Rattle.strace_reader.specs.Reading.{operand_at, shifted_at, flag_word_at, flags_at, listed_word_at, listed_at}
-use Rattle.strace_reader.specs.Reading.{path_at, descriptor_at, access_read, access_at, optional_at}
+use Rattle.strace_reader.specs.Reading.{comma_at, addr_at, word_at, known_at, prot_word_at, prot_at, commented_at, operand_at, shifted_at, flag_word_at}
+use Rattle.strace_reader.specs.Reading.{flags_at, listed_word_at, listed_at, path_at, descriptor_at, access_read, access_at, optional_at}
 
 -- ---- what may follow
 
@@ -96,7 +95,7 @@ comma_good = good_then (byte_good 44 Comma) (λ u. spaces_good) (λ v b q w h hq
 
 -- one byte begins with itself
 pub byte_heads : (b : ℕ) (due : What) → Heads (is b) (byte b due)
-byte_heads b due a q w h = ap (λ (x : List ℕ). starts (is b) (x ++ q)) h ∙ is_same b
+byte_heads b due a q w h = ap (λ x. starts (is b) (x ++ q)) h ∙ is_same b
 
 -- a comma and its spaces begin with a comma
 pub comma_heads : Heads (is 44) comma
@@ -118,8 +117,7 @@ close_no_numeral q h = join_no_numeral q (close_joins q h)
 -- an address is read by addr_at, where a comma or a parenthesis follows
 pub addr_closed : Good addr CloseEnds addr_at
 unfolding addr_at
-addr_closed =
-    good_choice (is 78) (good_then (letters_good (codes "NULL") Number) (λ u. done_good 0 CloseEnds) (λ v b q w h hq. tt))
+addr_closed = good_choice (is 78) (good_then (letters_good (codes "NULL") Number) (λ u. done_good 0 CloseEnds) (λ v b q w h hq. tt))
     (narrower (λ v q h. close_no_numeral q h) (number_good Number))
     (full_nonempty (is 78) (chain (letters (codes "NULL") Number) (λ u. done 0)) null_full) (full_stays (is 78) (number Number) CloseEnds (number_full Number))
     (48 ∷ [], 0, λ q h. zero_number q (close_no_numeral q h))
@@ -149,24 +147,21 @@ comma_full next = chain_full comma next (chain_full (byte 44 Comma) (λ u. space
 -- an address that may be missing is read by optional_at, where a parenthesis follows
 pub optional_good : Good optional ParenEnds optional_at
 unfolding optional_at
-optional_good =
-    good_choice (is 44) (good_then comma_good (λ u. narrower (λ v q h. paren_closes q h) addr_closed)
+optional_good = good_choice (is 44) (good_then comma_good (λ u. narrower (λ v q h. paren_closes q h) addr_closed)
     (λ v b q w h hq. not_space_ends (b ++ q) (addr_heads b q w h))) (done_good 0 ParenEnds)
     (full_nonempty (is 44) (chain comma (λ u. addr)) (comma_full (λ u. addr))) (λ rest q v h hq. starts_as 41 (is 44) q hq)
-    ([], 0, λ q h. subst (λ (x : Bool). (arm (chain comma (λ u. addr)) (done 0) x).takes [] q 0) (sym (starts_as 41 (is 44) q h)) (refl, refl))
+    ([], 0, λ q h. subst (λ x. (arm (chain comma (λ u. addr)) (done 0) x).takes [] q 0) (sym (starts_as 41 (is 44) q h)) (refl, refl))
 
 optional_starts : (x more : List ℕ) (n : ℕ) (t : Bool) → starts (is 44) (x ++ more) ≡ t
     → (arm (chain comma (λ u. addr)) (done 0) t).takes x more n → starts (is 41) more ≡ true → starts is_close (x ++ more) ≡ true
 optional_starts x more n true e h paren = comma_closes (x ++ more) e
-optional_starts x more n false e h paren = ap (λ (y : List ℕ). starts is_close (y ++ more)) h.0 ∙ paren_closes more paren
+optional_starts x more n false e h paren = ap (λ y. starts is_close (y ++ more)) h.0 ∙ paren_closes more paren
 
 -- one behind which a parenthesis is due may stand behind a number
 pub optional_closes : {B : Type 0} (next : ℕ → Part B) → ((n : ℕ) → Heads (is 41) (next n)) → (b q : List ℕ) (w : B)
     → (chain optional next).takes b q w → starts is_close (b ++ q) ≡ true
-optional_closes next heads b q w h =
-    let e : b ++ q ≡ h.0 ++ (h.1 ++ q) = ap (λ (y : List ℕ). y ++ q) h.3 ∙ append_assoc h.0 h.1 q in
-    ap (starts is_close) e ∙
-    optional_starts h.0 (h.1 ++ q) h.2 (starts (is 44) (h.0 ++ (h.1 ++ q))) refl h.4 (heads h.2 h.1 q w h.5)
+optional_closes next heads b q w h = let e : b ++ q ≡ h.0 ++ (h.1 ++ q) = ap (λ y. y ++ q) h.3 ∙ append_assoc h.0 h.1 q in
+    ap (starts is_close) e ∙ optional_starts h.0 (h.1 ++ q) h.2 (starts (is 44) (h.0 ++ (h.1 ++ q))) refl h.4 (heads h.2 h.1 q w h.5)
 
 -- ---- words
 
@@ -175,12 +170,19 @@ pub word_good : Good word WordEnds word_at
 word_good = run_good is_capital is_word_byte Word 65 refl
 
 known_follows : (x : Option ℕ) (b q : List ℕ) (u : Option ℕ) → (known x).takes b q u → ItemEnds u q → starts is_word_byte (b ++ q) ≡ false
-known_follows None b q u h hq = ap (λ (y : List ℕ). starts is_word_byte (b ++ y)) h.0 ∙ ap (starts is_word_byte) (append-nil b) ∙ h.2
-known_follows (Some n) b q u h hq = ap (λ (y : List ℕ). starts is_word_byte (y ++ q)) h.0
-    ∙ join_fails is_word_byte refl refl refl q (subst (λ (x : Option ℕ). ItemEnds x q) h.1 hq)
+known_follows None b q u h hq = ap (λ y. starts is_word_byte (b ++ y)) h.0 ∙ ap (starts is_word_byte) (append-nil b) ∙ h.2
+known_follows (Some n) b q u h hq = ap (λ y. starts is_word_byte (y ++ q)) h.0 ∙ join_fails is_word_byte refl refl refl q (subst (λ x. ItemEnds x q) h.1 hq)
+
+-- all that is left is fine as what has no value, where only the end may follow that
+pub rest_fine : {B : Type 0} (test : ℕ → Bool) (follow : Option B → List ℕ → Type 0) → ((q : List ℕ) → follow None q → q ≡ [])
+    → Fine (anything test None) follow
+rest_fine test follow last = record {
+  some = ([], None, λ q h. (last q h, refl, refl));
+  before = λ a rest q v h hq. (last q (subst (λ x. follow x q) h.1 hq), h.1, h.2);
+}
 
 known_fine : (x : Option ℕ) → Fine (known x) ItemEnds
-known_fine None = record { some = ([], None, λ q h. (h, refl, refl)); before = λ a rest q v h hq. (subst (λ (x : Option ℕ). ItemEnds x q) h.1 hq, h.1, h.2) }
+known_fine None = rest_fine is_word_byte ItemEnds (λ q h. h)
 known_fine (Some n) = (done_good (Some n) ItemEnds).fine
 
 known_reads : (x : Option ℕ) (text : List ℕ) → starts is_word_byte text ≡ false → Reads (known x) ItemEnds text (known_at x text)
@@ -206,10 +208,7 @@ word_heads b q w h = no_space_first is_capital refl (b ++ q) (run_starts is_capi
 -- ---- protections
 
 rest_good : Good (anything no_byte None) ItemEnds (λ text. Ok (None, []))
-rest_good = record {
-  fine = record { some = ([], None, λ q h. (h, refl, refl)); before = λ a rest q v h hq. (subst (λ (x : Option ℕ). ItemEnds x q) h.1 hq, h.1, h.2) };
-  reads = λ text. anything_took no_byte None text (no_byte_starts text);
-}
+rest_good = record { fine = rest_fine no_byte ItemEnds (λ q h. h); reads = λ text. anything_took no_byte None text (no_byte_starts text) }
 
 -- all that is left isn't nothing where a byte that passes a test is left
 pub rest_nonempty : {A : Type 0} (test : ℕ → Bool) (v : A) → Nonempty test (anything no_byte v)
@@ -218,10 +217,8 @@ rest_nonempty test v rest w h e = let k : starts test rest ≡ false = ap (start
 -- a protection word is read by prot_word_at, before what may follow an item of a list
 pub prot_word_good : Good prot_word ItemEnds prot_word_at
 unfolding prot_word_at
-prot_word_good =
-    good_choice is_digit rest_good (known_word prot_of) (rest_nonempty is_digit None)
-    (full_stays is_digit (chain word (λ w. known (prot_of w))) ItemEnds (known_word_full prot_of))
-    (48 ∷ [], None, λ q h. (h, refl, refl))
+prot_word_good = good_choice is_digit rest_good (known_word prot_of) (rest_nonempty is_digit None)
+    (full_stays is_digit (chain word (λ w. known (prot_of w))) ItemEnds (known_word_full prot_of)) (48 ∷ [], None, λ q h. (h, refl, refl))
 
 -- a protection is read by prot_at, before what may follow a list
 pub prot_good : Good prot ListEnds prot_at
@@ -247,7 +244,7 @@ abbrev comment : Part (Unit {0})
 comment = chain (letters (codes " /*") Comma) (λ u. chain (until 42 47 Comma) (λ v. byte 47 Comma))
 
 commented_empty : (q : List ℕ) → starts is_join q ≡ true → commented.takes [] q tt
-commented_empty q h = subst (λ (x : Bool). (arm comment (done tt) x).takes [] q tt) (sym (join_fails (is 32) refl refl refl q h)) (refl, refl)
+commented_empty q h = subst (λ x. (arm comment (done tt) x).takes [] q tt) (sym (join_fails (is 32) refl refl refl q h)) (refl, refl)
 
 comment_full : Full comment
 comment_full = chain_full (letters (codes " /*") Comma) (λ u. chain (until 42 47 Comma) (λ v. byte 47 Comma)) (letters_full 32 (codes "/*") Comma)
@@ -257,8 +254,7 @@ unfolding commented_at
 commented_good =
     let end_good : Good (byte 47 Comma) JoinEnds (byte_at 47 Comma) = narrower (λ v q h. tt) (byte_good 47 Comma) in
     good_choice (is 32) (good_then (letters_good (codes " /*") Comma)
-    (λ u. good_then (until_good 42 47 Comma refl) (λ v. end_good) (λ v b q w h hq. byte_heads 47 Comma b q w h))
-    (λ v b q w h hq. tt)) (done_good tt JoinEnds)
+    (λ u. good_then (until_good 42 47 Comma refl) (λ v. end_good) (λ v b q w h hq. byte_heads 47 Comma b q w h)) (λ v b q w h hq. tt)) (done_good tt JoinEnds)
     (full_nonempty (is 32) comment comment_full) (λ rest q v h hq. join_fails (is 32) refl refl refl q hq) ([], tt, commented_empty)
 
 -- an operand ends before a space, a comma, a parenthesis or a bar
@@ -291,16 +287,11 @@ operand_no_numeral (c ∷ q) h = operand_numeral_byte c q (is 32 c) refl h
 -- what a number is shifted by is read by operand_at, where an operand ends
 pub operand_good : Good operand OperandEnds operand_at
 unfolding operand_at
-operand_good =
-    good_choice is_digit (good_then (number_good Number) (λ n. done_good tt OperandEnds)
-    (λ v b q w h hq. subst NoNumeral (sym (ap (λ (y : List ℕ). y ++ q) h.0)) (operand_no_numeral q hq)))
-    (good_then word_good (λ w. done_good tt OperandEnds)
-    (λ v b q w h hq. ap (λ (y : List ℕ). starts is_word_byte (y ++ q)) h.0
-    ∙ operand_fails is_word_byte refl refl refl refl q hq))
-    (full_nonempty is_digit (chain (number Number) (λ n. done tt))
-    (chain_full (number Number) (λ n. done tt) (number_full Number)))
-    (full_stays is_digit (chain word (λ w. done tt)) OperandEnds
-    (chain_full word (λ w. done tt) (run_full is_capital is_word_byte Word)))
+operand_good = good_choice is_digit (good_then (number_good Number) (λ n. done_good tt OperandEnds)
+    (λ v b q w h hq. subst NoNumeral (sym (ap (λ y. y ++ q) h.0)) (operand_no_numeral q hq))) (good_then word_good (λ w. done_good tt OperandEnds)
+    (λ v b q w h hq. ap (λ y. starts is_word_byte (y ++ q)) h.0 ∙ operand_fails is_word_byte refl refl refl refl q hq))
+    (full_nonempty is_digit (chain (number Number) (λ n. done tt)) (chain_full (number Number) (λ n. done tt) (number_full Number)))
+    (full_stays is_digit (chain word (λ w. done tt)) OperandEnds (chain_full word (λ w. done tt) (run_full is_capital is_word_byte Word)))
     (65 ∷ [], tt, λ q h. (65 ∷ [], [], 65 ∷ [], refl, (refl, (refl, tt), operand_fails is_word_byte refl refl refl refl q h), (refl, refl)))
 
 either_close : (a b : Bool) → b ≡ true → (if a then true else b) ≡ true
@@ -315,19 +306,17 @@ join_ends (c ∷ q) h = either_close (is 32 c) (is_join c) h
 commented_starts : (b q : List ℕ) (w : Unit {0}) (x : Bool) → starts (is 32) (b ++ q) ≡ x → (arm comment (done tt) x).takes b q w
     → starts is_join q ≡ true → starts is_operand_end (b ++ q) ≡ true
 commented_starts b q w true e h hq = starts_as 32 is_operand_end (b ++ q) e
-commented_starts b q w false e h hq = ap (λ (y : List ℕ). starts is_operand_end (y ++ q)) h.0 ∙ join_ends q hq
+commented_starts b q w false e h hq = ap (λ y. starts is_operand_end (y ++ q)) h.0 ∙ join_ends q hq
 
 abbrev shift : Part (Unit {0})
 shift = chain (letters (codes "<<") Comma) (λ u. chain operand (λ v. commented))
 
 shifted_empty : (q : List ℕ) → starts is_join q ≡ true → shifted.takes [] q tt
-shifted_empty q h = subst (λ (x : Bool). (arm shift commented x).takes [] q tt) (sym (join_fails (is 60) refl refl refl q h)) (commented_empty q h)
+shifted_empty q h = subst (λ x. (arm shift commented x).takes [] q tt) (sym (join_fails (is 60) refl refl refl q h)) (commented_empty q h)
 
 shifted_good : Good shifted JoinEnds shifted_at
 unfolding shifted_at
-shifted_good =
-    good_choice (is 60) (good_then (letters_good (codes "<<") Comma)
-    (λ u. good_then operand_good (λ v. commented_good)
+shifted_good = good_choice (is 60) (good_then (letters_good (codes "<<") Comma) (λ u. good_then operand_good (λ v. commented_good)
     (λ v b q w h hq. commented_starts b q w (starts (is 32) (b ++ q)) refl h hq)) (λ v b q w h hq. tt)) commented_good
     (full_nonempty (is 60) shift (chain_full (letters (codes "<<") Comma) (λ u. chain operand (λ v. commented))
     (letters_full 60 (codes "<") Comma))) (λ rest q v h hq. join_fails (is 60) refl refl refl q hq) ([], tt, shifted_empty)
@@ -345,20 +334,17 @@ shifted_starts b q w false e h hq = operand_no_numeral (b ++ q) (commented_start
 -- behind a number of the flags
 number_follows : (b q : List ℕ) (w : Option ℕ) → (chain {B = Option ℕ} shifted (λ u. done (Some 0))).takes b q w → ItemEnds w q → NoNumeral (b ++ q)
 number_follows b q w h hq =
-    let join : starts is_join q ≡ true = subst (λ (x : Option ℕ). ItemEnds x q) h.5.1 hq in
-    let behind : starts is_join (h.1 ++ q) ≡ true = ap (λ (y : List ℕ). starts is_join (y ++ q)) h.5.0 ∙ join in
-    let e : b ++ q ≡ h.0 ++ (h.1 ++ q) = ap (λ (y : List ℕ). y ++ q) h.3 ∙ append_assoc h.0 h.1 q in
+    let join : starts is_join q ≡ true = subst (λ x. ItemEnds x q) h.5.1 hq in
+    let behind : starts is_join (h.1 ++ q) ≡ true = ap (λ y. starts is_join (y ++ q)) h.5.0 ∙ join in
+    let e : b ++ q ≡ h.0 ++ (h.1 ++ q) = ap (λ y. y ++ q) h.3 ∙ append_assoc h.0 h.1 q in
     subst NoNumeral (sym e) (shifted_starts h.0 (h.1 ++ q) h.2 (starts (is 60) (h.0 ++ (h.1 ++ q))) refl h.4 behind)
 
 -- one of the flags is read by flag_word_at, before what may follow an item of a list
 pub flag_word_good : Good flag_word ItemEnds flag_word_at
 unfolding flag_word_at flag_of
-flag_word_good =
-    good_choice is_digit (good_then (number_good Number)
-    (λ n. good_then shifted_good (λ u. done_good (Some 0) ItemEnds)
-    (λ v b q w h hq. ap (λ (y : List ℕ). starts is_join (y ++ q)) h.0 ∙ subst (λ (x : Option ℕ). ItemEnds x q) h.1 hq))
-    (λ v b q w h hq. number_follows b q w h hq)) (known_word flag_of)
-    (full_nonempty is_digit (chain (number Number) (λ n. chain shifted (λ u. done (Some 0))))
+flag_word_good = good_choice is_digit (good_then (number_good Number) (λ n. good_then shifted_good (λ u. done_good (Some 0) ItemEnds)
+    (λ v b q w h hq. ap (λ y. starts is_join (y ++ q)) h.0 ∙ subst (λ x. ItemEnds x q) h.1 hq))
+    (λ v b q w h hq. number_follows b q w h hq)) (known_word flag_of) (full_nonempty is_digit (chain (number Number) (λ n. chain shifted (λ u. done (Some 0))))
     (chain_full (number Number) (λ n. chain shifted (λ u. done (Some 0))) (number_full Number)))
     (full_stays is_digit (chain word (λ w. known (flag_of w))) ItemEnds (known_word_full flag_of))
     (65 ∷ [], Some 0, λ q h. (65 ∷ [], [], 65 ∷ [], refl, (refl, (refl, tt), join_fails is_word_byte refl refl refl q h), (refl, refl)))
@@ -375,8 +361,7 @@ listed_word_shortens Flags text rest v e = shorter flag_word_good text rest v e
 
 -- the flags begin with a byte that is no space
 pub flags_heads : Heads not_space flags
-flags_heads = listed_heads not_space flag_word 0
-    (λ b q w h. digit_or_word (chain (number Number) (λ n. chain shifted (λ u. done (Some 0)))) flag_of b q w
+flags_heads = listed_heads not_space flag_word 0 (λ b q w h. digit_or_word (chain (number Number) (λ n. chain shifted (λ u. done (Some 0)))) flag_of b q w
     (starts is_digit (b ++ q)) refl h)
 
 -- ---- descriptors
@@ -385,41 +370,34 @@ abbrev named : Part (Unit {0})
 named = chain (byte 60 Comma) (λ u. until 62 44 Comma)
 
 path_empty : (q : List ℕ) → starts (is 44) q ≡ true → path.takes [] q tt
-path_empty q h = subst (λ (x : Bool). (arm named (done tt) x).takes [] q tt) (sym (starts_as 44 (is 60) q h)) (refl, refl)
+path_empty q h = subst (λ x. (arm named (done tt) x).takes [] q tt) (sym (starts_as 44 (is 60) q h)) (refl, refl)
 
 path_good : Good path CommaEnds path_at
 unfolding path_at
-path_good =
-    good_choice (is 60) (good_then (byte_good 60 Comma) (λ u. until_good 62 44 Comma refl) (λ v b q w h hq. tt))
-    (done_good tt CommaEnds) (full_nonempty (is 60) named
-    (chain_full (byte 60 Comma) (λ u. until 62 44 Comma) (byte_full 60 Comma)))
+path_good = good_choice (is 60) (good_then (byte_good 60 Comma) (λ u. until_good 62 44 Comma refl) (λ v b q w h hq. tt))
+    (done_good tt CommaEnds) (full_nonempty (is 60) named (chain_full (byte 60 Comma) (λ u. until 62 44 Comma) (byte_full 60 Comma)))
     (λ rest q v h hq. starts_as 44 (is 60) q hq) ([], tt, path_empty)
 
 path_starts : (b q : List ℕ) (w : Unit {0}) (x : Bool) → starts (is 60) (b ++ q) ≡ x → (arm named (done tt) x).takes b q w
     → starts (is 44) q ≡ true → starts is_digit (b ++ q) ≡ false
 path_starts b q w true e h hq = starts_as 60 is_digit (b ++ q) e
-path_starts b q w false e h hq = ap (λ (y : List ℕ). starts is_digit (y ++ q)) h.0 ∙ starts_as 44 is_digit q hq
-
-digits_full : Full (many_digits Number)
-digits_full = chain_full (run is_digit is_digit Number) (λ d. done tt) (run_full is_digit is_digit Number)
+path_starts b q w false e h hq = ap (λ y. starts is_digit (y ++ q)) h.0 ∙ starts_as 44 is_digit q hq
 
 -- a descriptor is read by descriptor_at, where a comma follows
 pub descriptor_good : Good descriptor CommaEnds descriptor_at
 unfolding descriptor_at
-descriptor_good =
-    good_choice (is 45) (good_then (letters_good (codes "-1") Number) (λ u. path_good) (λ v b q w h hq. tt))
+descriptor_good = good_choice (is 45) (good_then (letters_good (codes "-1") Number) (λ u. path_good) (λ v b q w h hq. tt))
     (good_then (digits_good Number) (λ u. path_good) (λ v b q w h hq. path_starts b q w (starts (is 60) (b ++ q)) refl h hq))
     (full_nonempty (is 45) (chain (letters (codes "-1") Number) (λ u. path))
     (chain_full (letters (codes "-1") Number) (λ u. path) (letters_full 45 (codes "1") Number)))
-    (full_stays (is 45) (chain (many_digits Number) (λ u. path)) CommaEnds (chain_full (many_digits Number) (λ u. path) digits_full))
+    (full_stays (is 45) (chain (many_digits Number) (λ u. path)) CommaEnds (chain_full (many_digits Number) (λ u. path)
+    (chain_full (run is_digit is_digit Number) (λ d. done tt) (run_full is_digit is_digit Number))))
     (48 ∷ [], tt, λ q h. (48 ∷ [], [], tt, refl, (48 ∷ [], [], 48 ∷ [], refl, (refl, (refl, tt), starts_as 44 is_digit q h), (refl, refl)), path_empty q h))
 
 descriptor_starts : (b q : List ℕ) (w : Unit {0}) (x : Bool) → starts (is 45) (b ++ q) ≡ x
-    → (arm (chain (letters (codes "-1") Number) (λ u. path)) (chain (many_digits Number) (λ u. path)) x).takes b q w
-    → starts not_space (b ++ q) ≡ true
+    → (arm (chain (letters (codes "-1") Number) (λ u. path)) (chain (many_digits Number) (λ u. path)) x).takes b q w → starts not_space (b ++ q) ≡ true
 descriptor_starts b q w true e h = starts_as 45 not_space (b ++ q) e
-descriptor_starts b q w false e h = heads_then not_space (many_digits Number) (λ u. path)
-    (heads_then not_space (run is_digit is_digit Number) (λ d. done tt)
+descriptor_starts b q w false e h = heads_then not_space (many_digits Number) (λ u. path) (heads_then not_space (run is_digit is_digit Number) (λ d. done tt)
     (λ a t v k. digit_not_space (a ++ t) (run_starts is_digit is_digit a t k.1))) b q w h
 
 -- a descriptor begins with a byte that is no space
@@ -436,20 +414,14 @@ access_some q h = ((refl, (refl, (refl, (refl, (refl, (refl, (refl, (refl, (refl
 access_word : (p q : List ℕ) (v : Access) → access.takes p q v → word.takes p q p
 access_word p q v h = (refl, h.0, h.1)
 
-some_same : {a b : Access} → Some a ≡ Some b → a ≡ b
-some_same e = cc
-
 access_clean : (text w rest : List ℕ) (a : Access) (g o r : List ℕ) (x : What) → access_of w ≡ Some a → Took word text w rest
     → access.refuses g o r x → text ≡ g ++ (o ++ r) → ⊥
-access_clean text w rest a g o r x found t h e =
-    elim (h.2) [
-      | inl k ↦ t.clean g o r Word (h.0, k.0, refl, k.1) e
-      | inr k ↦
-          let whole : o ++ r ≡ t.front ++ rest = sym (e ∙ ap (λ (y : List ℕ). y ++ (o ++ r)) h.0) ∙ t.parts in
-          let s = t.only o r rest o (refl, k.0, k.1) whole (alike_same rest) in
-          let none : access_of w ≡ None = ap access_of (sym s.1) ∙ k.2 in
-          cc
-    ]
+access_clean text w rest a g o r x found t h e = elim (h.2) [
+  | inl k ↦ t.clean g o r Word (h.0, k.0, refl, k.1) e
+  | inr k ↦
+      let whole : o ++ r ≡ t.front ++ rest = sym (e ∙ ap (λ y. y ++ (o ++ r)) h.0) ∙ t.parts in
+      let s = t.only o r rest o (refl, k.0, k.1) whole (alike_same rest) in let none : access_of w ≡ None = ap access_of (sym s.1) ∙ k.2 in cc
+]
 
 access_took : (text w rest : List ℕ) (a : Access) → access_of w ≡ Some a → Took word text w rest → Took access text a rest
 access_took text w rest a found t =
@@ -458,7 +430,7 @@ access_took text w rest a found t =
       front = t.front;
       parts = t.parts;
       takes = (t.takes.1, t.takes.2, same);
-      only = λ p q more v h e alike. let s = t.only p q more p (access_word p q v h) e alike in (s.0, some_same (sym h.2 ∙ ap access_of s.0 ∙ same));
+      only = λ p q more v h e alike. let s = t.only p q more p (access_word p q v h) e alike in (s.0, cc (h.2, ap access_of s.0, same));
       clean = λ g o r x h e. access_clean text w rest a g o r x found t h e;
     }
 
@@ -475,12 +447,12 @@ access_other text w rest none t =
       begins = (codes "PROT_READ", Read, access_some);
       ends = λ p q more v h e alike. let s = t.only p q more p (access_word p q v h) e alike in
           let k : access_of p ≡ None = ap access_of s.1 ∙ none in let l = h.2 in cc;
-      one = λ g o r x h e. (sym (ap length (e ∙ ap (λ (y : List ℕ). y ++ (o ++ r)) h.0)), h.1);
+      one = λ g o r x h e. (sym (ap length (e ∙ ap (λ y. y ++ (o ++ r)) h.0)), h.1);
     }
 
 access_none : (text : List ℕ) (f : Refusal) → Stuck word WordEnds text f → Stuck access WordEnds text f
 access_none text f s =
-    let all : length text ≡ f.left = ap length (s.parts ∙ ap (λ (y : List ℕ). y ++ (s.over ++ s.rest)) s.due.0) ∙ sym s.left in
+    let all : length text ≡ f.left = ap length (s.parts ∙ ap (λ y. y ++ (s.over ++ s.rest)) s.due.0) ∙ sym s.left in
     record {
       front = s.front;
       over = s.over;
@@ -488,9 +460,9 @@ access_none text f s =
       parts = s.parts;
       left = s.left;
       due = (s.due.0, s.due.2, inl (s.due.1, s.due.3));
-      begins = (codes "PROT_READ", Read, λ q h. subst (λ (y : List ℕ). access.takes (y ++ codes "PROT_READ") q Read) (sym s.due.0) (access_some q h));
+      begins = (codes "PROT_READ", Read, λ q h. subst (λ y. access.takes (y ++ codes "PROT_READ") q Read) (sym s.due.0) (access_some q h));
       ends = λ p q more v h e alike. s.ends p q more p (access_word p q v h) e alike;
-      one = λ g o r x h e. (sym (ap length (e ∙ ap (λ (y : List ℕ). y ++ (o ++ r)) h.0)) ∙ all, h.1 ∙ sym s.due.2);
+      one = λ g o r x h e. (sym (ap length (e ∙ ap (λ y. y ++ (o ++ r)) h.0)) ∙ all, h.1 ∙ sym s.due.2);
     }
 
 access_found : (text w rest : List ℕ) (r : Option Access) → access_of w ≡ r → Took word text w rest → Reads access WordEnds text (access_read text rest r)
@@ -528,12 +500,9 @@ items_end : (item : Part (Option ℕ)) (bits : ℕ) → NoneEnds item → (befor
 items_end item bits ends [] p q v h e = ends p q h.0 h.1 (more_none bits h.0 (sym h.3 ∙ e))
 items_end item bits ends (n ∷ before) p q v h e = items_end item (bit_or bits n) ends before h.1 q v h.4 e
 
-some_bits : (n : ℕ) → Some n ≡ None → ⊥
-some_bits n e = cc
-
 known_end : (x : Option ℕ) (p q : List ℕ) (v : Option ℕ) → (known x).takes p q v → v ≡ None → q ≡ []
 known_end None p q v h e = h.0
-known_end (Some n) p q v h e = absurd (some_bits n (sym h.1 ∙ e))
+known_end (Some n) p q v h e = absurd (cc (h.1, e))
 
 prot_word_end : (p q : List ℕ) (v : Option ℕ) (x : Bool) → (arm (anything no_byte None) (chain word (λ w. known (prot_of w))) x).takes p q v → v ≡ None → q ≡ []
 prot_word_end p q v true h e = h.0
@@ -544,9 +513,8 @@ pub prot_end : NoneEnds prot
 prot_end p q v h e = items_end prot_word 0 (λ p q v h e. prot_word_end p q v (starts is_digit (p ++ q)) h e) h.0 p q v h.1 e
 
 flag_word_end : (p q : List ℕ) (v : Option ℕ) (x : Bool)
-    → (arm (chain (number Number) (λ n. chain shifted (λ u. done (Some 0)))) (chain word (λ w. known (flag_of w))) x).takes p q v
-    → v ≡ None → q ≡ []
-flag_word_end p q v true h e = absurd (some_bits 0 (sym h.5.5.1 ∙ e))
+    → (arm (chain (number Number) (λ n. chain shifted (λ u. done (Some 0)))) (chain word (λ w. known (flag_of w))) x).takes p q v → v ≡ None → q ≡ []
+flag_word_end p q v true h e = absurd (cc (h.5.5.1, e))
 flag_word_end p q v false h e = known_end (flag_of h.2) h.1 q v h.5 e
 
 -- flags without a value take all that is left
@@ -568,19 +536,15 @@ items_below : (k : ℕ) (item : Part (Option ℕ)) → ((p q : List ℕ) (v : Op
     → bits < 2 ^ k → (before p q : List ℕ) (v : Option ℕ) → Items item bits before p q v → Below k v
 items_below k item each bits b [] p q v h = subst (Below k) (sym h.3) (more_below k bits h.0 b (each p q h.0 h.1))
 items_below k item each bits b (n ∷ before) p q v h =
-    items_below k item each (bit_or bits n) (more_below k bits (Some n) b (each h.0 (124 ∷ (h.1 ++ q)) (Some n) h.3)) before h.1 q
-    v h.4
+    items_below k item each (bit_or bits n) (more_below k bits (Some n) b (each h.0 (124 ∷ (h.1 ++ q)) (Some n) h.3)) before h.1 q v h.4
 
 known_below : (k : ℕ) (x : Option ℕ) (p q : List ℕ) (v : Option ℕ) → Below k x → (known x).takes p q v → Below k v
 known_below k None p q v b h = subst (Below k) (sym h.1) tt
 known_below k (Some n) p q v b h = subst (Below k) (sym h.1) b
 
 prot_cases : (a b c d : Bool) → Below 3 (if a then Some 1 else if b then Some 2 else if c then Some 4 else if d then Some 0 else None)
-prot_cases true b c d = omega arith
-prot_cases false true c d = omega arith
-prot_cases false false true d = omega arith
-prot_cases false false false true = omega arith
 prot_cases false false false false = tt
+prot_cases a b c d = omega arith
 
 prot_of_below : (w : List ℕ) → Below 3 (prot_of w)
 unfolding prot_of
@@ -588,12 +552,8 @@ prot_of_below w = prot_cases (bytes_eq w (codes "PROT_READ")) (bytes_eq w (codes
     (bytes_eq w (codes "PROT_NONE"))
 
 flag_cases : (a b c d e : Bool) → Below 4 (if a then Some 1 else if b then Some 2 else if c then Some 4 else if d then Some 8 else if e then None else Some 0)
-flag_cases true b c d e = omega arith
-flag_cases false true c d e = omega arith
-flag_cases false false true d e = omega arith
-flag_cases false false false true e = omega arith
 flag_cases false false false false true = tt
-flag_cases false false false false false = omega arith
+flag_cases a b c d e = omega arith
 
 flag_of_below : (w : List ℕ) → Below 4 (flag_of w)
 unfolding flag_of
@@ -609,8 +569,7 @@ pub prot_below : (p q : List ℕ) (v : Option ℕ) → prot.takes p q v → Belo
 prot_below p q v h = items_below 3 prot_word (λ p q v h. prot_word_below p q v (starts is_digit (p ++ q)) h) 0 (omega arith) h.0 p q v h.1
 
 flag_word_below : (p q : List ℕ) (v : Option ℕ) (x : Bool)
-    → (arm (chain (number Number) (λ n. chain shifted (λ u. done (Some 0)))) (chain word (λ w. known (flag_of w))) x).takes p q v
-    → Below 4 v
+    → (arm (chain (number Number) (λ n. chain shifted (λ u. done (Some 0)))) (chain word (λ w. known (flag_of w))) x).takes p q v → Below 4 v
 flag_word_below p q v true h = subst (Below 4) (sym h.5.5.1) (omega arith)
 flag_word_below p q v false h = known_below 4 (flag_of h.2) h.1 q v (flag_of_below h.2) h.5
 

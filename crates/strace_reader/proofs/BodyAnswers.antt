@@ -17,9 +17,8 @@ use Rattle.strace_reader.specs.declared.item.Name.{Name}
 use Rattle.strace_reader.specs.declared.item.Name.TheVariants.{Mmap, Munmap, Mprotect, Fault, Mseal, Brk, Mremap}
 use Rattle.strace_reader.specs.Words.{call_head, resumed_head}
 use Rattle.strace_reader.specs.Calls.{call}
-use Rattle.strace_reader.specs.Grammar.{BeginsWith, EndsWith, unfinished, NeverReturned, IsPid, IsPrefixed}
-use Rattle.strace_reader.specs.Grammar.{IsBehindSpaces, IsCut, IsCall, IsHalf, IsResumption, NoForm, IsOther, IsBody}
-use Rattle.strace_reader.specs.Grammar.{RefusesBody, IsNamedBody}
+use Rattle.strace_reader.specs.Grammar.{BeginsWith, EndsWith, unfinished, NeverReturned, IsPid, IsPrefixed, IsBehindSpaces, IsCut, IsCall, IsHalf, IsResumption}
+use Rattle.strace_reader.specs.Grammar.{NoForm, IsOther, IsBody, RefusesBody, IsNamedBody}
 use Rattle.strace_reader.specs.Reading.{arguments_at}
 use Rattle.strace_reader.proofs.ResultParts.{IsSound}
 use Rattle.strace_reader.proofs.WholeCalls.{IsWhole, IsRefused, call_closes, call_whole, call_refused, arguments_good}
@@ -102,24 +101,17 @@ pub one_name : (m n : Name) (text : List ℕ) → BeginsWith (call_head m) text 
 one_name m n text h g = sym (call_head_name m text h) ∙ call_head_name n text g
 
 resumed_name : (name : Name) (text : List ℕ) → BeginsWith (resumed_head name) text → name_by (drop 5 text) ≡ name
-resumed_name name text h = ap (λ (x : List ℕ). name_by (drop 5 x)) h.1
+resumed_name name text h = ap (λ x. name_by (drop 5 x)) h.1
     ∙ each_name (λ n. name_by (drop 5 (resumed_head n ++ h.0)) ≡ n) (refl, refl, refl, refl, refl, refl, refl) name
-
-one_resumption : (m n : Name) (text : List ℕ) → BeginsWith (resumed_head m) text → BeginsWith (resumed_head n) text → m ≡ n
-one_resumption m n text h g = sym (resumed_name m text h) ∙ resumed_name n text g
-
-no_same : (a b : ℕ) → a ≡ 63 → b ≡ 62 → a ≡ b → ⊥
-no_same a b h g e = omega arith
 
 -- no line both ends as a first half does and as that of a call that never returned
 two_ends : (text : List ℕ) → NeverReturned text → EndsWith unfinished text → ⊥
 two_ends text h g =
     let one : List ℕ = h.0 ++ (codes "<unfinished ...>)" ++ ((32 ∷ h.1) ++ codes "= ")) in
-    let e1 : text ≡ one ++ (63 ∷ []) = h.3 ∙ ap (λ (x : List ℕ). h.0 ++ (codes "<unfinished ...>)" ++ x))
-    (sym (append_assoc (32 ∷ h.1) (codes "= ") (63 ∷ [])))
+    let e1 : text ≡ one ++ (63 ∷ []) = h.3 ∙ ap (λ x. h.0 ++ (codes "<unfinished ...>)" ++ x)) (sym (append_assoc (32 ∷ h.1) (codes "= ") (63 ∷ [])))
     ∙ sym (append_assoc h.0 (codes "<unfinished ...>)" ++ ((32 ∷ h.1) ++ codes "= ")) (63 ∷ [])) in
     let e2 : text ≡ (g.0 ++ codes "<unfinished ...") ++ (62 ∷ []) = g.1 ∙ sym (append_assoc g.0 (codes "<unfinished ...") (62 ∷ [])) in
-    no_same 63 62 refl refl (last_same one (g.0 ++ codes "<unfinished ...") 63 62 (sym e1 ∙ e2))
+    let e = last_same one (g.0 ++ codes "<unfinished ...") 63 62 (sym e1 ∙ e2) in omega arith
 
 -- ---- the answers
 
@@ -138,29 +130,25 @@ signal_form text (inl h) = inl h
 signal_form text (inr h) = inr (inl h)
 
 -- what is passed over and has none of the other forms is that alone
-other_only : (text : List ℕ) → ((name : Name) → IsCall name text → ⊥)
-    → ((name : Name) → BeginsWith (call_head name) text → EndsWith unfinished text → ⊥)
-    → ((name : Name) → BeginsWith (resumed_head name) text → ⊥)
-    → (body : Body) → IsBody text body → is_body Other ≡ is_body body
+other_only : (text : List ℕ) → ((name : Name) → IsCall name text → ⊥) → ((name : Name) → BeginsWith (call_head name) text → EndsWith unfinished text → ⊥)
+    → ((name : Name) → BeginsWith (resumed_head name) text → ⊥) → (body : Body) → IsBody text body → is_body Other ≡ is_body body
 unfolding IsBody
 other_only text none first second_half (Called c r) h = absurd (none h.0 h.1)
 other_only text none first second_half (FirstHalf name len) h = absurd (first name h.1 (half_ends text h.0 h.2))
 other_only text none first second_half (SecondHalf name left) h = absurd (second_half name (h.1.0, h.1.1))
 other_only text none first second_half Other h = refl
 
+-- what the body is alone, where it isn't refused, is what was read
+found_alone : (text : List ℕ) (body : Body) → IsBody text body → ((other : Body) → IsBody text other → is_body body ≡ is_body other)
+    → ((refusal : Refusal) → RefusesBody text refusal → ⊥) → IsNamedBody body → BodyAnswers text (Ok body)
+found_alone text body is only none named =
+    record { found = is; only = only; refused = tt; only_there = λ refusal h. absurd (none refusal h); named = named; within = tt }
+
 other_body : (text : List ℕ) → IsOther text → ((name : Name) → IsCall name text → ⊥)
-    → ((name : Name) → BeginsWith (call_head name) text → EndsWith unfinished text → ⊥)
-    → ((name : Name) → BeginsWith (resumed_head name) text → ⊥)
+    → ((name : Name) → BeginsWith (call_head name) text → EndsWith unfinished text → ⊥) → ((name : Name) → BeginsWith (resumed_head name) text → ⊥)
     → BodyAnswers text (Ok Other)
 unfolding IsBody RefusesBody
-other_body text form none first second_half = record {
-  found = form;
-  only = other_only text none first second_half;
-  refused = tt;
-  only_there = λ refusal h. absurd (none h.0 h.2);
-  named = tt;
-  within = tt;
-}
+other_body text form none first second_half = found_alone text Other form (other_only text none first second_half) (λ refusal h. none h.0 h.2) tt
 
 -- what begins as a signal or an exit is passed over, and nothing else
 pub signal_body : (text : List ℕ) → BeginsWith (codes "---") text ⊎ BeginsWith (codes "+++") text → BodyAnswers text (Ok Other)
@@ -192,31 +180,24 @@ resumed_other name text b (inr (inr (inr (inr f)))) = f.no_resumption name b
 
 second_same : (m n : Name) (text a b : List ℕ) → IsResumption m text a → IsResumption n text b → (m ≡ n) × (a ≡ b)
 second_same m n text a b h g =
-    let e : m ≡ n = one_resumption m n text (h.0, h.1) (g.0, g.1) in
-    let k : h.0 ≡ g.0 = append_cancel_left (resumed_head n) h.0 g.0 (ap (λ (x : Name). resumed_head x ++ h.0) (sym e) ∙ sym h.1 ∙ g.1) in
-    (e, behind_same g.0 a b (subst (λ (x : List ℕ). IsBehindSpaces x a) k h.2) g.2)
+    let e : m ≡ n = sym (resumed_name m text (h.0, h.1)) ∙ resumed_name n text (g.0, g.1) in
+    let k : h.0 ≡ g.0 = append_cancel_left (resumed_head n) h.0 g.0 (ap (λ x. resumed_head x ++ h.0) (sym e) ∙ sym h.1 ∙ g.1) in
+    (e, behind_same g.0 a b (subst (λ x. IsBehindSpaces x a) k h.2) g.2)
 
 second_only : (name : Name) (text rest : List ℕ) → IsResumption name text rest → (body : Body) → IsBody text body
     → is_body (SecondHalf name (length rest)) ≡ is_body body
 unfolding IsBody
 second_only name text rest r (Called c d) h = absurd (not_resumed text 4 (call_head_kind h.0 text h.1.names) (omega arith) name (r.0, r.1))
 second_only name text rest r (FirstHalf n len) h = absurd (not_resumed text 4 (call_head_kind n text h.1) (omega arith) name (r.0, r.1))
-second_only name text rest r (SecondHalf n left) h =
-    let e = second_same name n text rest h.0 r h.1 in
-    ap (λ (x : Name). is_body (SecondHalf x (length rest))) e.0 ∙ ap (λ (x : ℕ). is_body (SecondHalf n x)) (ap length e.1 ∙ sym h.2)
+second_only name text rest r (SecondHalf n left) h = let e = second_same name n text rest h.0 r h.1 in
+    ap (λ x. is_body (SecondHalf x (length rest))) e.0 ∙ ap (λ x. is_body (SecondHalf n x)) (ap length e.1 ∙ sym h.2)
 second_only name text rest r Other h = absurd (resumed_other name text (r.0, r.1) h)
 
 -- a second half is that half alone, and isn't refused
 pub second_body : (name : Name) (text rest : List ℕ) → IsResumption name text rest → BodyAnswers text (Ok (SecondHalf name (length rest)))
 unfolding IsBody RefusesBody
-second_body name text rest r = record {
-  found = (rest, r, refl);
-  only = second_only name text rest r;
-  refused = tt;
-  only_there = λ refusal h. absurd (not_resumed text 4 (call_head_kind h.0 text h.2.names) (omega arith) name (r.0, r.1));
-  named = tt;
-  within = tt;
-}
+second_body name text rest r = found_alone text (SecondHalf name (length rest)) (rest, r, refl) (second_only name text rest r)
+    (λ refusal h. not_resumed text 4 (call_head_kind h.0 text h.2.names) (omega arith) name (r.0, r.1)) tt
 
 first_other : (name : Name) (text : List ℕ) → BeginsWith (call_head name) text → EndsWith unfinished text → IsOther text → ⊥
 first_other name text b e (inl h) = not_call text 1 (ap kind h.1) (omega arith) name b
@@ -229,23 +210,16 @@ first_only : (name : Name) (text half : List ℕ) → BeginsWith (call_head name
     → IsBody text body → is_body (FirstHalf name (length half)) ≡ is_body body
 unfolding IsBody
 first_only name text half b i (Called c d) h = absurd (h.1.whole (half_ends text half i))
-first_only name text half b i (FirstHalf n len) h =
-    let e = one_name name n text b h.1 in
-    ap (λ (x : Name). is_body (FirstHalf x (length half))) e ∙ ap (λ (x : ℕ). is_body (FirstHalf n x)) (ap length (half_same text half h.0 i h.2) ∙ sym h.3)
+first_only name text half b i (FirstHalf n len) h = let e = one_name name n text b h.1 in
+    ap (λ x. is_body (FirstHalf x (length half))) e ∙ ap (λ x. is_body (FirstHalf n x)) (ap length (half_same text half h.0 i h.2) ∙ sym h.3)
 first_only name text half b i (SecondHalf n left) h = absurd (not_resumed text 4 (call_head_kind name text b) (omega arith) n (h.1.0, h.1.1))
 first_only name text half b i Other h = absurd (first_other name text b (half_ends text half i) h)
 
 -- a first half is that half alone, and isn't refused
 pub first_body : (name : Name) (text half : List ℕ) → BeginsWith (call_head name) text → IsHalf text half → BodyAnswers text (Ok (FirstHalf name (length half)))
 unfolding IsBody RefusesBody
-first_body name text half b i = record {
-  found = (half, b, i, refl);
-  only = first_only name text half b i;
-  refused = tt;
-  only_there = λ refusal h. absurd (h.2.whole (half_ends text half i));
-  named = tt;
-  within = tt;
-}
+first_body name text half b i = found_alone text (FirstHalf name (length half)) (half, b, i, refl) (first_only name text half b i)
+    (λ refusal h. h.2.whole (half_ends text half i)) tt
 
 -- ---- calls
 
@@ -254,12 +228,12 @@ call_other : (name : Name) (text : List ℕ) → IsCall name text → IsOther te
 call_other name text c (inl h) = absurd (not_call text 1 (ap kind h.1) (omega arith) name c.names)
 call_other name text c (inr (inl h)) = absurd (not_call text 1 (ap kind h.1) (omega arith) name c.names)
 call_other name text c (inr (inr (inl h))) = absurd (c.returned h.2)
-call_other name text c (inr (inr (inr (inl h)))) = subst (λ (x : Name). (call x).takes text [] Other) (one_name h.0 name text h.1.names c.names) h.2
+call_other name text c (inr (inr (inr (inl h)))) = subst (λ x. (call x).takes text [] Other) (one_name h.0 name text h.1.names c.names) h.2
 call_other name text c (inr (inr (inr (inr f)))) = absurd (f.no_call name c.names)
 
 call_spells : (name : Name) (text : List ℕ) → IsCall name text → (body : Body) → IsBody text body → (call name).takes text [] body
 unfolding IsBody
-call_spells name text c (Called done r) h = subst (λ (x : Name). (call x).takes text [] (Called done r)) (one_name h.0 name text h.1.names c.names) h.2
+call_spells name text c (Called done r) h = subst (λ x. (call x).takes text [] (Called done r)) (one_name h.0 name text h.1.names c.names) h.2
 call_spells name text c (FirstHalf n len) h = absurd (c.whole (half_ends text h.0 h.2))
 call_spells name text c (SecondHalf n left) h = absurd (not_resumed text 4 (call_head_kind name text c.names) (omega arith) n (h.1.0, h.1.1))
 call_spells name text c Other h = call_other name text c h
@@ -267,40 +241,25 @@ call_spells name text c Other h = call_other name text c h
 spelled_call : (name : Name) (text : List ℕ) → IsCall name text → (body : Body) → (call name).takes text [] body → IsSound body → IsBody text body
 unfolding IsBody
 spelled_call name text c (Called done r) h s = (name, c, h)
-spelled_call name text c (FirstHalf n len) h s = absurd s
-spelled_call name text c (SecondHalf n left) h s = absurd s
 spelled_call name text c Other h s = inr (inr (inr (inl (name, c, h))))
+spelled_call name text c body h s = absurd s
 
 sound_named : (body : Body) → IsSound body → IsNamedBody body
 sound_named (Called c r) s = s
-sound_named (FirstHalf n len) s = tt
-sound_named (SecondHalf n left) s = tt
-sound_named Other s = tt
+sound_named body s = tt
 
 -- where a call's body is refused by the call that it names
 refused_there : (name : Name) (text : List ℕ) (refusal : Refusal) → IsCall name text → RefusesBody text refusal
     → (column : ℕ) × Refused (call name) text column refusal.what × (column + refusal.left ≡ length text + 1)
 unfolding RefusesBody
-refused_there name text refusal c h = (h.1, subst (λ (x : Name). Refused (call x) text h.1 refusal.what) (one_name h.0 name text h.2.names c.names) h.3, h.4)
+refused_there name text refusal c h = (h.1, subst (λ x. Refused (call x) text h.1 refusal.what) (one_name h.0 name text h.2.names c.names) h.3, h.4)
 
 -- a body in the form of a call that is taken whole as one item is that item alone, and isn't refused
 pub call_body : (name : Name) (text : List ℕ) (body : Body) → IsCall name text → IsWhole (call name) text body → BodyAnswers text (Ok body)
 call_body name text body c w =
-    let s = (call_closes name).values text [] body w.spelled in
-    record {
-      found = spelled_call name text c body w.spelled s;
-      only = λ other h. ap (λ (x : Body). is_body x) (sym (w.only other (call_spells name text c other h)));
-      refused = tt;
-      only_there = λ refusal h. let r = refused_there name text refusal c h in absurd (w.clean r.0 refusal.what r.1);
-      named = sound_named body s;
-      within = tt;
-    }
-
-bad_same : (a b : ℕ) (w v : What) → a ≡ b → w ≡ v → is_bad a w ≡ is_bad b v
-bad_same a b w v e f = ap (λ (x : ℕ). is_bad x w) e ∙ ap (λ (x : What). is_bad b x) f
-
-left_same : (n a b c d : ℕ) → c ≡ a → a + b ≡ n → c + d ≡ n → b ≡ d
-left_same n a b c d e h g = omega arith
+    let s = (call_closes name).values text [] body w.spelled in found_alone text body (spelled_call name text c body w.spelled s)
+    (λ other h. ap (λ x. is_body x) (sym (w.only other (call_spells name text c other h))))
+    (λ refusal h. let r = refused_there name text refusal c h in w.clean r.0 refusal.what r.1) (sound_named body s)
 
 -- a body in the form of a call that is refused at one column is nothing, and is refused there alone
 pub refused_body : (name : Name) (text : List ℕ) (column left : ℕ) (what : What) → IsCall name text
@@ -312,9 +271,8 @@ refused_body name text column left what c place le r = record {
   only = λ body h. absurd (r.none body (call_spells name text c body h));
   refused = (name, column, c, r.refused, place);
   only_there = λ refusal h.
-      let k = refused_there name text refusal c h in
-      let e = r.one k.0 refusal.what k.1 in
-      bad_same left refusal.left what refusal.what (left_same (length text + 1) column left k.0 refusal.left e.0 place k.2) (sym e.1);
+      let k = refused_there name text refusal c h in let e = r.one k.0 refusal.what k.1 in let m = e.0 in let n = k.2 in
+      let same : left ≡ refusal.left = omega arith in ap (λ x. is_bad x what) same ∙ ap (λ x. is_bad refusal.left x) (sym e.1);
   named = tt;
   within = le;
 }
@@ -329,27 +287,17 @@ is_call name text rest e never first_half = record { names = (rest, e); returned
 pub read_call : (name : Name) (text rest after : List ℕ) (body : Body) → text ≡ call_head name ++ rest → IsCall name text
     → arguments_at name rest ≡ Ok (body, after) → BodyAnswers text (Ok body)
 read_call name text rest after body e c read =
-    call_body name text body c (subst (λ (x : List ℕ). IsWhole (call name) x body) (sym e) (call_whole name rest after body read))
-
-left_within : (name : Name) (text rest : List ℕ) (f : Refusal) → text ≡ call_head name ++ rest → arguments_at name rest ≡ Err f → f.left ≤ length text
-left_within name text rest f e read =
-    let k = refusal_within (arguments_good name) rest f read in
-    let l = ap length e ∙ length-append (call_head name) rest in
-    omega arith
-
-column_of : (n left : ℕ) → left ≤ n → (n - left + 1) + left ≡ n + 1
-column_of n left h = omega arith
+    call_body name text body c (subst (λ x. IsWhole (call name) x body) (sym e) (call_whole name rest after body read))
 
 -- a body in the form of a call is refused where its arguments are, and is nothing
 pub refused_call : (name : Name) (text rest : List ℕ) (f : Refusal) → text ≡ call_head name ++ rest → IsCall name text
     → arguments_at name rest ≡ Err f → BodyAnswers text (Err f)
 refused_call name text rest f e c read =
-    let within = left_within name text rest f e read in
-    let column = length text - f.left + 1 in
-    let place = column_of (length text) f.left within in
-    refused_body name text column f.left f.what c place within
-    (subst (λ (x : List ℕ). IsRefused (call name) x column f.what) (sym e)
-    (call_refused name rest f column read (subst (λ (x : List ℕ). column + f.left ≡ length x + 1) e place)))
+    let k = refusal_within (arguments_good name) rest f read in let l = ap length e ∙ length-append (call_head name) rest in
+    let within : f.left ≤ length text = omega arith in let column = length text - f.left + 1 in
+    let place : column + f.left ≡ length text + 1 = omega arith in
+    refused_body name text column f.left f.what c place within (subst (λ x. IsRefused (call name) x column f.what) (sym e)
+    (call_refused name rest f column read (subst (λ x. column + f.left ≡ length x + 1) e place)))
 
 -- ---- what is not empty
 
@@ -358,12 +306,7 @@ some_begun word text h b = let k = ap length b.1 ∙ length-append word b.0 in o
 
 -- a call's name has a byte at least
 pub head_some : (name : Name) → 0 < length (call_head name)
-head_some name = each_name (λ n. 0 < length (call_head n))
-    (omega arith, omega arith, omega arith, omega arith, omega arith, omega arith, omega arith) name
-
-resumed_some : (name : Name) → 0 < length (resumed_head name)
-resumed_some name = each_name (λ n. 0 < length (resumed_head n))
-    (omega arith, omega arith, omega arith, omega arith, omega arith, omega arith, omega arith) name
+head_some name = each_name (λ n. 0 < length (call_head n)) (omega arith, omega arith, omega arith, omega arith, omega arith, omega arith, omega arith) name
 
 -- a text that begins with a call's name has a byte at least
 pub some_head : (name : Name) (text : List ℕ) → BeginsWith (call_head name) text → 0 < length text
@@ -375,14 +318,12 @@ some_call name text c = some_head name text c.names
 
 -- a second half has a byte at least
 pub some_resumption : (name : Name) (text rest : List ℕ) → IsResumption name text rest → 0 < length text
-some_resumption name text rest r = some_begun (resumed_head name) text (resumed_some name) (r.0, r.1)
+some_resumption name text rest r = some_begun (resumed_head name) text (each_name (λ n. 0 < length (resumed_head n))
+    (omega arith, omega arith, omega arith, omega arith, omega arith, omega arith, omega arith) name) (r.0, r.1)
 
 -- what is kept of a second half isn't longer than its text
 pub resumed_length : (name : Name) (text rest : List ℕ) → IsResumption name text rest → length rest ≤ length text
-resumed_length name text rest r =
-    let k = ap length r.1 ∙ length-append (resumed_head name) r.0 in
-    let l = behind_length r.0 rest r.2 in
-    omega arith
+resumed_length name text rest r = let k = ap length r.1 ∙ length-append (resumed_head name) r.0 in let l = behind_length r.0 rest r.2 in omega arith
 
 -- no text begins both as a call and as a second half
 pub no_resumed_call : (m n : Name) (text : List ℕ) → BeginsWith (call_head m) text → BeginsWith (resumed_head n) text → ⊥

@@ -1,13 +1,13 @@
 -- No more halves are left than texts were fed: each text is the half of one process at most.
-use Rattle.std.proofs.Common.{◌≡◌, ◌≢◌, ℕ, suc, ◌+◌, ◌-◌, ◌<◌, ◌≤◌, List, [], ◌∷◌, ◌++◌, length, take, drop, subst, inl, inr, arith}
+use Rattle.std.proofs.Common.{◌≢◌, ℕ, suc, ◌+◌, ◌<◌, ◌≤◌, List, [], ◌∷◌, length, inl, inr, arith}
 use Rattle.std.specs.Prelude.{◌⊎◌, All, AllPairs}
 use Rattle.std.proofs.lemmas.List.Elements.{All-cons, All-head, All-tail, All-weaker, All-contains_itself}
 use Rattle.std.proofs.lemmas.List.Kept.{AllPairs-from_increasing}
 use Rattle.strace_reader.specs.declared.item.Item.TheVariants.{Unfinished}
 use Rattle.strace_reader.specs.declared.item.Name.{Name}
 use Rattle.strace_reader.specs.Grammar.{Spells}
-use Rattle.strace_reader.specs.Joining.{IsSilent, IsKept, CountsKept}
-use Rattle.strace_reader.proofs.JoinFacts.{kept_step, nothing_kept}
+use Rattle.strace_reader.specs.Joining.{IsKept, CountsKept}
+use Rattle.strace_reader.proofs.JoinFacts.{kept_cases, kept_step, nothing_kept}
 
 abbrev HasHalf : List (List ℕ) → ℕ → Type 0
 HasHalf fed p = (name : Name) × (half : List ℕ) × IsKept fed p name half
@@ -21,19 +21,8 @@ AreApart (p ∷ ps) = All (λ q. p ≢ q) ps × AreApart ps
 abbrev IsHalfOf : List ℕ → ℕ → Type 0
 IsHalfOf text p = (name : Name) × (from to : ℕ) × Spells text (Unfinished p name from to)
 
-kept_cases : (text : List ℕ) (fed : List (List ℕ)) (p : ℕ) (n : Name) (half : List ℕ) (later : List (List ℕ)) (t : List ℕ)
-    (earlier : List (List ℕ)) (from to : ℕ)
-    → text ∷ fed ≡ later ++ (t ∷ earlier) → Spells t (Unfinished p n from to) → half ≡ take (to - from) (drop from t)
-    → IsSilent p later → IsHalfOf text p ⊎ HasHalf fed p
-kept_cases text fed p n half [] t earlier from to e u b silent =
-    let same : t ≡ text = cc in
-    inl (n, from, to, subst (λ (x : List ℕ). Spells x (Unfinished p n from to)) same u)
-kept_cases text fed p n half (x ∷ later) t earlier from to e u b silent =
-    let same : fed ≡ later ++ (t ∷ earlier) = cc in
-    inr (n, half, record { later = later; text = t; earlier = earlier; from = from; to = to; parts = same; is_half = u; bytes = b; silent = silent.1 })
-
 half_cases : (text : List ℕ) (fed : List (List ℕ)) (p : ℕ) → HasHalf (text ∷ fed) p → IsHalfOf text p ⊎ HasHalf fed p
-half_cases text fed p (n, half, k) = kept_cases text fed p n half k.later k.text k.earlier k.from k.to k.parts k.is_half k.bytes k.silent
+half_cases text fed p (n, half, k) = elim (kept_cases text fed p n half k) [ inl h ↦ inl (n, h.0, h.1, h.2) | inr r ↦ inr (n, half, r.1) ]
 
 -- the halves of other processes were kept before
 others_kept : (text : List ℕ) (fed : List (List ℕ)) (p : ℕ) → IsHalfOf text p → (ps : List ℕ) → All (λ q. p ≢ q) ps
@@ -59,34 +48,29 @@ record Before (fed : List (List ℕ)) (ps : List ℕ) : Type 0 where
 
 before : (text : List ℕ) (fed : List (List ℕ)) (ps : List ℕ) → AreApart ps → All (HasHalf (text ∷ fed)) ps → Before fed ps
 before text fed [] apart all = record { others = []; apart = tt; kept = λ k d l. absurd (omega (arith, l)); few = omega arith; among = λ x h. h }
-before text fed (p ∷ ps) apart all =
-    elim (half_cases text fed p (All-head (HasHalf (text ∷ fed)) p ps all)) [
-      | inl is ↦
-          record {
-            others = ps;
-            apart = apart.1;
-            kept = others_kept text fed p is ps apart.0 (All-tail (HasHalf (text ∷ fed)) p ps all);
-            few = omega arith;
-            among = λ x h. All-tail (λ q. x ≢ q) p ps h;
-          }
-      | inr is ↦
-          let r = before text fed ps apart.1 (All-tail (HasHalf (text ∷ fed)) p ps all) in
-          let few = r.few in
-          record {
-            others = p ∷ r.others;
-            apart = (r.among p apart.0, r.apart);
-            kept = All-cons (HasHalf fed) p r.others is r.kept;
-            few = omega (arith, few);
-            among = λ x h. All-cons (λ q. x ≢ q) p r.others (All-head (λ q. x ≢ q) p ps h) (r.among x (All-tail (λ q. x ≢ q) p ps h));
-          }
-    ]
+before text fed (p ∷ ps) apart all = elim (half_cases text fed p (All-head (HasHalf (text ∷ fed)) p ps all)) [
+  | inl is ↦ record {
+    others = ps;
+    apart = apart.1;
+    kept = others_kept text fed p is ps apart.0 (All-tail (HasHalf (text ∷ fed)) p ps all);
+    few = omega arith;
+    among = λ x h. All-tail (λ q. x ≢ q) p ps h;
+  }
+  | inr is ↦
+      let r = before text fed ps apart.1 (All-tail (HasHalf (text ∷ fed)) p ps all) in let few = r.few in
+      record {
+        others = p ∷ r.others;
+        apart = (r.among p apart.0, r.apart);
+        kept = All-cons (HasHalf fed) p r.others is r.kept;
+        few = omega (arith, few);
+        among = λ x h. All-cons (λ q. x ≢ q) p r.others (All-head (λ q. x ≢ q) p ps h) (r.among x (All-tail (λ q. x ≢ q) p ps h));
+      }
+]
 
 no_more : (fed : List (List ℕ)) (ps : List ℕ) → AreApart ps → All (HasHalf fed) ps → length ps ≤ length fed
 no_more [] [] apart all = omega arith
 no_more [] (p ∷ ps) apart all = let k = (All-head (HasHalf []) p ps all).2 in absurd (nothing_kept k.later k.text k.earlier k.parts)
-no_more (text ∷ fed) ps apart all =
-    let r = before text fed ps apart all in
-    omega (arith, r.few, no_more fed r.others r.apart r.kept)
+no_more (text ∷ fed) ps apart all = let r = before text fed ps apart all in omega (arith, r.few, no_more fed r.others r.apart r.kept)
 
 are_apart : (ps : List ℕ) → AllPairs (λ x y. x < y) ps → AreApart ps
 are_apart [] h = tt

@@ -36,10 +36,9 @@ is_bad column w = Err (record { column = column; what = w })
 -- what a body says of its own places
 pub body_fits : (text : List ℕ) (b : Body) → IsBody text b → FitsBody (length text) b
 unfolding IsBody
-body_fits text (Called c r) h = tt
 body_fits text (FirstHalf name len) h = let k = half_length text h.0 h.2 in let e = h.3 in omega arith
 body_fits text (SecondHalf name left) h = let k = resumed_length name text h.0 h.1 in let e = h.2 in omega arith
-body_fits text Other h = tt
+body_fits text b h = tt
 
 -- the empty line
 
@@ -61,13 +60,7 @@ blank_bad text e bad h = let k = nothing_spelled text e h.0 h.1 h.3 in let l = s
 -- an empty text is an empty line, and nothing else
 pub blank_line : (text : List ℕ) → text ≡ [] → LineAnswers text (Ok Blank)
 unfolding Spells
-blank_line text e = record {
-  found = e;
-  only = blank_only text e;
-  refused = tt;
-  only_there = λ bad h. absurd (blank_bad text e bad h);
-  named = tt;
-}
+blank_line text e = record { found = e; only = blank_only text e; refused = tt; only_there = λ bad h. absurd (blank_bad text e bad h); named = tt }
 
 -- ---- other lines
 
@@ -86,74 +79,45 @@ pub record OfBody (text : List ℕ) (item : Item) : Type 0 where
   -- the item is made of them
   pub same : item ≡ item_of (length text) pid (length body) it
 
-from_is : (n m from : ℕ) → from + m ≡ n → from ≡ n - m
-from_is n m from h = omega arith
-
 -- each item that a text spells, which isn't empty, is made of the text's body
 pub of_body : (text : List ℕ) → text ≢ [] → (item : Item) → Spells text item → OfBody text item
 unfolding Spells
 of_body text some (Played q c r) h = record { pid = q; body = h.0; it = Called c r; cut = h.1; is = h.2; same = refl }
 of_body text some (Unfinished q name from to) h =
-    let e = from_is (length text) (length h.0) from h.4 in
+    let k = h.4 in let e : from ≡ length text - length h.0 = omega arith in
     record { pid = q; body = h.0; it = FirstHalf name h.1; cut = h.2; is = h.3; same = rw (h.5, e) refl }
 of_body text some (Resumed q name from) h =
-    let e = from_is (length text) h.1 from h.4 in
+    let k = h.4 in let e : from ≡ length text - h.1 = omega arith in
     record { pid = q; body = h.0; it = SecondHalf name h.1; cut = h.2; is = h.3; same = rw e refl }
 of_body text some Skipped h = record { pid = h.1; body = h.2; it = Other; cut = h.3; is = h.4; same = refl }
 of_body text some Blank h = absurd (some h)
-
-back : (n m : ℕ) → m ≤ n → n - m + m ≡ n
-back n m h = omega arith
 
 -- what a body is, with its process and its places in the line, the line spells
 pub spelled : (text body : List ℕ) (pid : ℕ) (b : Body) → text ≢ [] → IsCut text pid body → IsBody body b
     → Spells text (item_of (length text) pid (length body) b)
 unfolding Spells
 spelled text body pid (Called c r) some cut is = (body, cut, is)
-spelled text body pid (FirstHalf name len) some cut is = (body, len, cut, is, back (length text) (length body) (cut_length text pid body cut), refl)
+spelled text body pid (FirstHalf name len) some cut is = let l = cut_length text pid body cut in (body, len, cut, is, omega arith, refl)
 spelled text body pid (SecondHalf name left) some cut is =
-    let k = body_fits body (SecondHalf name left) is in
-    let l = cut_length text pid body cut in
-    (body, left, cut, is, back (length text) left (omega arith))
+    let k = body_fits body (SecondHalf name left) is in let l = cut_length text pid body cut in (body, left, cut, is, omega arith)
 spelled text body pid Other some cut is = (some, pid, body, cut, is)
-
-abbrev as_ok : Body → Result Body Refusal
-as_ok b = Ok b
-
-abbrev as_err : Refusal → Result Body Refusal
-as_err f = Err f
-
-same_ok : (a b : Body) → as_ok a ≡ as_ok b → a ≡ b
-same_ok a b e = cc
-
-ok_no_err : (a : Body) (b : Refusal) → as_ok a ≡ as_err b → ⊥
-ok_no_err a b e = cc
-
-same_err : (a b : Refusal) → as_err a ≡ as_err b → a ≡ b
-same_err a b e = cc
 
 -- another item of the line is of the same body
 line_only : (text body : List ℕ) (pid : ℕ) (b : Body) → text ≢ [] → IsCut text pid body → BodyAnswers body (Ok b) → (item : Item)
     → Spells text item → is_item (item_of (length text) pid (length body) b) ≡ is_item item
 line_only text body pid b some cut a item h =
-    let o = of_body text some item h in
-    let k = cut_same text pid o.pid body o.body cut o.cut in
-    let e : b ≡ o.it = same_ok b o.it (a.only o.it (subst (λ (x : List ℕ). IsBody x o.it) (sym k.1) o.is)) in
-    ap is_item (ap (λ (x : Body). item_of (length text) pid (length body) x) e
-    ∙ ap (λ (x : ℕ). item_of (length text) x (length body) o.it) k.0
-    ∙ ap (λ (x : List ℕ). item_of (length text) o.pid (length x) o.it) k.1 ∙ sym o.same)
+    let o = of_body text some item h in let k = cut_same text pid o.pid body o.body cut o.cut in
+    let e : b ≡ o.it = cc (a.only o.it (subst (λ x. IsBody x o.it) (sym k.1) o.is)) in
+    ap is_item (ap (λ x. item_of (length text) pid (length body) x) e ∙ ap (λ x. item_of (length text) x (length body) o.it) k.0
+    ∙ ap (λ x. item_of (length text) o.pid (length x) o.it) k.1 ∙ sym o.same)
 
 named_item : (n pid m : ℕ) (b : Body) → IsNamedBody b → IsNamedItem (item_of n pid m b)
 named_item n pid m (Called c r) h = h
-named_item n pid m (FirstHalf name len) h = tt
-named_item n pid m (SecondHalf name left) h = tt
-named_item n pid m Other h = tt
+named_item n pid m b h = tt
 
 line_bad : (text body : List ℕ) (pid : ℕ) (b : Body) → IsCut text pid body → BodyAnswers body (Ok b) → (bad : BadCall) → Refuses text bad → ⊥
 unfolding Refuses
-line_bad text body pid b cut a bad h =
-    let k = cut_same text pid h.0 body h.1 cut h.3 in
-    ok_no_err b h.2 (a.only_there h.2 (subst (λ (x : List ℕ). RefusesBody x h.2) (sym k.1) h.4))
+line_bad text body pid b cut a bad h = let k = cut_same text pid h.0 body h.1 cut h.3 in cc (a.only_there h.2 (subst (λ x. RefusesBody x h.2) (sym k.1) h.4))
 
 -- a line whose body is read as something alone is the item made of that alone
 pub read_body_line : (text body : List ℕ) (pid : ℕ) (b : Body) → text ≢ [] → IsCut text pid body → BodyAnswers body (Ok b)
@@ -166,46 +130,29 @@ read_body_line text body pid b some cut a = record {
   named = named_item (length text) pid (length body) b a.named;
 }
 
-column_back : (n left : ℕ) → left ≤ n → (n - left + 1) + left ≡ n + 1
-column_back n left h = omega arith
-
-column_is : (n left column : ℕ) → column + left ≡ n + 1 → left ≤ n → n - left + 1 ≡ column
-column_is n left column h le = omega arith
-
 refused_only : (text body : List ℕ) (pid : ℕ) (f : Refusal) → text ≢ [] → IsCut text pid body → BodyAnswers body (Err f) → (item : Item) → Spells text item → ⊥
 refused_only text body pid f some cut a item h =
-    let o = of_body text some item h in
-    let k = cut_same text pid o.pid body o.body cut o.cut in
-    ok_no_err o.it f (sym (a.only o.it (subst (λ (x : List ℕ). IsBody x o.it) (sym k.1) o.is)))
-
-bad_is : (a b : ℕ) (w v : What) → a ≡ b → w ≡ v → is_bad a w ≡ is_bad b v
-bad_is a b w v e f = ap (λ (x : ℕ). is_bad x w) e ∙ ap (λ (x : What). is_bad b x) f
+    let o = of_body text some item h in let k = cut_same text pid o.pid body o.body cut o.cut in cc (a.only o.it (subst (λ x. IsBody x o.it) (sym k.1) o.is))
 
 refused_there : (text body : List ℕ) (pid : ℕ) (f : Refusal) → IsCut text pid body → BodyAnswers body (Err f)
-    → f.left ≤ length text → (bad : BadCall) → Refuses text bad
-    → is_bad (length text - f.left + 1) f.what ≡ is_bad bad.column bad.what
+    → f.left ≤ length text → (bad : BadCall) → Refuses text bad → is_bad (length text - f.left + 1) f.what ≡ is_bad bad.column bad.what
 unfolding Refuses
 refused_there text body pid f cut a le bad h =
     let k = cut_same text pid h.0 body h.1 cut h.3 in
-    let e : f ≡ h.2 = same_err f h.2 (a.only_there h.2 (subst (λ (x : List ℕ). RefusesBody x h.2) (sym k.1) h.4)) in
-    let l : f.left ≡ h.2.left = ap (λ (x : Refusal). x.left) e in
-    let place = h.5 in
-    bad_is (length text - f.left + 1) bad.column f.what bad.what
-    (column_is (length text) f.left bad.column (ap (λ (x : ℕ). bad.column + x) l ∙ place) le)
-    (ap (λ (x : Refusal). x.what) e ∙ sym h.6)
+    let e : f ≡ h.2 = cc (a.only_there h.2 (subst (λ x. RefusesBody x h.2) (sym k.1) h.4)) in
+    let l : f.left ≡ h.2.left = ap (λ x. x.left) e in let place = h.5 in let c : length text - f.left + 1 ≡ bad.column = omega arith in
+    ap (λ x. is_bad x f.what) c ∙ ap (λ x. is_bad bad.column x) (ap (λ x. x.what) e ∙ sym h.6)
 
 -- a line whose body is refused in one way is refused in one way, its column counted in the line
 pub refused_body_line : (text body : List ℕ) (pid : ℕ) (f : Refusal) → text ≢ [] → IsCut text pid body → BodyAnswers body (Err f)
     → LineAnswers text (Err (record { column = length text - f.left + 1; what = f.what }))
 unfolding Refuses
 refused_body_line text body pid f some cut a =
-    let m = cut_length text pid body cut in
-    let w = a.within in
-    let le : f.left ≤ length text = omega arith in
+    let m = cut_length text pid body cut in let w = a.within in let le : f.left ≤ length text = omega arith in
     record {
       found = tt;
       only = λ item h. absurd (refused_only text body pid f some cut a item h);
-      refused = (pid, body, f, cut, a.refused, column_back (length text) f.left le, refl);
+      refused = (pid, body, f, cut, a.refused, omega arith, refl);
       only_there = refused_there text body pid f cut a le;
       named = tt;
     }
@@ -217,4 +164,4 @@ empty_line (c ∷ text) h = elim (eqb_tells (length (c ∷ text)) 0) [ inl k ↦
 
 -- a text of another number of bytes isn't empty
 pub full_line : (text : List ℕ) → (length text == 0) ≡ false → text ≢ []
-full_line text h e = let k : (length text == 0) ≡ true = ap (λ (x : List ℕ). length x == 0) e in cc
+full_line text h e = let k : (length text == 0) ≡ true = ap (λ x. length x == 0) e in cc

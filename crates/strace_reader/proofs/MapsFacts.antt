@@ -15,7 +15,6 @@ use Rattle.line_parts.proofs.Sequence.{alike_same}
 use Rattle.line_parts.proofs.Leaves.{is_same}
 use Rattle.line_parts.proofs.Numerals.{run_takes, same_digits}
 use Rattle.page_types.specs.declared.calls.Kind.{Kind}
-use Rattle.page_types.specs.declared.sets.Prot.{Prot}
 use Rattle.space_model.specs.declared.areas.Area.{Area as AreaOf}
 use Rattle.strace_reader.specs.declared.item.BadCall.{BadCall}
 use Rattle.strace_reader.specs.declared.maps.MapsItem.{MapsItem}
@@ -34,65 +33,49 @@ some_same p q h = cc
 
 address_some : (text : List ℕ) (p : ℕ × List ℕ) (n : ℕ) (rest : List ℕ) → address_of text p ≡ Some (n, rest)
     → (length p.1 ≢ length text) × (p.0 < 2 ^ 64) × (p.0 % 4096 ≡ 0) × (p ≡ (n, rest))
-address_some text p n rest h =
-    elim (eqb_tells (length p.1) (length text)) [
-      | inl a ↦ let k = rw a.0 at h in absurd cc
-      | inr a ↦ elim (cases_lt p.0 (2 ^ 64)) [
-        | inl b ↦ elim (eqb_tells (p.0 % 4096) 0) [
-          | inl d ↦ (a.1, b, d.1, some_same p (n, rest) (rw (a.0, lt-ltb p.0 (2 ^ 64) b, d.0) at h))
-          | inr d ↦ let k = rw (a.0, lt-ltb p.0 (2 ^ 64) b, d.0) at h in absurd cc
-        ]
-        | inr b ↦ let k = rw (a.0, le-ltb p.0 (2 ^ 64) b) at h in absurd cc
-      ]
+address_some text p n rest h = elim (eqb_tells (length p.1) (length text)) [
+  | inl a ↦ let k = rw a.0 at h in absurd cc
+  | inr a ↦ elim (cases_lt p.0 (2 ^ 64)) [
+    | inl b ↦ elim (eqb_tells (p.0 % 4096) 0) [
+      | inl d ↦ (a.1, b, d.1, some_same p (n, rest) (rw (a.0, lt-ltb p.0 (2 ^ 64) b, d.0) at h))
+      | inr d ↦ let k = rw (a.0, lt-ltb p.0 (2 ^ 64) b, d.0) at h in absurd cc
     ]
+    | inr b ↦ let k = rw (a.0, le-ltb p.0 (2 ^ 64) b) at h in absurd cc
+  ]
+]
 
 address_yes : (text rest : List ℕ) (n : ℕ) → address_at text ≡ Some (n, rest) → (digits : List ℕ) × IsAddress digits n × (text ≡ digits ++ rest)
 unfolding address_at
 address_yes text rest n h =
-    let r = run_takes 16 0 text in
-    let ds = r.0 in
-    let s = address_some text (digits_of 16 0 text) n rest h in
-    let is_n : value 16 0 ds ≡ n = ap (λ (x : ℕ × List ℕ). x.0) (sym r.2.is_read ∙ s.3) in
-    let is_rest : r.1 ≡ rest = ap (λ (x : ℕ × List ℕ). x.1) (sym r.2.is_read ∙ s.3) in
-    let is_p : (digits_of 16 0 text).0 ≡ n = ap (λ (x : ℕ × List ℕ). x.0) s.3 in
-    let is_q : (digits_of 16 0 text).1 ≡ rest = ap (λ (x : ℕ × List ℕ). x.1) s.3 in
-    let k = ap length r.2.parts ∙ length-append ds r.1 in
-    let l = ap length is_rest in
-    let m = ap length is_q in
-    let long = s.0 in
-    let fits = s.1 in
-    let aligned = s.2 in
+    let r = run_takes 16 0 text in let ds = r.0 in let s = address_some text (digits_of 16 0 text) n rest h in
+    let is_n : value 16 0 ds ≡ n = ap (λ x. x.0) (sym r.2.is_read ∙ s.3) in
+    let is_rest : r.1 ≡ rest = ap (λ x. x.1) (sym r.2.is_read ∙ s.3) in
+    let is_p : (digits_of 16 0 text).0 ≡ n = ap (λ x. x.0) s.3 in
+    let is_q : (digits_of 16 0 text).1 ≡ rest = ap (λ x. x.1) s.3 in
+    let k = ap length r.2.parts ∙ length-append ds r.1 in let l = ap length is_rest in let m = ap length is_q in
+    let long = s.0 in let fits = s.1 in let aligned = s.2 in
     let some : 0 < length ds = omega arith in (
       ds,
-      record {
-        hexadecimal = (some, r.2.all, sym is_n);
-        fits = omega arith;
-        aligned = ap (λ (x : ℕ). x % 4096) (sym is_p) ∙ aligned;
-      },
-      r.2.parts ∙ ap (λ (x : List ℕ). ds ++ x) is_rest,
+      record { hexadecimal = (some, r.2.all, sym is_n); fits = omega arith; aligned = ap (λ x. x % 4096) (sym is_p) ∙ aligned },
+      r.2.parts ∙ ap (λ x. ds ++ x) is_rest,
     )
 
 address_is : (text rest : List ℕ) (n : ℕ) → length rest ≢ length text → n < 2 ^ 64 → n % 4096 ≡ 0 → address_of text (n, rest) ≡ Some (n, rest)
-address_is text rest n long fits aligned =
-    elim (eqb_tells (length rest) (length text)) [
-      | inl a ↦ absurd (long a.1)
-      | inr a ↦ elim (eqb_tells (n % 4096) 0) [ inl d ↦ rw (a.0, lt-ltb n (2 ^ 64) fits, d.0) refl | inr d ↦ absurd (d.1 aligned) ]
-    ]
+address_is text rest n long fits aligned = elim (eqb_tells (length rest) (length text)) [
+  | inl a ↦ absurd (long a.1)
+  | inr a ↦ elim (eqb_tells (n % 4096) 0) [ inl d ↦ rw (a.0, lt-ltb n (2 ^ 64) fits, d.0) refl | inr d ↦ absurd (d.1 aligned) ]
+]
 
 address_no : (text digits rest : List ℕ) (n : ℕ) → IsAddress digits n → NoDigit 16 rest → text ≡ digits ++ rest → address_at text ≡ Some (n, rest)
 unfolding address_at
 address_no text digits rest n is_addr stop e =
-    let r = run_takes 16 0 text in
-    let ds = r.0 in
-    let whole : ds ++ r.1 ≡ digits ++ rest = sym r.2.parts ∙ e in
+    let r = run_takes 16 0 text in let ds = r.0 in let whole : ds ++ r.1 ≡ digits ++ rest = sym r.2.parts ∙ e in
     let s = same_digits 16 rest ds digits r.1 rest r.2.all is_addr.hexadecimal.1 r.2.ended stop whole (alike_same rest) in
-    let after : r.1 ≡ rest = append_cancel_left ds r.1 rest (whole ∙ ap (λ (x : List ℕ). x ++ rest) (sym s)) in
+    let after : r.1 ≡ rest = append_cancel_left ds r.1 rest (whole ∙ ap (λ x. x ++ rest) (sym s)) in
     let same : value 16 0 ds ≡ n = ap (value 16 0) s ∙ sym is_addr.hexadecimal.2 in
-    let read : digits_of 16 0 text ≡ (n, rest) = r.2.is_read ∙ ap (λ (x : ℕ). (x, r.1)) same ∙ ap (λ (x : List ℕ). (n, x)) after in
-    let k = ap length e ∙ length-append digits rest in
-    let some = is_addr.hexadecimal.0 in
-    let long : length rest ≢ length text = λ z. omega arith in
-    ap (address_of text) read ∙ address_is text rest n long is_addr.fits is_addr.aligned
+    let read : digits_of 16 0 text ≡ (n, rest) = r.2.is_read ∙ ap (λ x. (x, r.1)) same ∙ ap (λ x. (n, x)) after in
+    let k = ap length e ∙ length-append digits rest in let some = is_addr.hexadecimal.0 in
+    let long : length rest ≢ length text = λ z. omega arith in ap (address_of text) read ∙ address_is text rest n long is_addr.fits is_addr.aligned
 
 behind_yes : (b : ℕ) (text rest : List ℕ) → behind_byte b text ≡ Some rest → text ≡ b ∷ rest
 unfolding behind_byte
@@ -108,16 +91,13 @@ behind_no b rest = rw (is_same b) refl
 mark_yes : (letter bit : ℕ) (text rest : List ℕ) (v : ℕ) → mark_at letter bit text ≡ Some (v, rest) → (c : ℕ) × (text ≡ c ∷ rest) × IsMark letter bit c v
 unfolding mark_at
 mark_yes letter bit [] rest v h = absurd cc
-mark_yes letter bit (c ∷ text) rest v h =
-    elim (eqb_tells c letter) [
-      | inl k ↦ let g : (bit, text) ≡ (v, rest) = some_same (bit, text) (v, rest) (rw k.0 at h) in
-          (c, ap (λ (x : ℕ × List ℕ). c ∷ x.1) g, inl (k.1, sym (ap (λ (x : ℕ × List ℕ). x.0) g)))
-      | inr k ↦ elim (eqb_tells c 45) [
-        | inl l ↦ let g : (0, text) ≡ (v, rest) = some_same (0, text) (v, rest) (rw (k.0, l.0) at h) in
-            (c, ap (λ (x : ℕ × List ℕ). c ∷ x.1) g, inr (l.1, sym (ap (λ (x : ℕ × List ℕ). x.0) g)))
-        | inr l ↦ let g = rw (k.0, l.0) at h in absurd cc
-      ]
-    ]
+mark_yes letter bit (c ∷ text) rest v h = elim (eqb_tells c letter) [
+  | inl k ↦ let g : (bit, text) ≡ (v, rest) = some_same (bit, text) (v, rest) (rw k.0 at h) in (c, ap (λ x. c ∷ x.1) g, inl (k.1, sym (ap (λ x. x.0) g)))
+  | inr k ↦ elim (eqb_tells c 45) [
+    | inl l ↦ let g : (0, text) ≡ (v, rest) = some_same (0, text) (v, rest) (rw (k.0, l.0) at h) in (c, ap (λ x. c ∷ x.1) g, inr (l.1, sym (ap (λ x. x.0) g)))
+    | inr l ↦ let g = rw (k.0, l.0) at h in absurd cc
+  ]
+]
 
 dash_no : (letter bit : ℕ) (rest : List ℕ) → letter ≢ 45 → mark_at letter bit (45 ∷ rest) ≡ Some (0, rest)
 unfolding mark_at
@@ -132,16 +112,14 @@ sharing_yes : (text rest : List ℕ) (v : Bool) → sharing_at text ≡ Some (v,
     → (c : ℕ) × (text ≡ c ∷ rest) × (((c ≡ 115) × (v ≡ true)) ⊎ ((c ≡ 112) × (v ≡ false)))
 unfolding sharing_at
 sharing_yes [] rest v h = absurd cc
-sharing_yes (c ∷ text) rest v h =
-    elim (eqb_tells c 115) [
-      | inl k ↦ let g : (true, text) ≡ (v, rest) = some_same (true, text) (v, rest) (rw k.0 at h) in
-          (c, ap (λ (x : Bool × List ℕ). c ∷ x.1) g, inl (k.1, sym (ap (λ (x : Bool × List ℕ). x.0) g)))
-      | inr k ↦ elim (eqb_tells c 112) [
-        | inl l ↦ let g : (false, text) ≡ (v, rest) = some_same (false, text) (v, rest) (rw (k.0, l.0) at h) in
-            (c, ap (λ (x : Bool × List ℕ). c ∷ x.1) g, inr (l.1, sym (ap (λ (x : Bool × List ℕ). x.0) g)))
-        | inr l ↦ let g = rw (k.0, l.0) at h in absurd cc
-      ]
-    ]
+sharing_yes (c ∷ text) rest v h = elim (eqb_tells c 115) [
+  | inl k ↦ let g : (true, text) ≡ (v, rest) = some_same (true, text) (v, rest) (rw k.0 at h) in (c, ap (λ x. c ∷ x.1) g, inl (k.1, sym (ap (λ x. x.0) g)))
+  | inr k ↦ elim (eqb_tells c 112) [
+    | inl l ↦ let g : (false, text) ≡ (v, rest) = some_same (false, text) (v, rest) (rw (k.0, l.0) at h) in
+        (c, ap (λ x. c ∷ x.1) g, inr (l.1, sym (ap (λ x. x.0) g)))
+    | inr l ↦ let g = rw (k.0, l.0) at h in absurd cc
+  ]
+]
 
 sharing_no : (c : ℕ) (v : Bool) (rest : List ℕ) → ((c ≡ 115) × (v ≡ true)) ⊎ ((c ≡ 112) × (v ≡ false)) → sharing_at (c ∷ rest) ≡ Some (v, rest)
 unfolding sharing_at
@@ -203,14 +181,8 @@ pub record Marked (letter bit : ℕ) (next : ℕ → List ℕ → Option Kind) (
 
 marked : (letter bit : ℕ) (next : ℕ → List ℕ → Option Kind) (text : List ℕ) (kind : Kind)
     → then_some (mark_at letter bit text) (λ x. next x.0 x.1) ≡ Some kind → Marked letter bit next text kind
-marked letter bit next text kind h =
-    let a = then_yes (mark_at letter bit text) (λ x. next x.0 x.1) kind h in
-    let b = mark_yes letter bit text a.0.1 a.0.0 a.1 in
-    record { char = b.0; value = a.0.0; rest = a.0.1; parts = b.1; mark = b.2; behind = a.2 }
-
-four_parts : (text one two three tail : List ℕ) (r w x s : ℕ) → text ≡ r ∷ one → one ≡ w ∷ two → two ≡ x ∷ three
-    → three ≡ s ∷ tail → text ≡ (r ∷ w ∷ x ∷ s ∷ []) ++ tail
-four_parts text one two three tail r w x s a b c d = rw (a, b, c, d) refl
+marked letter bit next text kind h = let a = then_yes (mark_at letter bit text) (λ x. next x.0 x.1) kind h in
+    let b = mark_yes letter bit text a.0.1 a.0.0 a.1 in record { char = b.0; value = a.0.0; rest = a.0.1; parts = b.1; mark = b.2; behind = a.2 }
 
 -- three characters, and the kind that is read behind them
 module _ (text : List ℕ) (kind : Kind) (r : Marked 114 1 behind_first text kind) (w : Marked 119 2 (behind_second r.value) r.rest kind)
@@ -220,7 +192,7 @@ module _ (text : List ℕ) (kind : Kind) (r : Marked 114 1 behind_first text kin
   kind_is s tail shared parts sharing same behind = record {
     chars = r.char ∷ w.char ∷ x.char ∷ s ∷ [];
     tail = tail;
-    parts = four_parts text r.rest w.rest x.rest tail r.char w.char x.char s r.parts w.parts x.parts parts;
+    parts = rw (r.parts, w.parts, x.parts, parts) refl;
     is_kind = record {
       r = r.char;
       w = w.char;
@@ -233,9 +205,9 @@ module _ (text : List ℕ) (kind : Kind) (r : Marked 114 1 behind_first text kin
       read_mark = r.mark;
       write_mark = w.mark;
       exec_mark = x.mark;
-      rights = ap (λ (k : Kind). k.prot) (sym same);
-      sharing = subst (λ (k : Kind). ((s ≡ 115) × (k.shared ≡ true)) ⊎ ((s ≡ 112) × (k.shared ≡ false))) same sharing;
-      unsealed = ap (λ (k : Kind). k.sealed) (sym same);
+      rights = ap (λ k. k.prot) (sym same);
+      sharing = subst (λ k. ((s ≡ 115) × (k.shared ≡ true)) ⊎ ((s ≡ 112) × (k.shared ≡ false))) same sharing;
+      unsealed = ap (λ k. k.sealed) (sym same);
     };
     behind = behind;
   }
@@ -244,8 +216,7 @@ module _ (text : List ℕ) (kind : Kind) (r : Marked 114 1 behind_first text kin
   kind_behind =
       let a = then_yes (sharing_at x.rest) (λ s. ended_at (kind_of r.value w.value x.value s.0) s.1) kind x.behind in
       let b = sharing_yes x.rest a.0.1 a.0.0 a.1 in
-      let c = ended_yes (kind_of r.value w.value x.value a.0.0) kind a.0.1 a.2 in
-      kind_is b.0 a.0.1 a.0.0 b.1 b.2 c.0 c.1
+      let c = ended_yes (kind_of r.value w.value x.value a.0.0) kind a.0.1 a.2 in kind_is b.0 a.0.1 a.0.0 b.1 b.2 c.0 c.1
 
 kind_yes : (text : List ℕ) (kind : Kind) → kind_at text ≡ Some kind → KindFound text kind
 unfolding kind_at
@@ -257,13 +228,13 @@ kind_yes text kind h =
 kind_no : (chars tail : List ℕ) (kind : Kind) → IsKind chars kind → (tail ≡ []) ⊎ (starts (is 32) tail ≡ true) → kind_at (chars ++ tail) ≡ Some kind
 unfolding kind_at
 kind_no chars tail kind k behind =
-    let e : chars ++ tail ≡ k.r ∷ k.w ∷ k.x ∷ k.s ∷ tail = ap (λ (x : List ℕ). x ++ tail) k.four in
+    let e : chars ++ tail ≡ k.r ∷ k.w ∷ k.x ∷ k.s ∷ tail = ap (λ x. x ++ tail) k.four in
     let p = mark_no 114 1 k.r k.read (k.w ∷ k.x ∷ k.s ∷ tail) (λ z. cc) k.read_mark in
     let q = mark_no 119 2 k.w k.write (k.x ∷ k.s ∷ tail) (λ z. cc) k.write_mark in
     let r = mark_no 120 4 k.x k.exec (k.s ∷ tail) (λ z. cc) k.exec_mark in
     let s = sharing_no k.s kind.shared tail k.sharing in
     let t : kind_of k.read k.write k.exec kind.shared ≡ kind = λ i. record { prot = sym k.rights i; shared = kind.shared; sealed = sym k.unsealed i } in
-    rw e (rw p (rw q (rw r (rw s (ended_no (kind_of k.read k.write k.exec kind.shared) tail behind ∙ ap (λ (x : Kind). Some x) t)))))
+    rw e (rw p (rw q (rw r (rw s (ended_no (kind_of k.read k.write k.exec kind.shared) tail behind ∙ ap (λ x. Some x) t)))))
 
 -- ---- lines
 
@@ -294,15 +265,8 @@ pub record Addressed (next : ℕ → List ℕ → Option (ℕ × ℕ × Kind)) (
 
 addressed : (next : ℕ → List ℕ → Option (ℕ × ℕ × Kind)) (text : List ℕ) (line : ℕ × ℕ × Kind)
     → then_some (address_at text) (λ b. next b.0 b.1) ≡ Some line → Addressed next text line
-addressed next text line h =
-    let a = then_yes (address_at text) (λ b. next b.0 b.1) line h in
-    let b = address_yes text a.0.1 a.0.0 a.1 in
+addressed next text line h = let a = then_yes (address_at text) (λ b. next b.0 b.1) line h in let b = address_yes text a.0.1 a.0.0 a.1 in
     record { digits = b.0; number = a.0.0; rest = a.0.1; parts = b.2; is_address = b.1; behind = a.2 }
-
-line_parts_are : (text first one two second three four chars tail : List ℕ) → text ≡ first ++ one → one ≡ 45 ∷ two
-    → two ≡ second ++ three → three ≡ 32 ∷ four → four ≡ chars ++ tail
-    → text ≡ first ++ (45 ∷ (second ++ (32 ∷ (chars ++ tail))))
-line_parts_are text first one two second three four chars tail a b c d e = rw (a, b, c, d, e) refl
 
 -- the two addresses, and the kind that is read behind them
 module _ (text middle : List ℕ) (line : ℕ × ℕ × Kind) (one : Addressed behind_start text line) (dash : one.rest ≡ 45 ∷ middle)
@@ -314,10 +278,10 @@ module _ (text middle : List ℕ) (line : ℕ × ℕ × Kind) (one : Addressed b
     stop_digits = two.digits;
     chars = found.chars;
     tail = found.tail;
-    parts = line_parts_are text one.digits one.rest middle two.digits two.rest last found.chars found.tail one.parts dash two.parts space found.parts;
-    starts_at = subst (IsAddress one.digits) (ap (λ (x : ℕ × ℕ × Kind). x.0) same) one.is_address;
-    stops_at = subst (IsAddress two.digits) (ap (λ (x : ℕ × ℕ × Kind). x.1) same) two.is_address;
-    is_kind = subst (IsKind found.chars) (ap (λ (x : ℕ × ℕ × Kind). x.2) same) found.is_kind;
+    parts = rw (one.parts, dash, two.parts, space, found.parts) refl;
+    starts_at = subst (IsAddress one.digits) (ap (λ x. x.0) same) one.is_address;
+    stops_at = subst (IsAddress two.digits) (ap (λ x. x.1) same) two.is_address;
+    is_kind = subst (IsKind found.chars) (ap (λ x. x.2) same) found.is_kind;
     behind = found.behind;
   }
 
@@ -335,26 +299,15 @@ maps_yes text start stop kind h =
     let b = then_yes (behind_byte 45 a.rest) (λ u. behind_dash a.number u) (start, stop, kind) a.behind in
     line_behind text b.0 (start, stop, kind) a (behind_yes 45 a.rest b.0 b.1) (addressed (behind_stop a.number) b.0 (start, stop, kind) b.2)
 
-dash_stop : (rest : List ℕ) → NoDigit 16 (45 ∷ rest)
-unfolding worth
-dash_stop rest = omega arith
-
-space_stop : (rest : List ℕ) → NoDigit 16 (32 ∷ rest)
-unfolding worth
-space_stop rest = omega arith
-
 -- a maps line is found by maps_at
 pub maps_no : (text : List ℕ) (start stop : ℕ) (kind : Kind) → IsMapsLine text start stop kind → maps_at text ≡ Some (start, stop, kind)
-unfolding maps_at
+unfolding maps_at worth
 maps_no text start stop kind m =
-    let behind_stop = m.chars ++ m.tail in
-    let behind_start = m.stop_digits ++ (32 ∷ behind_stop) in
-    let a = address_no text m.start_digits (45 ∷ behind_start) start m.starts_at (dash_stop behind_start) m.parts in
+    let behind_stop = m.chars ++ m.tail in let behind_start = m.stop_digits ++ (32 ∷ behind_stop) in
+    let a = address_no text m.start_digits (45 ∷ behind_start) start m.starts_at (omega arith) m.parts in
     let b = behind_no 45 behind_start in
-    let c = address_no behind_start m.stop_digits (32 ∷ behind_stop) stop m.stops_at (space_stop behind_stop) refl in
-    let d = behind_no 32 behind_stop in
-    let e = kind_no m.chars m.tail kind m.is_kind m.behind in
-    rw a (rw b (rw c (rw d (rw e refl))))
+    let c = address_no behind_start m.stop_digits (32 ∷ behind_stop) stop m.stops_at (omega arith) refl in
+    let d = behind_no 32 behind_stop in let e = kind_no m.chars m.tail kind m.is_kind m.behind in rw a (rw b (rw c (rw d (rw e refl))))
 
 -- ---- what the reader of maps lines owes at each of its returns
 
@@ -384,8 +337,7 @@ no_line text h start stop kind m = let k = sym h ∙ maps_no text start stop kin
 
 one_line : (text : List ℕ) (a b c d : ℕ) (k l : Kind) → maps_at text ≡ Some (a, b, k) → IsMapsLine text c d l → (c ≡ a) × (d ≡ b) × (l ≡ k)
 one_line text a b c d k l h m =
-    let e : (c, d, l) ≡ (a, b, k) = some_same (c, d, l) (a, b, k) (sym (maps_no text c d l m) ∙ h) in
-    (ap (λ (x : ℕ × ℕ × Kind). x.0) e, ap (λ (x : ℕ × ℕ × Kind). x.1) e, ap (λ (x : ℕ × ℕ × Kind). x.2) e)
+    let e : (c, d, l) ≡ (a, b, k) = some_same (c, d, l) (a, b, k) (sym (maps_no text c d l m) ∙ h) in (ap (λ x. x.0) e, ap (λ x. x.1) e, ap (λ x. x.2) e)
 
 form_only : (text : List ℕ) → maps_at text ≡ None → (item : MapsItem) → SpellsMaps text item → ⊥
 unfolding SpellsMaps
@@ -399,7 +351,7 @@ form_line text h = record {
   found = tt;
   only = λ item s. absurd (form_only text h item s);
   refused = inl (no_line text h, refl);
-  only_there = λ bad r. elim r [ inl k ↦ ap (λ (x : BadCall). is_maps_err x) (sym k.1) | inr k ↦ absurd (no_line text h k.0 k.1 k.2 k.3) ];
+  only_there = λ bad r. elim r [ inl k ↦ ap (λ x. is_maps_err x) (sym k.1) | inr k ↦ absurd (no_line text h k.0 k.1 k.2 k.3) ];
   named = tt;
 }
 
@@ -416,7 +368,7 @@ order_line text a b k h le = record {
   found = tt;
   only = λ item s. absurd (order_only text a b k h le item s);
   refused = inr (a, b, k, maps_yes text a b k h, le, refl);
-  only_there = λ bad r. elim r [ inl m ↦ absurd (m.0 a b k (maps_yes text a b k h)) | inr m ↦ ap (λ (x : BadCall). is_maps_err x) (sym m.5) ];
+  only_there = λ bad r. elim r [ inl m ↦ absurd (m.0 a b k (maps_yes text a b k h)) | inr m ↦ ap (λ x. is_maps_err x) (sym m.5) ];
   named = tt;
 }
 
@@ -431,36 +383,29 @@ unfolding SpellsMaps
 past_only text a b k h past (Area area) s = let o = one_line text a b (area.lo * 4096) (area.hi * 4096) k area.kind h s.0 in
     let le = s.2 in let q = o.1 in absurd (omega arith)
 past_only text a b k h past (Past c d) s = let o = one_line text a b c d k s.0 h s.1 in
-    ap (λ (x : ℕ). is_maps_item (Past x b)) (sym o.0) ∙ ap (λ (x : ℕ). is_maps_item (Past c x)) (sym o.1)
+    ap (λ x. is_maps_item (Past x b)) (sym o.0) ∙ ap (λ x. is_maps_item (Past c x)) (sym o.1)
+
+-- what the line spells alone, where it isn't refused, is what was read
+found_alone : (text : List ℕ) (item : MapsItem) → SpellsMaps text item
+    → ((other : MapsItem) → SpellsMaps text other → is_maps_item item ≡ is_maps_item other) → ((bad : BadCall) → RefusesMaps text bad → ⊥)
+    → IsNamedMapsItem item → MapsAnswers text (Ok item)
+found_alone text item is only none named = record { found = is; only = only; refused = tt; only_there = λ bad h. absurd (none bad h); named = named }
 
 -- a maps line in order that ends above the user addresses is that alone, and isn't refused
 pub past_line : (text : List ℕ) (a b : ℕ) (k : Kind) → maps_at text ≡ Some (a, b, k) → a < b → user_end < b → MapsAnswers text (Ok (Past a b))
 unfolding SpellsMaps
-past_line text a b k h lt past = record {
-  found = (k, maps_yes text a b k h, lt, past);
-  only = past_only text a b k h past;
-  refused = tt;
-  only_there = λ bad r. absurd (not_refused text a b k h lt bad r);
-  named = tt;
-}
-
-page_of_start : (n : ℕ) → n % 4096 ≡ 0 → (n / 4096) * 4096 ≡ n
-page_of_start n h = omega arith
+past_line text a b k h lt past = found_alone text (Past a b) (k, maps_yes text a b k h, lt, past) (past_only text a b k h past) (not_refused text a b k h lt) tt
 
 abbrev area_of : ℕ → ℕ → Kind → AreaOf
 area_of a b k = record { lo = a; hi = b; kind = k }
-
-page_is : (p n : ℕ) → p * 4096 ≡ n → n / 4096 ≡ p
-page_is p n h = omega arith
 
 area_only : (text : List ℕ) (a b : ℕ) (k : Kind) → maps_at text ≡ Some (a, b, k) → b ≤ user_end → (item : MapsItem)
     → SpellsMaps text item → is_maps_item (Area (area_of (a / 4096) (b / 4096) k)) ≡ is_maps_item item
 unfolding SpellsMaps
 area_only text a b k h le (Area area) s =
-    let o = one_line text a b (area.lo * 4096) (area.hi * 4096) k area.kind h s.0 in
-    ap (λ (x : ℕ). is_maps_item (Area (area_of x (b / 4096) k))) (page_is area.lo a o.0)
-    ∙ ap (λ (x : ℕ). is_maps_item (Area (area_of area.lo x k))) (page_is area.hi b o.1)
-    ∙ ap (λ (x : Kind). is_maps_item (Area (area_of area.lo area.hi x))) (sym o.2)
+    let o = one_line text a b (area.lo * 4096) (area.hi * 4096) k area.kind h s.0 in let x = o.0 in let y = o.1 in
+    ap (λ x. is_maps_item (Area (area_of x (b / 4096) k))) (omega arith) ∙ ap (λ x. is_maps_item (Area (area_of area.lo x k))) (omega arith)
+    ∙ ap (λ x. is_maps_item (Area (area_of area.lo area.hi x))) (sym o.2)
 area_only text a b k h le (Past c d) s = let o = one_line text a b c d k s.0 h s.1 in let past = s.3 in let q = o.1 in absurd (omega arith)
 
 mark_small : (letter bit char v k : ℕ) → IsMark letter bit char v → bit < 2 ^ k → v < 2 ^ k
@@ -471,24 +416,17 @@ kind_named : (chars : List ℕ) (kind : Kind) → IsKind chars kind → kind.pro
 kind_named chars kind k =
     let both = or_lt 3 k.read k.write (mark_small 114 1 k.r k.read 3 k.read_mark (omega arith)) (mark_small 119 2 k.w k.write 3 k.write_mark (omega arith)) in
     let all = or_lt 3 (bit_or k.read k.write) k.exec both (mark_small 120 4 k.x k.exec 3 k.exec_mark (omega arith)) in
-    subst (λ (x : Prot). x.0 < 2 ^ 3) (sym k.rights) all
+    subst (λ x. x.0 < 2 ^ 3) (sym k.rights) all
 
 area_found : (text : List ℕ) (a b : ℕ) (k : Kind) → IsMapsLine text a b k → a < b → b ≤ user_end → SpellsMaps text (Area (area_of (a / 4096) (b / 4096) k))
 unfolding SpellsMaps
 area_found text a b k m lt le =
-    let p = page_of_start a m.starts_at.aligned in
-    let q = page_of_start b m.stops_at.aligned in
-    (subst (λ (x : ℕ). IsMapsLine text x ((b / 4096) * 4096) k) (sym p) (subst (λ (x : ℕ). IsMapsLine text a x k) (sym q) m), omega arith, omega arith)
+    let x = m.starts_at.aligned in let y = m.stops_at.aligned in
+    let p : (a / 4096) * 4096 ≡ a = omega arith in let q : (b / 4096) * 4096 ≡ b = omega arith in
+    (subst (λ x. IsMapsLine text x ((b / 4096) * 4096) k) (sym p) (subst (λ x. IsMapsLine text a x k) (sym q) m), omega arith, omega arith)
 
 -- a maps line in order within the user addresses is that area alone, and isn't refused
 pub area_line : (text : List ℕ) (a b : ℕ) (k : Kind) → maps_at text ≡ Some (a, b, k) → a < b → b ≤ user_end
     → MapsAnswers text (Ok (Area (record { lo = a / 4096; hi = b / 4096; kind = k })))
-area_line text a b k h lt le =
-    let m = maps_yes text a b k h in
-    record {
-      found = area_found text a b k m lt le;
-      only = area_only text a b k h le;
-      refused = tt;
-      only_there = λ bad r. absurd (not_refused text a b k h lt bad r);
-      named = kind_named m.chars k m.is_kind;
-    }
+area_line text a b k h lt le = let m = maps_yes text a b k h in let item = Area (area_of (a / 4096) (b / 4096) k) in
+    found_alone text item (area_found text a b k m lt le) (area_only text a b k h le) (not_refused text a b k h lt) (kind_named m.chars k m.is_kind)

@@ -17,7 +17,7 @@ use Rattle.strace_reader.proofs.LineAnswers.{LineAnswers, of_body, blank_line, r
 use Rattle.strace_reader.proofs.OneOutcome.{body_fixed}
 
 named_by : {text : List ℕ} (r : Result Item BadCall) → LineAnswers text r → (item : Item) → Spells text item → IsNamedItem item
-named_by r a item h = subst (λ (x : Result Item BadCall). IfOk x (λ i. IsNamedItem i)) (a.only item h) a.named
+named_by r a item h = subst (λ x. IfOk x (λ i. IsNamedItem i)) (a.only item h) a.named
 
 named_body : (text body : List ℕ) (pid : ℕ) (r : Result Body Refusal) → text ≢ [] → IsCut text pid body → BodyAnswers body r
     → (item : Item) → Spells text item → IsNamedItem item
@@ -27,11 +27,8 @@ named_body text body pid (Err f) some cut a item h = named_by _ (refused_body_li
 -- an item that a text spells
 pub named_item : (text : List ℕ) (item : Item) → Spells text item → IsNamedItem item
 named_item [] item h = named_by _ (blank_line [] refl) item h
-named_item (c ∷ text) item h =
-    let some : c ∷ text ≢ [] = λ e. cc in
-    let o = of_body (c ∷ text) some item h in
-    let r = body_fixed o.body o.it o.is in
-    named_body (c ∷ text) o.body o.pid r.0 some o.cut r.1 item h
+named_item (c ∷ text) item h = let some : c ∷ text ≢ [] = λ e. cc in let o = of_body (c ∷ text) some item h in
+    let r = body_fixed o.body o.it o.is in named_body (c ∷ text) o.body o.pid r.0 some o.cut r.1 item h
 
 -- a call that a text answers behind others
 pub named_answer : (fed : List (List ℕ)) (text : List ℕ) (pid : ℕ) (call : Call) (recorded : Option Recorded) (skipped : ℕ)

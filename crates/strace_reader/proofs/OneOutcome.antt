@@ -1,6 +1,6 @@
 -- A text has one outcome. What spells an item, and what refuses a text, each fix what a reader has to give; and one
 -- result has room for one outcome.
-use Rattle.std.proofs.Common.{◌≡◌, ◌≢◌, ℕ, List, [], ◌∷◌, ◌++◌, length, Result, Ok, Err, Option, Some, None, refl, sym, ◌∙◌, inl, inr}
+use Rattle.std.proofs.Common.{◌≡◌, ◌≢◌, ℕ, List, [], ◌∷◌, ◌++◌, length, Result, Ok, Err, Option, Some, None, refl, inl, inr}
 use Rattle.std.proofs.lemmas.Bool.{cases_lt}
 use Rattle.page_types.specs.declared.calls.Kind.{Kind}
 use Rattle.line_parts.specs.declared.refusal.Refusal.{Refusal}
@@ -36,23 +36,13 @@ record IsFixed {A : Type 0} (spells : A → Type 0) (refuses : BadCall → Type 
   -- each refusal of the text is the result
   pub only_there : (bad : BadCall) → refuses bad → result ≡ refused_as bad
 
-same_item : {A : Type 0} (a b : A) → found_as a ≡ found_as b → a ≡ b
-same_item a b e = cc
-
-same_refusal : {A : Type 0} (a b : BadCall) → refused_as {A = A} a ≡ refused_as b → a ≡ b
-same_refusal a b e = cc
-
-not_both : {A : Type 0} (a : A) (bad : BadCall) → found_as a ≡ refused_as bad → ⊥
-not_both a bad e = cc
-
 -- where each item and each refusal fixes the result, there is one of them
 one_of : {A : Type 0} (spells : A → Type 0) (refuses : BadCall → Type 0) → ((a : A) → spells a → IsFixed spells refuses)
-    → ((bad : BadCall) → refuses bad → IsFixed spells refuses)
-    → HasOneOutcome spells refuses
+    → ((bad : BadCall) → refuses bad → IsFixed spells refuses) → HasOneOutcome spells refuses
 one_of {A} spells refuses by_item by_refusal = record {
-  item = λ a b x y. let k = by_item a x in same_item a b (sym (k.only a x) ∙ k.only b y);
-  refusal = λ a b x y. let k = by_refusal a x in same_refusal {A = A} a b (sym (k.only_there a x) ∙ k.only_there b y);
-  never_both = λ a bad x y. let k = by_item a x in not_both a bad (sym (k.only a x) ∙ k.only_there bad y);
+  item = λ a b x y. let k = by_item a x in cc (k.only a x, k.only b y);
+  refusal = λ a b x y. let k = by_refusal a x in cc (k.only_there a x, k.only_there b y);
+  never_both = λ a bad x y. let k = by_item a x in cc (k.only a x, k.only_there bad y);
 }
 
 -- ---- lines of a trace
@@ -100,18 +90,13 @@ line_of text body pid (Err f) some cut a = fixed_line _ (refused_body_line text 
 
 spelled_line : (text : List ℕ) (item : Item) → Spells text item → LineIsFixed text
 spelled_line [] item h = fixed_line _ (blank_line [] refl)
-spelled_line (c ∷ text) item h =
-    let some : c ∷ text ≢ [] = λ e. cc in
-    let o = of_body (c ∷ text) some item h in
-    let r = body_fixed o.body o.it o.is in
-    line_of (c ∷ text) o.body o.pid r.0 some o.cut r.1
+spelled_line (c ∷ text) item h = let some : c ∷ text ≢ [] = λ e. cc in let o = of_body (c ∷ text) some item h in
+    let r = body_fixed o.body o.it o.is in line_of (c ∷ text) o.body o.pid r.0 some o.cut r.1
 
 refused_line : (text : List ℕ) (bad : BadCall) → Refuses text bad → LineIsFixed text
 unfolding Refuses
 refused_line [] bad h = fixed_line _ (blank_line [] refl)
-refused_line (c ∷ text) bad h =
-    let r = refused_fixed h.1 h.2 h.4 in
-    line_of (c ∷ text) h.1 h.0 r.0 (λ e. cc) h.3 r.1
+refused_line (c ∷ text) bad h = let r = refused_fixed h.1 h.2 h.4 in line_of (c ∷ text) h.1 h.0 r.0 (λ e. cc) h.3 r.1
 
 -- each line of a trace has one outcome
 pub one_outcome : (text : List ℕ) → HasOneOutcome (Spells text) (Refuses text)
@@ -127,14 +112,13 @@ fixed_maps r a = record { result = r; only = a.only; only_there = a.only_there }
 
 maps_fixed_by : (text : List ℕ) (o : Option (ℕ × ℕ × Kind)) → maps_at text ≡ o → MapsIsFixed text
 maps_fixed_by text None read = fixed_maps _ (form_line text read)
-maps_fixed_by text (Some line) read =
-    elim (cases_lt line.0 line.1) [
-      | inl lt ↦ elim (cases_lt user_end line.1) [
-        | inl past ↦ fixed_maps _ (past_line text line.0 line.1 line.2 read lt past)
-        | inr le ↦ fixed_maps _ (area_line text line.0 line.1 line.2 read lt le)
-      ]
-      | inr le ↦ fixed_maps _ (order_line text line.0 line.1 line.2 read le)
-    ]
+maps_fixed_by text (Some line) read = elim (cases_lt line.0 line.1) [
+  | inl lt ↦ elim (cases_lt user_end line.1) [
+    | inl past ↦ fixed_maps _ (past_line text line.0 line.1 line.2 read lt past)
+    | inr le ↦ fixed_maps _ (area_line text line.0 line.1 line.2 read lt le)
+  ]
+  | inr le ↦ fixed_maps _ (order_line text line.0 line.1 line.2 read le)
+]
 
 maps_fixed : (text : List ℕ) → MapsIsFixed text
 maps_fixed text = maps_fixed_by text (maps_at text) refl

@@ -10,7 +10,7 @@ use Rattle.line_parts.proofs.Leaves.{Last, byte_good, done_good, letters_good, r
 use Rattle.line_parts.proofs.Numerals.{NoNumeral, number_good, number_full, number_heads, zero_number}
 use Rattle.page_types.specs.declared.calls.Call.{Call}
 use Rattle.strace_reader.specs.declared.item.Body.{Body}
-use Rattle.strace_reader.specs.declared.item.Body.TheVariants.{Called, FirstHalf, SecondHalf, Other}
+use Rattle.strace_reader.specs.declared.item.Body.TheVariants.{Called, Other}
 use Rattle.page_types.specs.Named.{IsNamedCall}
 use Rattle.strace_reader.specs.declared.item.Recorded.{Recorded}
 use Rattle.strace_reader.specs.declared.item.Recorded.TheVariants.{Value, Failed}
@@ -23,12 +23,10 @@ use Rattle.strace_reader.proofs.ArgumentParts.{SpacesEnd, not_space, not_space_e
 
 equals_good : Good equals SpacesEnd equals_at
 unfolding equals_at
-equals_good =
-    good_then (byte_good 32 AtResult)
+equals_good = good_then (byte_good 32 AtResult)
     (λ a. good_then spaces_good (λ b. good_then (letters_good (codes "= ") AtResult) (λ c. spaces_good) (λ v b q w h hq. tt))
     (λ v b q w h hq. starts_as 61 (is 32) (b ++ q) (heads_then (is 61) (letters (codes "= ") AtResult) (λ c. spaces)
-    (letters_heads 61 (codes " ") AtResult) b q w h)))
-    (λ v b q w h hq. tt)
+    (letters_heads 61 (codes " ") AtResult) b q w h))) (λ v b q w h hq. tt)
 
 -- ---- results
 
@@ -54,25 +52,19 @@ plain = chain (number AtResult) (λ n. done (Some (Value n)))
 
 failed_good : Good failed ResultEnds failed_at
 unfolding failed_at
-failed_good =
-    good_choice (is 45)
-    (good_then (letters_good (codes "-1 ") AtResult)
-    (λ u. good_then (run_good is_word_byte is_word_byte AtResult 65 refl)
+failed_good = good_choice (is 45) (good_then (letters_good (codes "-1 ") AtResult) (λ u. good_then (run_good is_word_byte is_word_byte AtResult 65 refl)
     (λ w. done_good (Some (Failed (errno_of w))) ResultEnds)
-    (λ v b q w h hq. ap (λ (y : List ℕ). starts is_word_byte (y ++ q)) h.0 ∙ result_fails is_word_byte refl q hq))
-    (λ v b q w h hq. tt))
+    (λ v b q w h hq. ap (λ y. starts is_word_byte (y ++ q)) h.0 ∙ result_fails is_word_byte refl q hq)) (λ v b q w h hq. tt))
     (good_then (number_good AtResult) (λ n. done_good (Some (Value n)) ResultEnds)
-    (λ v b q w h hq. subst NoNumeral (sym (ap (λ (y : List ℕ). y ++ q) h.0)) (result_no_numeral q hq)))
+    (λ v b q w h hq. subst NoNumeral (sym (ap (λ y. y ++ q) h.0)) (result_no_numeral q hq)))
     (full_nonempty (is 45) minus (chain_full (letters (codes "-1 ") AtResult)
-    (λ u. chain (run is_word_byte is_word_byte AtResult) (λ w. done (Some (Failed (errno_of w)))))
-    (letters_full 45 (codes "1 ") AtResult)))
+    (λ u. chain (run is_word_byte is_word_byte AtResult) (λ w. done (Some (Failed (errno_of w))))) (letters_full 45 (codes "1 ") AtResult)))
     (full_stays (is 45) plain ResultEnds (chain_full (number AtResult) (λ n. done (Some (Value n))) (number_full AtResult)))
     (48 ∷ [], Some (Value 0), λ q h. (48 ∷ [], [], 0, refl, zero_number q (result_no_numeral q h), (refl, refl)))
 
 failed_empty : (rest : List ℕ) (v : Option Recorded) (x : Bool) → (arm minus plain x).takes [] rest v → ⊥
 failed_empty rest v true h = chain_full (letters (codes "-1 ") AtResult)
-    (λ u. chain (run is_word_byte is_word_byte AtResult) (λ w. done (Some (Failed (errno_of w)))))
-    (letters_full 45 (codes "1 ") AtResult) rest v h
+    (λ u. chain (run is_word_byte is_word_byte AtResult) (λ w. done (Some (Failed (errno_of w))))) (letters_full 45 (codes "1 ") AtResult) rest v h
 failed_empty rest v false h = chain_full (number AtResult) (λ n. done (Some (Value n))) (number_full AtResult) rest v h
 
 failed_full : Full failed
@@ -80,12 +72,9 @@ failed_full rest v h = failed_empty rest v (starts (is 45) rest) h
 
 recorded_good : Good recorded ResultEnds recorded_at
 unfolding recorded_at
-recorded_good =
-    good_choice (is 63) (good_then (byte_good 63 AtResult) (λ u. done_good None ResultEnds) (λ v b q w h hq. tt)) failed_good
-    (full_nonempty (is 63) (chain (byte 63 AtResult) (λ u. done None))
-    (chain_full (byte 63 AtResult) (λ u. done None) (byte_full 63 AtResult)))
-    (full_stays (is 63) failed ResultEnds failed_full)
-    (63 ∷ [], None, λ q h. (63 ∷ [], [], tt, refl, refl, (refl, refl)))
+recorded_good = good_choice (is 63) (good_then (byte_good 63 AtResult) (λ u. done_good None ResultEnds) (λ v b q w h hq. tt)) failed_good
+    (full_nonempty (is 63) (chain (byte 63 AtResult) (λ u. done None)) (chain_full (byte 63 AtResult) (λ u. done None) (byte_full 63 AtResult)))
+    (full_stays (is 63) failed ResultEnds failed_full) (63 ∷ [], None, λ q h. (63 ∷ [], [], tt, refl, refl, (refl, refl)))
 
 failed_starts : (b q : List ℕ) (v : Option Recorded) (x : Bool) → starts (is 45) (b ++ q) ≡ x → (arm minus plain x).takes b q v
     → starts not_space (b ++ q) ≡ true
@@ -99,42 +88,35 @@ recorded_starts b q v false e h = failed_starts b q v (starts (is 45) (b ++ q)) 
 
 -- ---- the end of the line
 
-stays_end : {A : Type 0} (q : List ℕ) (v : A) → Last v q → starts (is 32) q ≡ false
-stays_end q v h = ap (starts (is 32)) h
-
 last_end : (one : Part Body) (item : Body) (q : List ℕ) → q ≡ [] → (choice (is 32) one (end AtResult item)).takes [] q item
 last_end one item [] h = (refl, refl, refl)
 last_end one item (c ∷ q) h = absurd cc
 
 tail_good : (item : Body) → Good (tail item) Last (tail_at item)
 unfolding tail_at
-tail_good item =
-    good_choice (is 32) (anything_good item) (end_good AtResult item) (rest_nonempty (is 32) item)
-    (λ rest q v h hq. stays_end q v hq) ([], item, λ q h. last_end (anything no_byte item) item q h)
+tail_good item = good_choice (is 32) (anything_good item) (end_good AtResult item) (rest_nonempty (is 32) item)
+    (λ rest q v h hq. ap (starts (is 32)) hq) ([], item, λ q h. last_end (anything no_byte item) item q h)
 
 tail_starts : (item : Body) (b q : List ℕ) (w : Body) (x : Bool) → starts (is 32) (b ++ q) ≡ x
     → (arm (anything no_byte item) (end AtResult item) x).takes b q w → (b ++ q ≡ []) ⊎ (starts (is 32) (b ++ q) ≡ true)
 tail_starts item b q w true e h = inr e
-tail_starts item b q w false e h = inl (ap (λ (y : List ℕ). y ++ q) h.0 ∙ h.1)
+tail_starts item b q w false e h = inl (ap (λ y. y ++ q) h.0 ∙ h.1)
 
 abbrev resulted : Call → Part Body
 resulted call = chain equals (λ u. chain recorded (λ r. tail (Called call r)))
 
 resulted_full : (call : Call) → Full (resulted call)
 resulted_full call = chain_full equals (λ u. chain recorded (λ r. tail (Called call r)))
-    (chain_full (byte 32 AtResult) (λ a. chain spaces (λ b. chain (letters (codes "= ") AtResult) (λ c. spaces)))
-    (byte_full 32 AtResult))
+    (chain_full (byte 32 AtResult) (λ a. chain spaces (λ b. chain (letters (codes "= ") AtResult) (λ c. spaces))) (byte_full 32 AtResult))
 
 outcome_good : (call : Call) → Good (outcome call) Last (outcome_at call)
 unfolding outcome_at
-outcome_good call =
-    good_choice (is 32)
-    (good_then equals_good (λ u. good_then recorded_good (λ r. tail_good (Called call r))
+outcome_good call = good_choice (is 32) (good_then equals_good (λ u. good_then recorded_good (λ r. tail_good (Called call r))
     (λ v b q w h hq. tail_starts (Called call v) b q w (starts (is 32) (b ++ q)) refl h))
     (λ v b q w h hq. not_space_ends (b ++ q) (heads_then not_space recorded (λ r. tail (Called call r))
     (λ a t x k. recorded_starts a t x (starts (is 63) (a ++ t)) refl k) b q w h)))
     (end_good AtResult (Called call None)) (full_nonempty (is 32) (resulted call) (resulted_full call))
-    (λ rest q v h hq. stays_end q v hq) ([], Called call None, λ q h. last_end (resulted call) (Called call None) q h)
+    (λ rest q v h hq. ap (starts (is 32)) hq) ([], Called call None, λ q h. last_end (resulted call) (Called call None) q h)
 
 -- the parenthesis and what is behind it are read by closing_at, where nothing follows
 pub closing_good : (call : Call) → Good (closing call) Last (closing_at call)
@@ -153,10 +135,9 @@ Ends {A} part = (p q : List ℕ) (v : A) → part.takes p q v → q ≡ []
 
 -- a call that is played has no bit but the named ones
 abbrev pub IsSound : Body → Type 0
-IsSound (FirstHalf name len) = ⊥
-IsSound (SecondHalf name left) = ⊥
 IsSound Other = Unit {0}
 IsSound (Called c r) = IsNamedCall c
+IsSound body = ⊥
 
 -- the part takes a text to its end, and only as a sound body
 pub record Closes (part : Part Body) : Type 0 where

@@ -21,18 +21,15 @@ use Rattle.strace_reader.specs.declared.item.Body.TheVariants.{Other}
 use Rattle.strace_reader.specs.declared.item.Name.{Name}
 use Rattle.strace_reader.specs.declared.item.Name.TheVariants.{Mmap, Munmap, Mprotect, Fault as FaultName, Mseal, Brk as BrkName, Mremap}
 use Rattle.strace_reader.specs.Words.{call_head}
-use Rattle.strace_reader.specs.Calls.{comma, addr, prot, flags, descriptor, access, closing, munmap_arguments}
-use Rattle.strace_reader.specs.Calls.{protect_behind_prot, mprotect_arguments, fault_arguments, mseal_arguments, map_tail}
-use Rattle.strace_reader.specs.Calls.{map_behind_flags, map_behind_prot, mmap_arguments, arguments, call}
-use Rattle.strace_reader.specs.Calls.{optional, moving, brk_arguments, remap_behind, remap_lengths, mremap_arguments}
+use Rattle.strace_reader.specs.Calls.{comma, addr, prot, flags, descriptor, access, closing, munmap_arguments, protect_behind_prot, mprotect_arguments}
+use Rattle.strace_reader.specs.Calls.{fault_arguments, mseal_arguments, map_tail, map_behind_flags, map_behind_prot, mmap_arguments, arguments, call, optional}
+use Rattle.strace_reader.specs.Calls.{moving, brk_arguments, remap_behind, remap_lengths, mremap_arguments}
 use Rattle.strace_reader.specs.Reading.{comma_at, addr_at, munmap_at, protect_behind_prot_at, mprotect_at, fault_call_at, mseal_at, map_tail_at}
-use Rattle.strace_reader.specs.Reading.{map_behind_flags_at, map_behind_prot_at, mmap_at, arguments_at}
-use Rattle.strace_reader.specs.Reading.{brk_at, remap_behind_at, remap_lengths_at, mremap_at}
-use Rattle.strace_reader.proofs.ArgumentParts.{not_space, not_space_ends, digit_not_space, comma_closes}
-use Rattle.strace_reader.proofs.ArgumentParts.{starts_as, paren_closes, comma_good, comma_heads, addr_good, prot_good, prot_heads}
-use Rattle.strace_reader.proofs.ArgumentParts.{flags_good, flags_heads, descriptor_good, descriptor_heads, access_good}
-use Rattle.strace_reader.proofs.ArgumentParts.{access_heads, prot_end, flags_end, Below, prot_below, flags_below}
-use Rattle.strace_reader.proofs.ArgumentParts.{CloseEnds, close_no_numeral, addr_closed, optional_good, optional_closes}
+use Rattle.strace_reader.specs.Reading.{map_behind_flags_at, map_behind_prot_at, mmap_at, arguments_at, brk_at, remap_behind_at, remap_lengths_at, mremap_at}
+use Rattle.strace_reader.proofs.ArgumentParts.{not_space, not_space_ends, digit_not_space, comma_closes, starts_as, paren_closes, comma_good, comma_heads}
+use Rattle.strace_reader.proofs.ArgumentParts.{addr_good, prot_good, prot_heads, flags_good, flags_heads, descriptor_good, descriptor_heads, access_good}
+use Rattle.strace_reader.proofs.ArgumentParts.{access_heads, prot_end, flags_end, Below, prot_below, flags_below, CloseEnds, close_no_numeral, addr_closed}
+use Rattle.strace_reader.proofs.ArgumentParts.{optional_good, optional_closes}
 use Rattle.strace_reader.proofs.MovingParts.{MoveEnds, moving_good, moving_heads, moving_end}
 use Rattle.strace_reader.proofs.ResultParts.{closing_good, closing_heads, Ends, IsSound, Closes, chain_closes, closing_closes}
 
@@ -60,8 +57,7 @@ comma_then : {A : Type 0} {part : Part A} {next : A → Part Body} {follow : A �
     {r : List ℕ → Result (A × List ℕ) Refusal} {f : A → List ℕ → Result (Body × List ℕ) Refusal}
     → Heads not_space part → Good part follow r → ((v : A) → Good (next v) Last (f v)) → Follows follow next Last
     → Good (chain comma (λ u. chain part next)) Last (λ text. comma_at text >>= λ x. r x.1 >>= λ y. f y.0 y.1)
-comma_then {part = part} {next = next} heads good others follows =
-    good_then comma_good (λ u. good_then good others follows)
+comma_then {part = part} {next = next} heads good others follows = good_then comma_good (λ u. good_then good others follows)
     (λ v b q w h hq. not_space_ends (b ++ q) (heads_then not_space part next heads b q w h))
 
 -- a comma and a length, with a comma or a parenthesis behind it
@@ -90,7 +86,7 @@ protect_behind_prot_good a n None = done_good Other Last
 protect_behind_prot_good a n (Some p) = closing_good (Protect a n (record { 0 = p }))
 
 protect_behind_prot_follows : (a n : ℕ) → Follows ListEnds (protect_behind_prot a n) Last
-protect_behind_prot_follows a n None b q w h hq = ap (λ (y : List ℕ). y ++ q) h.0 ∙ hq
+protect_behind_prot_follows a n None b q w h hq = ap (λ y. y ++ q) h.0 ∙ hq
 protect_behind_prot_follows a n (Some p) b q w h hq = closing_close (Protect a n (record { 0 = p })) b q w h
 
 -- the arguments of mprotect are read by mprotect_at, where nothing follows
@@ -105,8 +101,7 @@ mprotect_good = addr_then (λ a u. chain (number Number) (λ n. chain comma (λ 
 -- the arguments of a page fault are read by fault_call_at, where nothing follows
 pub fault_good : Good fault_arguments Last fault_call_at
 unfolding fault_call_at
-fault_good = addr_then (λ a u. chain access (λ c. closing (FaultCall a c)))
-    (λ a. comma_then access_heads access_good (λ c. closing_good (FaultCall a c))
+fault_good = addr_then (λ a u. chain access (λ c. closing (FaultCall a c))) (λ a. comma_then access_heads access_good (λ c. closing_good (FaultCall a c))
     (λ c b q w h hq. starts_as 41 is_word_byte (b ++ q) (closing_heads (FaultCall a c) b q w h)))
 
 -- ---- mseal
@@ -123,27 +118,22 @@ mseal_good = addr_then (λ a u. chain (number Number) (λ n. chain comma (λ v. 
 -- the arguments of brk are read by brk_at, where nothing follows
 pub brk_good : Good brk_arguments Last brk_at
 unfolding brk_at
-brk_good =
-    good_then addr_closed
-    (λ a. good_then optional_good (λ b. closing_good (Brk b a)) (λ b f q w h hq. closing_heads (Brk b a) f q w h))
+brk_good = good_then addr_closed (λ a. good_then optional_good (λ b. closing_good (Brk b a)) (λ b f q w h hq. closing_heads (Brk b a) f q w h))
     (λ a b q w h hq. optional_closes (λ n. closing (Brk n a)) (λ n. closing_heads (Brk n a)) b q w h)
 
 -- ---- mremap
 
 remap_behind_good : (a o n : ℕ) (m : Option Bool) → Good (remap_behind a o n m) Last (remap_behind_at a o n m)
 remap_behind_good a o n None = done_good Other Last
-remap_behind_good a o n (Some may) =
-    good_then optional_good (λ h. closing_good (Remap a o n may h)) (λ h f q w k kq. closing_heads (Remap a o n may h) f q w k)
+remap_behind_good a o n (Some may) = good_then optional_good (λ h. closing_good (Remap a o n may h)) (λ h f q w k kq. closing_heads (Remap a o n may h) f q w k)
 
 remap_behind_follows : (a o n : ℕ) → Follows MoveEnds (remap_behind a o n) Last
-remap_behind_follows a o n None b q w h hq = ap (λ (y : List ℕ). y ++ q) h.0 ∙ hq
-remap_behind_follows a o n (Some may) b q w h hq =
-    optional_closes (λ k. closing (Remap a o n may k)) (λ k. closing_heads (Remap a o n may k)) b q w h
+remap_behind_follows a o n None b q w h hq = ap (λ y. y ++ q) h.0 ∙ hq
+remap_behind_follows a o n (Some may) b q w h hq = optional_closes (λ k. closing (Remap a o n may k)) (λ k. closing_heads (Remap a o n may k)) b q w h
 
 remap_lengths_good : (a o : ℕ) → Good (remap_lengths a o) Last (remap_lengths_at a o)
 unfolding remap_lengths_at
-remap_lengths_good a o =
-    length_then (λ n. comma_then moving_heads moving_good (remap_behind_good a o n) (remap_behind_follows a o n))
+remap_lengths_good a o = length_then (λ n. comma_then moving_heads moving_good (remap_behind_good a o n) (remap_behind_follows a o n))
     (λ n. comma_close (λ v. chain moving (remap_behind a o n)))
 
 -- the arguments of mremap are read by mremap_at, where nothing follows
@@ -156,8 +146,7 @@ mremap_good = addr_then (λ a u. chain (number Number) (remap_lengths a)) (λ a.
 
 map_tail_good : (c : Call) → Good (map_tail c) Last (map_tail_at c)
 unfolding map_tail_at
-map_tail_good c =
-    comma_then descriptor_heads descriptor_good (λ v. length_then (λ o. closing_good c) (λ o. closing_close c))
+map_tail_good c = comma_then descriptor_heads descriptor_good (λ v. length_then (λ o. closing_good c) (λ o. closing_close c))
     (λ v b q x h hq. comma_begins (λ w. chain (number Number) (λ o. closing c)) b q x h)
 
 map_behind_flags_good : (a n p : ℕ) (f : Option ℕ) → Good (map_behind_flags a n p f) Last (map_behind_flags_at a n p f)
@@ -165,7 +154,7 @@ map_behind_flags_good a n p None = done_good Other Last
 map_behind_flags_good a n p (Some f) = map_tail_good (Map a n (record { 0 = p }) (record { 0 = f }))
 
 map_behind_flags_follows : (a n p : ℕ) → Follows ListEnds (map_behind_flags a n p) Last
-map_behind_flags_follows a n p None b q w h hq = ap (λ (y : List ℕ). y ++ q) h.0 ∙ hq
+map_behind_flags_follows a n p None b q w h hq = ap (λ y. y ++ q) h.0 ∙ hq
 map_behind_flags_follows a n p (Some f) b q w h hq = comma_close
     (λ u. chain descriptor (λ v. chain comma (λ w. chain (number Number) (λ o. closing (Map a n (record { 0 = p }) (record { 0 = f })))))) b q w h
 
@@ -174,15 +163,14 @@ map_behind_prot_good a n None = done_good Other Last
 map_behind_prot_good a n (Some p) = comma_then flags_heads flags_good (map_behind_flags_good a n p) (map_behind_flags_follows a n p)
 
 map_behind_prot_follows : (a n : ℕ) → Follows ListEnds (map_behind_prot a n) Last
-map_behind_prot_follows a n None b q w h hq = ap (λ (y : List ℕ). y ++ q) h.0 ∙ hq
+map_behind_prot_follows a n None b q w h hq = ap (λ y. y ++ q) h.0 ∙ hq
 map_behind_prot_follows a n (Some p) b q w h hq = comma_close (λ u. chain flags (map_behind_flags a n p)) b q w h
 
 -- the arguments of mmap are read by mmap_at, where nothing follows
 pub mmap_good : Good mmap_arguments Last mmap_at
 unfolding mmap_at
 mmap_good = addr_then (λ a u. chain (number Number) (λ n. chain comma (λ v. chain prot (map_behind_prot a n)))) (λ a. length_then
-    (λ n. comma_then prot_heads prot_good (map_behind_prot_good a n) (map_behind_prot_follows a n))
-    (λ n. comma_close (λ v. chain prot (map_behind_prot a n))))
+    (λ n. comma_then prot_heads prot_good (map_behind_prot_good a n) (map_behind_prot_follows a n)) (λ n. comma_close (λ v. chain prot (map_behind_prot a n))))
 
 -- ---- each call
 
@@ -203,16 +191,13 @@ begun_fine : (word : List ℕ) → Fine (begun word) Any
 begun_fine word = record { some = (word, tt, λ q h. refl); before = λ a rest q v h hq. h }
 
 begun_rest : (word rest after : List ℕ) → Took (begun word) (word ++ rest) tt after → rest ≡ after
-begun_rest word rest after t = append_cancel_left word rest after (t.parts ∙ ap (λ (y : List ℕ). y ++ after) t.takes)
+begun_rest word rest after t = append_cancel_left word rest after (t.parts ∙ ap (λ y. y ++ after) t.takes)
 
 call_reads : (name : Name) (rest : List ℕ) → Reads (call name) Last (call_head name ++ rest) (arguments_at name rest)
 unfolding call
-call_reads name rest =
-    reads_then (begun (call_head name)) (λ u. arguments name) Any Last (call_head name ++ rest) (Ok (tt, rest))
-    (λ u. arguments_at name rest) (λ v b q w h hq. tt) (begun_fine (call_head name)) (λ u. (arguments_good name).fine)
-    (begun_took (call_head name) rest)
-    (λ x t. subst (λ (y : List ℕ). Reads (arguments name) Last y (arguments_at name rest))
-    (begun_rest (call_head name) rest x.1 t) ((arguments_good name).reads rest))
+call_reads name rest = reads_then (begun (call_head name)) (λ u. arguments name) Any Last (call_head name ++ rest) (Ok (tt, rest))
+    (λ u. arguments_at name rest) (λ v b q w h hq. tt) (begun_fine (call_head name)) (λ u. (arguments_good name).fine) (begun_took (call_head name) rest)
+    (λ x t. subst (λ y. Reads (arguments name) Last y (arguments_at name rest)) (begun_rest (call_head name) rest x.1 t) ((arguments_good name).reads rest))
 
 behind_nothing : (b q : List ℕ) → b ≡ [] → b ++ q ≡ [] → q ≡ []
 behind_nothing [] q e h = h
@@ -283,9 +268,9 @@ pub record IsRefused {A : Type 0} (part : Part A) (text : List ℕ) (column : �
 whole_of : {A : Type 0} (part : Part A) (text rest : List ℕ) (item : A) → Ends part → Took part text item rest → IsWhole part text item
 whole_of {A} part text rest item ends t =
     let none : rest ≡ [] = ends t.front rest item t.takes in
-    let front : text ≡ t.front = t.parts ∙ ap (λ (y : List ℕ). t.front ++ y) none ∙ append-nil t.front in
+    let front : text ≡ t.front = t.parts ∙ ap (λ y. t.front ++ y) none ∙ append-nil t.front in
     record {
-      spelled = subst (λ (y : List ℕ). part.takes y [] item) (sym front) (subst (λ (y : List ℕ). part.takes t.front y item) none t.takes);
+      spelled = subst (λ y. part.takes y [] item) (sym front) (subst (λ y. part.takes t.front y item) none t.takes);
       only = λ other h. (t.only text [] rest other h (append-nil text ∙ t.parts) (alike_same rest)).1;
       clean = λ column what r. t.clean r.front r.over r.rest what r.due r.parts;
     }
@@ -293,8 +278,7 @@ whole_of {A} part text rest item ends t =
 refused_of : {A : Type 0} (part : Part A) (text : List ℕ) (f : Refusal) (column : ℕ) → column + f.left ≡ length text + 1
     → Stuck part Last text f → IsRefused part text column f.what
 refused_of {A} part text f column place s =
-    let k = ap length s.parts ∙ length-append s.front (s.over ++ s.rest) in
-    let l = s.left in
+    let k = ap length s.parts ∙ length-append s.front (s.over ++ s.rest) in let l = s.left in
     record {
       refused = record {
         front = s.front;
@@ -309,10 +293,7 @@ refused_of {A} part text f column place s =
       none = λ item h. s.ends text [] s.rest item h (append-nil text ∙ s.parts ∙ sym (append_assoc s.front s.over s.rest)) (alike_same s.rest);
       one = λ c w r.
           let e = s.one r.front r.over r.rest w r.due r.parts in
-          let m = ap length r.parts ∙ length-append r.front (r.over ++ r.rest) in
-          let p = r.place in
-          let n = e.0 in
-          (omega arith, e.1);
+          let m = ap length r.parts ∙ length-append r.front (r.over ++ r.rest) in let p = r.place in let n = e.0 in (omega arith, e.1);
     }
 
 -- where arguments are read as a body, the call's name with them behind it is that body alone

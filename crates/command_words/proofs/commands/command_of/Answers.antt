@@ -24,24 +24,19 @@ returns-in_err-asked-clause-one c first other h _ =
 
 -- each command that the words spell is the answer
 pub returns-clause-only : goal.returns-clause-only
-returns-clause-only c =
-    spells_once c.as_str.result.now (map string_bytes c.in_ok-name.rest.now) (map string_bytes c.args.words.now) c.in_ok-asked.asked
+returns-clause-only c = spells_once c.as_str.result.now (map string_bytes c.in_ok-name.rest.now) (map string_bytes c.args.words.now) c.in_ok-asked.asked
     c.command_named.result (search rules) c.in_ok-asked.ensures.only c.command_named.ensures.only
 
 -- the numbers of the answer are in their ranges
 pub returns-clause-in_range : goal.returns-clause-in_range
-returns-clause-in_range c =
-    some_weaker c.command_named.result (IsCommand c.as_str.result.now c.in_ok-asked.asked) HasRanges
-    (has_ranges c.as_str.result.now (map string_bytes c.in_ok-name.rest.now) c.in_ok-asked.asked c.in_ok-asked.ensures.asked)
-    c.command_named.ensures.is
+returns-clause-in_range c = some_weaker c.command_named.result (IsCommand c.as_str.result.now c.in_ok-asked.asked) HasRanges
+    (has_ranges c.as_str.result.now (map string_bytes c.in_ok-name.rest.now) c.in_ok-asked.asked c.in_ok-asked.ensures.asked) c.command_named.ensures.is
 
 -- where there is no answer, the words spell no command
 pub returns-clause-refused : goal.returns-clause-refused
-returns-clause-refused c none command h =
-    is_answer c.command_named.result command
+returns-clause-refused c none command h = is_answer c.command_named.result command
     (spells_once c.as_str.result.now (map string_bytes c.in_ok-name.rest.now) (map string_bytes c.args.words.now) c.in_ok-asked.asked
-    c.command_named.result (search rules) c.in_ok-asked.ensures.only c.command_named.ensures.only command h)
-    none
+    c.command_named.result (search rules) c.in_ok-asked.ensures.only c.command_named.ensures.only command h) none
 
 -- two commands that the words spell are both the answer, so they are one
 pub returns-clause-one : goal.returns-clause-one

@@ -5,8 +5,7 @@ use Rattle.command_words.proofs.commands.head_of.Goals as goal
 
 -- where a name and a number around `=` are no option, no option begins the words
 pub returns-in_err-given-clause-none : goal.returns-in_err-given-clause-none
-returns-in_err-given-clause-none c _ =
-    not_joined c.as_str-word.result.now c.in-Some.name.now c.in-Some.value.now (map string_bytes c.in_ok-first.rest.now)
+returns-in_err-given-clause-none c _ = not_joined c.as_str-word.result.now c.in-Some.name.now c.in-Some.value.now (map string_bytes c.in_ok-first.rest.now)
     (map string_bytes c.args.words.now) (search rules) (search rules) (search rules) (search rules) (c.in_err-given.ensures.none refl)
 
 -- where the word is no flag, and no name of the number behind it, no option begins the words

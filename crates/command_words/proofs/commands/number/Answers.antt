@@ -15,5 +15,4 @@ returns-else-eq-clause-none c _ n fits same =
     let read : c.parse.result ≡ Ok n = parse-decimal 32 n c.args.text.now c.parse.result fits (omega arith) same c.parse.ensures.value.0 in
     let is : c.in-Ok.number ≡ n = cc (read, c.in-Ok.is) in
     let text : c.format.result.now ≡ c.args.text.now = c.format.ensures.text ∙ ap decimal is ∙ sym same in
-    let equal : c.eq.result ≡ true = c.eq.ensures ∙ (bytes_eq-Decides c.format.result.now c.args.text.now).1 text in
-    cc (equal, c.if-eq.false)
+    let equal : c.eq.result ≡ true = c.eq.ensures ∙ (bytes_eq-Decides c.format.result.now c.args.text.now).1 text in cc (equal, c.if-eq.false)

@@ -31,8 +31,7 @@ returns-in-Some-2-clause-only c v = one_verdict _ _ _ v (returns-in-Some-2-claus
 -- one more line is right
 pub log-preserved : goal.log-preserved
 log-preserved c =
-    let more =
-    reached_more _ _ _ c.in-Some.line.now _ c.log.seen _ c.log.space _ _ c.in-Some.ensures.line c.log.invariant.0
+    let more = reached_more _ _ _ c.in-Some.line.now _ c.log.seen _ c.log.space _ _ c.in-Some.ensures.line c.log.invariant.0
     (c.begins_log.ensures.0 c.if-not-begins_log.false) c.in_default-2.is c.in_ok-why.ensures in
     (more.0, omega (arith, more.1, c.log.invariant.1, c.in-Some.ensures.shorter))
 

@@ -7,8 +7,7 @@ returns-in_default c = λ s a b e. absurd (no_ends s c.args.text.now a b e c.in_
 
 -- ends that are out of order are those of no span
 pub returns-then-lo-hi : goal.returns-then-lo-hi
-returns-then-lo-hi c = λ s a b e.
-    absurd (in_order s _ _ (ends_are s c.args.text.now c.in-Some.lo c.in-Some.hi a b e c.in-Some.ensures) c.if-lo-hi.true)
+returns-then-lo-hi c = λ s a b e. absurd (in_order s _ _ (ends_are s c.args.text.now c.in-Some.lo c.in-Some.hi a b e c.in-Some.ensures) c.if-lo-hi.true)
 
 -- nor are ends that are too high
 pub returns-then-hi-gt-LIMIT : goal.returns-then-hi-gt-LIMIT

@@ -13,8 +13,7 @@ returns-then-not-may_be c before place = (
   λ fits.
       let told =
       fits_tells _ _ c.in_ok-reply.exact c.args.entry.now.under c.areas-areas.ensures.in_order c.in_ok-reply.ensures.fits c.in_ok-reply.ensures.simple in
-      let may = c.may_be.ensures.1 (told.1 fits) in
-      absurd cc,
+      let may = c.may_be.ensures.1 (told.1 fits) in absurd cc,
 )
 
 -- it fits, and the reply is another
@@ -25,10 +24,7 @@ returns-then-not-same_reply c before place =
       place.number,
       place.order,
       told.0 (c.may_be.ensures.0 c.if-not-may_be.false),
-      λ C right.
-          let one = one_answer _ _ _ _ _ C c.in_ok-reply.ensures.answer right in
-          let same = c.same_reply.ensures.1 (sym one.0) in
-          absurd cc,
+      λ C right. let one = one_answer _ _ _ _ _ C c.in_ok-reply.ensures.answer right in let same = c.same_reply.ensures.1 (sym one.0) in absurd cc,
     )
 
 -- it fits, and the reply is right

@@ -3,8 +3,7 @@ use Rattle.raw_lines.proofs.fields.behind_field.Goals as goal
 
 -- where no field stands behind the spaces, the text has none
 pub returns-in_err-rest-clause-is : goal.returns-in_err-rest-clause-is
-returns-in_err-rest-clause-is c = rw c.from_residual.ensures
-    (behind_none c.args.text.now c.skip_spaces.result.now c.skip_spaces.ensures c.in_err-rest.ensures)
+returns-in_err-rest-clause-is c = rw c.from_residual.ensures (behind_none c.args.text.now c.skip_spaces.result.now c.skip_spaces.ensures c.in_err-rest.ensures)
 
 -- behind a field and its spaces this is left
 pub returns-clause-is : goal.returns-clause-is

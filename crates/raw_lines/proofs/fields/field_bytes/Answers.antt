@@ -11,6 +11,4 @@ returns c =
     either_way c.bracket.result ((front rest : List ℕ) → IsBracket front → text ≡ front ++ rest → ⊥)
     ((front rest : List ℕ) → IsFieldTo front rest → text ≡ front ++ rest → ⊥)
     (λ x. (front : List ℕ) × IsBracket front × (text ≡ front ++ x.now)) (λ x. (front : List ℕ) × IsFieldTo front x.now × (text ≡ front ++ x.now))
-    (λ none. field_none text c.in_default.ensures c.in_default-since.ensures none)
-    (λ x h. (h.0, inr (inr h.1), h.2))
-    c.bracket.ensures
+    (λ none. field_none text c.in_default.ensures c.in_default-since.ensures none) (λ x h. (h.0, inr (inr h.1), h.2)) c.bracket.ensures

@@ -12,7 +12,4 @@ number_end-requires-in-None-clause-mark c = x_no_digit
 
 -- neither form
 pub returns-in-None-clause-none : goal.returns-in-None-clause-none
-returns-in-None-clause-none c = λ none n h. elim h [
-  | inl d ↦ c.in-None.ensures.none refl n d
-  | inr x ↦ c.number_end-in-None.ensures.none none n x
-]
+returns-in-None-clause-none c = λ none n h. elim h [ inl d ↦ c.in-None.ensures.none refl n d | inr x ↦ c.number_end-in-None.ensures.none none n x ]

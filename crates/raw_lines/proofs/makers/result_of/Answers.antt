@@ -27,7 +27,4 @@ returns-in-None-clause-some c = if_some _ _ _ (λ n h. inr (λ e. c.in-None.ensu
 
 -- there is none
 pub returns-in-None-clause-none : goal.returns-in-None-clause-none
-returns-in-None-clause-none c = λ none n h. elim h [
-  | inl x ↦ c.in-None.ensures x.0 x.1
-  | inr y ↦ c.plain_result.ensures.none none n y.1
-]
+returns-in-None-clause-none c = λ none n h. elim h [ inl x ↦ c.in-None.ensures x.0 x.1 | inr y ↦ c.plain_result.ensures.none none n y.1 ]

@@ -10,6 +10,4 @@ returns-in-None c =
     either_way c.strip_back-in-None.result ((front : List ℕ) → text ≢ front ++ codes " detached")
     ((EndsWith (codes " attached") text → ⊥) × (EndsWith (codes " detached") text → ⊥))
     (λ x. text ≡ x.now ++ codes " detached") (λ x. (text ≡ x.now ++ codes " attached") ⊎ (text ≡ x.now ++ codes " detached"))
-    (λ none. (λ h. c.in-None.ensures h.0 h.1, λ h. none h.0 h.1))
-    (λ x e. inr e)
-    c.strip_back-in-None.ensures
+    (λ none. (λ h. c.in-None.ensures h.0 h.1, λ h. none h.0 h.1)) (λ x e. inr e) c.strip_back-in-None.ensures

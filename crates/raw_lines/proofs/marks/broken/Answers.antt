@@ -18,12 +18,9 @@ returns-then-front-numbered c = λ f h.
 -- before the digits the message's words stand, or none broke into the line
 pub returns : goal.returns
 returns c =
-    let text = c.args.text.now in
-    let numbered = c.in_ok-numbered.numbered.now in
-    let front = c.before_digits-front.result.now in
-    let d = c.before_digits-front.ensures.digits in
+    let text = c.args.text.now in let numbered = c.in_ok-numbered.numbered.now in
+    let front = c.before_digits-front.result.now in let d = c.before_digits-front.ensures.digits in
     either_way c.strip_back.result ((f : List ℕ) → front ≢ f ++ codes "strace: Process ") ((f : List ℕ) → IsBroken text f → ⊥)
     (λ x. front ≡ x.now ++ codes "strace: Process ") (λ x. IsBroken text x.now)
     (λ none f h. none f (broken_at text numbered front d.0 f c.in_ok-numbered.ensures d.2 d.1 c.before_digits-front.ensures.all h).words)
-    (λ x e. broken_yes text numbered front x.now d.0 c.in_ok-numbered.ensures d.2 d.1 c.if-front-numbered.false e)
-    c.strip_back.ensures
+    (λ x e. broken_yes text numbered front x.now d.0 c.in_ok-numbered.ensures d.2 d.1 c.if-front-numbered.false e) c.strip_back.ensures

@@ -8,6 +8,4 @@ returns-in_err-at c = rw c.from_residual.ensures (deleted_no c.args.text.now c.a
 
 -- it is mended where it is found first
 pub returns : goal.returns
-returns c =
-    let f = c.in_ok-at.ensures in
-    deleted_yes c.args.text.now c.args.bad c.in_ok-at.at (search rules) (search rules) f.1 f.0.before
+returns c = let f = c.in_ok-at.ensures in deleted_yes c.args.text.now c.args.bad c.in_ok-at.at (search rules) (search rules) f.1 f.0.before

@@ -11,6 +11,5 @@ returns-in-Ok c =
 
 -- where none stands there nothing is mended
 pub returns-in-Err : goal.returns-in-Err
-returns-in-Err c =
-    let s = c.split_at.ensures in
+returns-in-Err c = let s = c.split_at.ensures in
     word_no c.args.text.now c.split_at.result.0.now c.split_at.result.1.now c.args.bad _ s.by_index.0 s.front_len c.requires.1 c.in-Err.ensures

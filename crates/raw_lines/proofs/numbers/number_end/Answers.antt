@@ -3,17 +3,7 @@ use Rattle.std.specs.Prelude.{◌==◌}
 use Rattle.line_parts.specs.Reading.{digits_of}
 use Rattle.line_parts.proofs.Leaves.{not_both}
 use Rattle.strace_reader.proofs.FormFacts.{narrow_some, narrow_none}
-use Rattle.raw_lines.proofs.NumberEnds.{
-  last_mark,
-  behind,
-  empty_of,
-  number_no_mark,
-  number_word,
-  number_rest,
-  number_some,
-  number_narrow,
-  number_found,
-}
+use Rattle.raw_lines.proofs.NumberEnds.{last_mark, behind, empty_of, number_no_mark, number_word, number_rest, number_some, number_narrow, number_found}
 use Rattle.raw_lines.proofs.numbers.number_end.Goals as goal
 use Rattle.raw_lines.proofs.numbers.number_end.Goals.{then-not-is_empty-via-then-not-is_empty, then-not-is_empty-via-else-not-is_empty+then-at-text}
 
@@ -30,8 +20,7 @@ returns-then-not-ends_with-clause-none c = λ none n h.
 -- other bytes behind it, or none
 pub returns-then-not-is_empty-clause-none : goal.returns-then-not-is_empty-clause-none
 returns-then-not-is_empty-clause-none c = λ none n h.
-    let s = last_mark c.args.base c.args.mark c.args.text.now c.in_ok-at.at c.requires.mark c.in_ok-at.ensures in
-    elim c.then-not-is_empty.branch [
+    let s = last_mark c.args.base c.args.mark c.args.text.now c.in_ok-at.at c.requires.mark c.in_ok-at.ensures in elim c.then-not-is_empty.branch [
       | then-not-is_empty-via-then-not-is_empty w ↦
           let e = c.digits-value.ensures.rest ∙ number_rest c.args.base c.args.word.now c.args.mark c.args.text.now c.in_ok-at.at n s h in
           not_both (c.is_empty.ensures ∙ ap (λ (x : List ℕ). length x == 0) e) w.if-not-is_empty.true
@@ -53,8 +42,7 @@ pub returns-in_default-clause-none : goal.returns-in_default-clause-none
 returns-in_default-clause-none c = λ none n.
     let s = last_mark c.args.base c.args.mark c.args.text.now c.in_ok-at.at c.requires.mark c.in_ok-at.ensures in
     let v = narrow_some (digits_of c.args.base 0 (behind c.in_ok-at.at c.args.text.now)).0 c.in-Some.pid (sym c.digits-value.ensures.value ∙ c.in-Some.is) in
-    let wide = c.if-pid-lt-PIDS.false in
-    number_narrow c.args.base c.args.word.now c.args.mark c.args.text.now c.in_ok-at.at n s (omega arith)
+    let wide = c.if-pid-lt-PIDS.false in number_narrow c.args.base c.args.word.now c.args.mark c.args.text.now c.in_ok-at.at n s (omega arith)
 
 -- one of more than 64 bits
 pub returns-in_default-2-clause-none : goal.returns-in_default-2-clause-none

@@ -24,21 +24,17 @@ returns-then-is_some c =
     let text = c.args.text.now in
     let unmarked = not_from_Decides c.is_unread.result c.is_unread.ensures c.if-is_unread.false in
     let k = some_value c.broken.result ((front : List ℕ) → IsBroken text front → ⊥) (λ x. IsBroken text x.now) (sym c.is_some.ensures ∙ c.if-is_some.true)
-    c.broken.ensures in
-    (λ e. absurd cc, λ h. absurd (broken_not_still text k.0.now unmarked k.1 h))
+    c.broken.ensures in (λ e. absurd cc, λ h. absurd (broken_not_still text k.0.now unmarked k.1 h))
 
 -- another line does just where nothing is taken from it
 pub returns : goal.returns
 returns c =
-    let text = c.args.text.now in
-    let front = c.taken.result.0.now in
-    let end = c.taken.result.1.now in
+    let text = c.args.text.now in let front = c.taken.result.0.now in let end = c.taken.result.1.now in
     let unmarked = not_from_Decides c.is_unread.result c.is_unread.ensures c.if-is_unread.false in
     let whole = no_value c.broken.result ((f : List ℕ) → IsBroken text f → ⊥) (λ x. IsBroken text x.now) (sym c.is_some.ensures ∙ c.if-is_some.false)
     c.broken.ensures in
     Decides-like {P = length front + length end ≡ length text} {Q = IsStill text} _
     (λ e. taken_still text (front ++ end) unmarked (not_from_Decides c.is_message.result c.is_message.ensures c.if-is_message.false)
-    (not_from_Decides c.is_stack_line.result c.is_stack_line.ensures c.if-is_stack_line.false) whole c.taken.ensures.taken
-    (length-append front end ∙ e))
+    (not_from_Decides c.is_stack_line.result c.is_stack_line.ensures c.if-is_stack_line.false) whole c.taken.ensures.taken (length-append front end ∙ e))
     (λ h. sym (length-append front end) ∙ still_long text (front ++ end) unmarked c.taken.ensures.taken h)
     (Decides-eqb (length front + length end) (length text))

@@ -20,8 +20,7 @@ returns-in_default c = c.items.invariant ∙ list_left (listed_word_at c.args.li
 
 -- an item with no bar behind it ends the list, with its bits
 pub returns-then-not-begins : goal.returns-then-not-begins
-returns-then-not-begins c = c.items.invariant
-    ∙ list_last (listed_word_at c.args.list) c.items.bits c.in-Some.more c.items.left.now c.in_ok-more.rest.now
+returns-then-not-begins c = c.items.invariant ∙ list_last (listed_word_at c.args.list) c.items.bits c.in-Some.more c.items.left.now c.in_ok-more.rest.now
     (rw c.in-Some.is at c.in_ok-more.ensures) (sym c.if-not-begins.ensures)
 
 -- behind an item and its bar fewer bytes are left

@@ -1,22 +1,9 @@
-use Rattle.std.proofs.Common.{◌≡◌, ◌≢◌, ℕ, List, ◌++◌}
-use Rattle.strace_reader.specs.declared.item.Name.{Name}
-use Rattle.strace_reader.specs.declared.item.Name.TheVariants.{Mmap, Munmap, Mprotect, Fault, Mseal, Brk, Mremap}
 use Rattle.strace_reader.specs.Words.{call_head}
 use Rattle.strace_reader.specs.Grammar.{NoHead}
+use Rattle.strace_reader.proofs.BodyAnswers.{each_name}
 use Rattle.strace_reader.proofs.forms.named.Goals as goal
-
-none_of : (text : List ℕ) →
-    (NoHead call_head Mmap text × NoHead call_head Munmap text × NoHead call_head Mprotect text × NoHead call_head Mremap text) →
-    NoHead call_head Brk text → NoHead call_head Fault text → NoHead call_head Mseal text → (name : Name) → NoHead call_head name text
-none_of text m b f s Mmap = m.0
-none_of text m b f s Munmap = m.1
-none_of text m b f s Mprotect = m.2
-none_of text m b f s Mremap = m.3
-none_of text m b f s Brk = b
-none_of text m b f s Fault = f
-none_of text m b f s Mseal = s
 
 -- a text that begins with none of the seven begins as no call
 pub returns : goal.returns
-returns c = none_of c.args.text.now c.in_default.ensures c.in_default-strip_front.ensures c.in_default-strip_front-2.ensures
-    c.in_default-strip_front-3.ensures
+returns c = let m = c.in_default.ensures in each_name (λ name. NoHead call_head name c.args.text.now)
+    (m.0, m.1, m.2, c.in_default-strip_front-2.ensures, c.in_default-strip_front-3.ensures, c.in_default-strip_front.ensures, m.3)

@@ -13,6 +13,4 @@ returns-in-None c =
     let text = c.args.text.now in
     either_way c.bracketed.result ((pid : ℕ) → (rest : List ℕ) → IsBracketed text pid rest → ⊥) ((pid : ℕ) → (rest : List ℕ) → IsPrefixed text pid rest → ⊥)
     (λ x. IsBracketed text x.0 x.1.now) (λ x. IsPrefixed text x.0 x.1.now)
-    (λ none pid rest h. elim h [ inl a ↦ c.in-None.ensures pid rest a | inr a ↦ none pid rest a ])
-    (λ x h. inr h)
-    c.bracketed.ensures
+    (λ none pid rest h. elim h [ inl a ↦ c.in-None.ensures pid rest a | inr a ↦ none pid rest a ]) (λ x h. inr h) c.bracketed.ensures

@@ -9,19 +9,16 @@ use Rattle.strace_reader.proofs.lines.read_body.Goals as goal
 
 -- what begins with three dashes or three pluses is passed over, and nothing else
 pub returns-then-begins_with : goal.returns-then-begins_with
-returns-then-begins_with c =
-    let a = elim c.then-begins_with.branch as (λ x. BodyAnswers c.args.text.now (Ok Other)) [
-      | then-begins_with-via-then-begins_with w ↦ signal_body c.args.text.now (inl (c.begins_with.ensures.0 w.if-begins_with.true))
-      | then-begins_with-via-else-begins_with+then-begins_with-2 w ↦
-          signal_body c.args.text.now (inr (w.begins_with-else-begins_with.ensures.0 w.if-begins_with-2.true))
-    ] in
-    record { found = a.found; only = a.only; refused = a.refused; only_there = a.only_there; named = a.named; within = a.within }
+returns-then-begins_with c = let a = elim c.then-begins_with.branch as (λ x. BodyAnswers c.args.text.now (Ok Other)) [
+  | then-begins_with-via-then-begins_with w ↦ signal_body c.args.text.now (inl (c.begins_with.ensures.0 w.if-begins_with.true))
+  | then-begins_with-via-else-begins_with+then-begins_with-2 w ↦
+      signal_body c.args.text.now (inr (w.begins_with-else-begins_with.ensures.0 w.if-begins_with-2.true))
+] in record { found = a.found; only = a.only; refused = a.refused; only_there = a.only_there; named = a.named; within = a.within }
 
 -- what begins as a second half is that half alone, of what stands behind its spaces
 pub returns-in-Some : goal.returns-in-Some
 returns-in-Some c =
-    let rest = c.in-Some.rest.now in
-    let skipped = c.skip_spaces-left.result.now in
+    let rest = c.in-Some.rest.now in let skipped = c.skip_spaces-left.result.now in
     let b : IsBehindSpaces rest skipped = subst (λ (x : List ℕ). IsBehindSpaces rest x) (sym c.skip_spaces-left.ensures) (behind_spaces rest) in
     let a = second_body c.in-Some.name c.args.text.now skipped (rest, c.in-Some.ensures, b) in
     record { found = a.found; only = a.only; refused = a.refused; only_there = a.only_there; named = a.named; within = a.within }
@@ -34,8 +31,7 @@ returns-in_default-named c =
       no_exit = λ h. let k = c.begins_with-else-begins_with.ensures.1 h in let l = c.if-begins_with-2.false in not_both k l;
       no_resumption = λ name h. c.in_default.ensures name h.0 h.1;
       no_call = λ name h. c.in_default-named.ensures name h.0 h.1;
-    }) in
-    record { found = a.found; only = a.only; refused = a.refused; only_there = a.only_there; named = a.named; within = a.within }
+    }) in record { found = a.found; only = a.only; refused = a.refused; only_there = a.only_there; named = a.named; within = a.within }
 
 -- a call that never returned is passed over, and nothing else
 pub returns-then-never_returned : goal.returns-then-never_returned

@@ -4,14 +4,12 @@ use Rattle.strace_reader.proofs.maps.read_maps_line.Goals as goal
 
 -- a line of another form is refused for that, and is nothing else
 pub returns-in_default : goal.returns-in_default
-returns-in_default c =
-    let a = form_line c.args.text.now (sym c.in_default.ensures) in
+returns-in_default c = let a = form_line c.args.text.now (sym c.in_default.ensures) in
     record { found = a.found; only = a.only; refused = a.refused; only_there = a.only_there; named = a.named }
 
 -- a line whose start isn't below its end is refused for that, and is nothing else
 pub returns-then-start-end : goal.returns-then-start-end
-returns-then-start-end c =
-    let a = order_line c.args.text.now c.in-Some.start c.in-Some.end c.in-Some.kind (sym c.in-Some.ensures) c.if-start-end.true in
+returns-then-start-end c = let a = order_line c.args.text.now c.in-Some.start c.in-Some.end c.in-Some.kind (sym c.in-Some.ensures) c.if-start-end.true in
     record { found = a.found; only = a.only; refused = a.refused; only_there = a.only_there; named = a.named }
 
 -- a line in order that ends above the user addresses is that alone

@@ -5,8 +5,7 @@ use Rattle.history_check.proofs.taking.Seen.take.Goals as goal
 
 -- its entry isn't in its place
 pub returns-in-Some-wrong_place : goal.returns-in-Some-wrong_place
-returns-in-Some-wrong_place c before seen =
-    inr (c.in-Some.entry, c.in-Some.ensures.found, c.in-Some-wrong_place.ensures before seen c.args.space.now)
+returns-in-Some-wrong_place c before seen = inr (c.in-Some.entry, c.in-Some.ensures.found, c.in-Some-wrong_place.ensures before seen c.args.space.now)
 
 -- it goes on rightly
 pub returns : goal.returns

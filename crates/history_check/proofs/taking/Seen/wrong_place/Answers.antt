@@ -12,6 +12,5 @@ returns-then-from-self c before seen A =
 
 -- number and line are right
 pub returns : goal.returns
-returns c before seen =
-    let number : c.args.entry.now.number ≡ c.args.self.now.next = search rules in
+returns c before seen = let number : c.args.entry.now.number ≡ c.args.self.now.next = search rules in
     in_place before c.args.self.now c.args.entry.now seen number (omega (arith, c.if-from-self.false, c.from-2.ensures))

@@ -17,14 +17,12 @@ fault_of j p n rest half k Memory e same is h = tt
 -- a half of another name that is held passes two lines over
 pub returns-then-ne-clause-answer : goal.returns-then-ne-clause-answer
 returns-then-ne-clause-answer c =
-    let other : c.in-Some.half.now.name ≢ c.args.name = search rules in
-    inr (inl (c.in-Some.half.now, sym c.in-Some.ensures.value, other, refl))
+    let other : c.in-Some.half.now.name ≢ c.args.name = search rules in inr (inl (c.in-Some.half.now, sym c.in-Some.ensures.value, other, refl))
 
 -- a half of the same name is read with the second half, and that is the answer
 pub returns-in-Ok-clause-answer : goal.returns-in-Ok-clause-answer
 returns-in-Ok-clause-answer c =
-    let a = c.in-Ok.ensures.answer in
-    let same : c.in-Some.half.now.name ≡ c.args.name = search rules in
+    let a = c.in-Ok.ensures.answer in let same : c.in-Some.half.now.name ≡ c.args.name = search rules in
     inr (inr (
       c.in-Some.half.now,
       a.0,
