@@ -10,7 +10,7 @@ use Rattle.raw_lines.proofs.MarkFacts.{each_by}
 use Rattle.raw_logs.specs.Log.{Numbered, texts_of, Each}
 use Rattle.raw_logs.proofs.CleanLogs.{IsClean, EachLine, line_back}
 use Rattle.raw_trace.specs.declared.settling.Ending.{Ending}
-use Rattle.raw_trace.specs.Places.{ReadText, IsReadText, Part, Whole, Front, Back, Becomes, becomes_itself, becomes_mended, becomes_unreturned, becomes_unread}
+use Rattle.raw_trace.specs.Places.{ReadText, IsReadText, Part, Front, Becomes, becomes_itself, becomes_mended, becomes_unreturned, becomes_unread}
 use Rattle.raw_trace.specs.Rewriting.{text_of}
 use Rattle.raw_trace.proofs.EachEntries.{line_in}
 use Rattle.raw_trace.proofs.ReadTexts.{HasPart, near_each}
@@ -72,16 +72,14 @@ AreCleanTexts (text ∷ texts) = IsClean text.line.text × AreCleanTexts texts
 pub clean_texts : (lines : List Numbered) (texts : List ReadText) → Each IsReadText lines texts → EachLine IsClean (texts_of lines)
     → AreCleanTexts (texts ++ [])
 clean_texts [] [] h c = tt
-clean_texts [] (text ∷ texts) h c = absurd h
-clean_texts (line ∷ lines) [] h c = absurd h
 clean_texts (line ∷ lines) (text ∷ texts) h c =
     (subst (λ (l : Numbered). IsClean l.text) (sym h.0.0) c.0, clean_texts lines texts h.1 c.1)
+clean_texts lines texts h c = absurd h
 
 -- nor has the line of a part
 pub part_clean : (fed : List ReadText) (x : ReadText) (later : List ReadText) (o : Part) → IsClean x.line.text → AreCleanTexts later → HasPart fed x later o
     → IsClean (line_in x.line o)
-part_clean fed x later Whole c all h = c
-part_clean fed x later (Back p) c all h = c
 part_clean fed x later (Front line) c all h =
     subst IsClean (sym h.joins) (joined_clean x.line.text h.second.line.text h.to h.behind c
     (near_each (λ y. IsClean y.line.text) AreCleanTexts (λ y ys a. a) h.process later h.second all h.near))
+part_clean fed x later o c all h = c

@@ -25,14 +25,9 @@ pub done_each : (P : Entry → Type 0) (line : Numbered) (o : Part) (step : Step
     → ((number : ℕ) (two : Bool) (e : Entry) → IsEntry number two (line_in line o) e → P e) → IsDone line o step → EachStep P steps
     → EachStep P (step ∷ steps)
 done_each P line Whole (Comes e) steps make h more = (make line.number false e h, more)
-done_each P line Whole (Begins e) steps make h more = absurd h
-done_each P line Whole (Ends q) steps make h more = absurd h
 done_each P line (Front joined) (Begins e) steps make h more = (make line.number true e h, more)
-done_each P line (Front joined) (Comes e) steps make h more = absurd h
-done_each P line (Front joined) (Ends q) steps make h more = absurd h
 done_each P line (Back p) (Ends q) steps make h more = (tt, more)
-done_each P line (Back p) (Comes e) steps make h more = absurd h
-done_each P line (Back p) (Begins e) steps make h more = absurd h
+done_each P line part step steps make h more = absurd h
 
 pub each_both : (P : Entry → Type 0) (a b : List Entry) → EachEntry P a → EachEntry P b → EachEntry P (a ++ b)
 each_both P [] b h g = g
@@ -86,8 +81,7 @@ does_each P f (Ends q) steps ws w h = by (picks (λ e. e.process == q) ws)
 
 steps_tail : (P : Entry → Type 0) (step : Step) (steps : List Step) → EachStep P (step ∷ steps) → EachStep P steps
 steps_tail P (Begins e) steps h = h.1
-steps_tail P (Comes e) steps h = h.1
-steps_tail P (Ends q) steps h = h.1
+steps_tail P step steps h = h.1
 
 pub order_each : (P : Entry → Type 0) (f : Entry → Entry → Bool) (ws : List Entry) (steps : List Step) → EachEntry P ws → EachStep P steps
     → EachEntry P (order f ws steps)

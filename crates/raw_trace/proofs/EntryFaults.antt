@@ -1,18 +1,11 @@
 -- Why an entry may be written or may not, from what the code looks at.
-use Rattle.std.proofs.Common.{◌≡◌, ◌≤◌, Bool, false, [], ◌∷◌, ◌++◌, length, Option, Some, None, sym, ◌∙◌, arith}
+use Rattle.std.proofs.Common.{◌≡◌, ◌≤◌, Bool, [], ◌∷◌, ◌++◌, length, Option, Some, None, sym, ◌∙◌, arith}
 use Rattle.raw_trace.specs.declared.fault.Trouble.{Trouble}
 use Rattle.raw_trace.specs.declared.fault.Fault.TheVariants.{Unreadable, LongLine, NoProcess, Memory}
 use Rattle.raw_trace.specs.declared.writing.Written.{Written}
 use Rattle.raw_trace.specs.Order.{Entry}
 use Rattle.raw_trace.specs.Rewriting.{text_of, counted_entry, calls_after}
 use Rattle.raw_trace.specs.Stages.{MayBeWritten, WroteLines}
-
--- where not every line has to be read, a short line may be written
-pub may_loose : (strict : Bool) (e : Entry) → strict ≡ false → length e.line ≤ 65535 → MayBeWritten strict e
-may_loose strict e s l (LongLine number) h = omega (arith, l, h.0)
-may_loose strict e s l (Unreadable number column cause) h = let k = sym s ∙ h.0 in cc
-may_loose strict e s l NoProcess h = h
-may_loose strict e s l Memory h = h
 
 -- and so may one without trouble
 pub may_read : (strict : Bool) (e : Entry) → length e.line ≤ 65535 → e.trouble ≡ None → MayBeWritten strict e

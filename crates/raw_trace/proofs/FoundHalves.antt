@@ -1,7 +1,7 @@
 -- One text more is looked at: which first halves wait behind it, and what it is to its other half. It changes the role
 -- of one text at most, of the first half that it is the second of.
 use Rattle.std.proofs.Common.{◌≡◌, ◌≢◌, ◌⊎◌, ℕ, zero, suc, ◌+◌, ◌<◌, ◌≤◌, List, [], ◌∷◌, ◌++◌, length, take, drop, get_or, true, false, Option, Some, None, refl, sym, ap, subst, ◌∙◌, inl, inr, arith}
-use Rattle.std.specs.Prelude.{◌==◌, option_and_then, option_map, unwrap_or, slice_get, slice_set, Result, Ok, Err}
+use Rattle.std.specs.Prelude.{◌==◌, option_and_then, option_map, unwrap_or, slice_get, slice_set, Result, Ok}
 use Rattle.std.specs.BTreeMap.{get}
 use Rattle.std.specs.Ordering.{nat_cmp}
 use Rattle.std.proofs.lemmas.Bool.{eqb-true, eq-eqb}
@@ -9,7 +9,7 @@ use Rattle.std.proofs.lemmas.Bool.Decides.{eqb_tells}
 use Rattle.std.proofs.lemmas.List.{length-append, take_more, take_all}
 use Rattle.line_parts.proofs.Leaves.{bool_cases}
 use Rattle.strace_reader.specs.declared.item.Item.{Item}
-use Rattle.strace_reader.specs.declared.item.Item.TheVariants.{Played, Unfinished, Resumed, Other, Blank}
+use Rattle.strace_reader.specs.declared.item.Item.TheVariants.{Unfinished, Resumed}
 use Rattle.strace_reader.specs.declared.item.Name.{Name}
 use Rattle.strace_reader.specs.Grammar.{Spells}
 use Rattle.raw_logs.specs.Log.{Numbered, Each, line_of}
@@ -61,10 +61,9 @@ role_more all fed x later last (Second p) n h = part_more fed x later last n ∙
 roles_more : (all fed xs : List ReadText) (last : ReadText) (roles : List Role) (role : Role) → NoneMet xs last → HaveRoles all fed xs roles
     → IsRole (all ++ (last ∷ [])) (fed_by fed xs) last [] role → HaveRoles (all ++ (last ∷ [])) fed (xs ++ (last ∷ [])) (roles ++ (role ∷ []))
 roles_more all fed [] last [] role n h r = (r, tt)
-roles_more all fed [] last (s ∷ roles) role n h r = absurd h
-roles_more all fed (x ∷ xs) last [] role n h r = absurd h
 roles_more all fed (x ∷ xs) last (s ∷ roles) role n h r =
     (role_more all fed x xs last s n.0 h.0, roles_more all (x ∷ fed) xs last roles role n.1 h.1 r)
+roles_more all fed xs last roles role n h r = absurd h
 
 -- behind a first half whose second the last text is, none is met
 abbrev IsOnlyOf : ℕ → ReadText → Type 0
@@ -87,15 +86,14 @@ roles_met : (all fed a : List ReadText) (x : ReadText) (b : List ReadText) (last
     → IsRole (all ++ (last ∷ [])) (fed_by fed a) x (b ++ (last ∷ [])) first
     → IsRole (all ++ (last ∷ [])) (fed_by fed (a ++ (x ∷ b))) last [] second
     → HaveRoles (all ++ (last ∷ [])) fed ((a ++ (x ∷ b)) ++ (last ∷ [])) (slice_set roles (length a) first ++ (second ∷ []))
-roles_met all fed [] x b last [] p first second t none only h f s = absurd h
 roles_met all fed [] x b last (r ∷ roles) p first second t none only h f s =
     (f, roles_more all (x ∷ fed) b last roles second (quiet_unmet p b last only none) h.1 s)
-roles_met all fed (y ∷ a) x b last [] p first second t none only h f s = absurd h
 roles_met all fed (y ∷ a) x b last (r ∷ roles) p first second t none only h f s = (
   role_more all fed y (a ++ (x ∷ b)) last r
       (λ q u e l. absurd (near_there q a x b (subst (λ (z : ℕ). is_of z x.reading ≡ true) (sym (only q l)) t) e)) h.0,
   roles_met all (y ∷ fed) a x b last roles p first second t none only h.1 f s,
 )
+roles_met all fed a x b last roles p first second t none only h f s = absurd h
 
 -- ---- first halves that wait
 
@@ -156,11 +154,7 @@ begun_parts place (Ok (Unfinished p n from to)) w e =
       is = ap (λ (v : Waiting). Ok (Unfinished p v.name from v.to)) s;
       at = ap (λ (v : Waiting). v.place) (sym s);
     }
-begun_parts place (Ok (Resumed p n b)) w e = absurd cc
-begun_parts place (Ok (Played p c r)) w e = absurd cc
-begun_parts place (Ok Other) w e = absurd cc
-begun_parts place (Ok Blank) w e = absurd cc
-begun_parts place (Err p) w e = absurd cc
+begun_parts place reading w e = absurd cc
 
 -- ---- a second half
 
@@ -174,11 +168,7 @@ apart_joined place first (Ok (Unfinished q m from to)) second p b n h = elim (bo
   | inl t ↦ absurd (h (record { place = place; to = to; name = m }) refl (name_one m n t))
   | inr f ↦ rw f refl
 ]
-apart_joined place first (Ok (Resumed q m c)) second p b n h = refl
-apart_joined place first (Ok (Played q c r)) second p b n h = refl
-apart_joined place first (Ok Other) second p b n h = refl
-apart_joined place first (Ok Blank) second p b n h = refl
-apart_joined place first (Err q) second p b n h = refl
+apart_joined place first reading second p b n h = refl
 
 -- the process of a second half
 resumed_of : (q p b : ℕ) (n : Name) (reading : Result Item ℕ) → reading ≡ Ok (Resumed p n b) → is_of q reading ≡ true → q ≡ p
@@ -265,17 +255,13 @@ none_second (x ∷ xs) last h = ((λ q t none l. no_second x.line.text x.reading
 alone_last : (fed : List ReadText) (line : Numbered) (r : Result Item ℕ) → IsNoSecond r → part fed (record { line = line; reading = r }) [] r ≡ Whole
 alone_last fed line (Ok (Unfinished p n from to)) h = rw (self_is p) refl
 alone_last fed line (Ok (Resumed p n b)) h = absurd h
-alone_last fed line (Ok (Played p c r)) h = refl
-alone_last fed line (Ok Other) h = refl
-alone_last fed line (Ok Blank) h = refl
-alone_last fed line (Err p) h = refl
+alone_last fed line r h = refl
 
 -- there is a role for each text
 pub have_count : (all fed xs : List ReadText) (roles : List Role) → HaveRoles all fed xs roles → length roles ≡ length xs
 have_count all fed [] [] h = refl
-have_count all fed [] (r ∷ roles) h = absurd h
-have_count all fed (x ∷ xs) [] h = absurd h
 have_count all fed (x ∷ xs) (r ∷ roles) h = ap suc (have_count all (x ∷ fed) xs roles h.1)
+have_count all fed xs roles h = absurd h
 
 -- the text was looked at, whatever its number is
 abbrev pub FoundSo : Finder → List ReadText → ℕ → List ℕ → Role → Type 0

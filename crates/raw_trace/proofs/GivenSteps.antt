@@ -21,10 +21,9 @@ use Rattle.raw_trace.proofs.TextPlaces.{RoleAt, reads_count}
 steps_more : (fed xs : List ReadText) (x : ReadText) (later : List ReadText) (steps : List Step) (step : Step) → AreSteps fed xs (x ∷ later) steps
     → IsStep (fed_by fed xs) x later step → AreSteps fed (xs ++ (x ∷ [])) later (steps ++ (step ∷ []))
 steps_more fed [] x later [] step are is = (is, tt)
-steps_more fed [] x later (s ∷ steps) step are is = absurd are
-steps_more fed (y ∷ xs) x later [] step are is = absurd are
 steps_more fed (y ∷ xs) x later (s ∷ steps) step are is =
     (subst (λ (z : List ReadText). IsStep fed y z s) (sym (append_assoc xs (x ∷ []) later)) are.0, steps_more (y ∷ fed) xs x later steps step are.1 is)
+steps_more fed xs x later steps step are is = absurd are
 
 -- ---- the loop
 

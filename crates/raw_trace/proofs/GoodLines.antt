@@ -1,11 +1,11 @@
 -- Good lines stand by themselves: a line that is read as a whole is half of no call, and becomes itself. What a line
 -- becomes is one line, with one ending.
 use Rattle.std.proofs.Common.{◌≡◌, ℕ, ◌<◌, ◌≤◌, List, length, codes, refl, sym, subst, ◌∙◌, arith}
-use Rattle.std.specs.Prelude.{Result, Ok, Err}
+use Rattle.std.specs.Prelude.{Result, Ok}
 use Rattle.std.proofs.lemmas.List.{length-append}
 use Rattle.strace_reader.specs.declared.item.BadCall.{BadCall}
 use Rattle.strace_reader.specs.declared.item.Item.{Item}
-use Rattle.strace_reader.specs.declared.item.Item.TheVariants.{Played, Unfinished, Resumed, Other, Blank}
+use Rattle.strace_reader.specs.declared.item.Item.TheVariants.{Unfinished, Resumed}
 use Rattle.strace_reader.specs.declared.item.Name.{Name}
 use Rattle.strace_reader.specs.Grammar.{Spells, Refuses}
 use Rattle.strace_reader.proofs.OneOutcome.{one_outcome}
@@ -35,10 +35,7 @@ good_read : (text : List ℕ) (reading : Result Item ℕ) (fed later : List Read
     → part fed x later reading ≡ Whole
 good_read text (Ok (Unfinished p n from to)) fed later x good h = absurd (whole_no_first text good.0.0 p n from to good.0.1 good.0.2 h)
 good_read text (Ok (Resumed p n b)) fed later x good h = absurd (whole_no_second text good.0.0 p n b good.0.1 good.0.2 h)
-good_read text (Ok (Played p c r)) fed later x good h = refl
-good_read text (Ok Other) fed later x good h = refl
-good_read text (Ok Blank) fed later x good h = refl
-good_read text (Err p) fed later x good h = refl
+good_read text reading fed later x good h = refl
 
 -- what it does is a whole line's
 pub good_done : (fed later : List ReadText) (line : Numbered) (x : ReadText) (step : Step) → IsGood line.text → IsReadText line x → IsStep fed x later step

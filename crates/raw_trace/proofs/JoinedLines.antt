@@ -1,5 +1,5 @@
 -- The line of two halves is a line of their process: it begins with the first half's number and name.
-use Rattle.std.proofs.Common.{◌≡◌, ℕ, ◌+◌, ◌-◌, List, [], ◌∷◌, ◌++◌, length, take, drop}
+use Rattle.std.proofs.Common.{◌≡◌, ℕ, ◌+◌, List, [], ◌∷◌, ◌++◌, length, take, drop}
 use Rattle.std.proofs.Common.{Bool, false, refl, sym, ap, subst, ◌∙◌, append_assoc, arith}
 use Rattle.std.specs.Prelude.{◌==◌, if◌then◌else◌}
 use Rattle.std.proofs.lemmas.List.{length-append}
@@ -9,7 +9,7 @@ use Rattle.line_parts.specs.Leaves.{is, EachIs}
 use Rattle.line_parts.proofs.Leaves.{not_both, same_is}
 use Rattle.strace_reader.specs.declared.item.Item.TheVariants.{Unfinished}
 use Rattle.strace_reader.specs.declared.item.Name.{Name}
-use Rattle.strace_reader.specs.declared.item.Name.TheVariants.{Mmap, Munmap, Mprotect, Fault, Mseal, Brk, Mremap}
+use Rattle.strace_reader.specs.declared.item.Name.TheVariants.{Mmap}
 use Rattle.strace_reader.specs.Words.{call_head}
 use Rattle.strace_reader.specs.Grammar.{BeginsWith, IsCut, IsHalf, IsBody, Spells, unfinished}
 use Rattle.raw_lines.proofs.Searches.{isnt}
@@ -25,12 +25,7 @@ is_head_byte b = if b == 32 then false else isnt 60 b
 
 head_bytes : (name : Name) → EachIs is_head_byte (call_head name)
 head_bytes Mmap = each_by is_head_byte (call_head Mmap) refl
-head_bytes Munmap = each_by is_head_byte (call_head Munmap) refl
-head_bytes Mprotect = each_by is_head_byte (call_head Mprotect) refl
-head_bytes Fault = each_by is_head_byte (call_head Fault) refl
-head_bytes Mseal = each_by is_head_byte (call_head Mseal) refl
-head_bytes Brk = each_by is_head_byte (call_head Brk) refl
-head_bytes Mremap = each_by is_head_byte (call_head Mremap) refl
+head_bytes name = each_by is_head_byte (call_head name) refl
 
 -- a word of bytes that pass a test is not cut by one that fails it
 pub head_within : (test : ℕ → Bool) (word rest half tail : List ℕ) → EachIs test word → starts test tail ≡ false → word ++ rest ≡ half ++ tail

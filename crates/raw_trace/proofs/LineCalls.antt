@@ -20,11 +20,13 @@ use Rattle.raw_trace.specs.declared.calls.ReadCall.{ReadCall}
 use Rattle.raw_trace.specs.declared.settling.Ending.{Ending}
 use Rattle.raw_trace.specs.Order.{Entry, Step, frees_for, order}
 use Rattle.raw_trace.specs.Places.{Becomes, becomes_itself, becomes_mended, becomes_unreturned, becomes_unread, IsReadAs, IsEntry, ReadText, part, AreSteps}
-use Rattle.raw_trace.specs.Rewriting.{lines_as, calls_of}
+use Rattle.raw_logs.specs.declared.counts.Counts.{Counts}
+use Rattle.raw_trace.specs.Rewriting.{lines_as, calls_of, IsRewriting}
 use Rattle.raw_trace.specs.Stages.{EachEntry}
 use Rattle.raw_trace.specs.Laws.{ReadsAs, all_read, reads_text, KeepsCalls}
 use Rattle.raw_trace.proofs.CleanLines.{lines_back, becomes_clean, clean_texts, part_clean, AreCleanTexts}
 use Rattle.raw_trace.proofs.EachEntries.{EachStep, line_in, done_each, order_each}
+use Rattle.raw_trace.proofs.OneWay.{read_one}
 use Rattle.raw_trace.proofs.ReadTexts.{parts_of}
 
 -- the body of a first half
@@ -102,45 +104,30 @@ entry_written number joined line entry c is =
 
 steps_written : (fed texts : List ReadText) (steps : List Step) → AreCleanTexts (texts ++ []) → AreSteps fed texts [] steps → EachStep IsWritten steps
 steps_written fed [] [] clean are = tt
-steps_written fed [] (step ∷ steps) clean are = absurd are
-steps_written fed (text ∷ texts) [] clean are = absurd are
 steps_written fed (text ∷ texts) (step ∷ steps) clean are =
     let o = part fed text (texts ++ []) text.reading in
     let c = part_clean fed text (texts ++ []) o clean.0 clean.1 (parts_of fed text (texts ++ [])) in
     done_each IsWritten text.line o step steps (λ number two e h. entry_written number two (line_in text.line o) e c h) are.0
     (steps_written (text ∷ fed) texts steps clean.1 are.1)
+steps_written fed texts steps clean are = absurd are
 
 entries_clean : (entries : List Entry) → EachEntry IsWritten entries → EachLine IsClean (lines_as entries)
 entries_clean [] h = tt
 entries_clean (e ∷ entries) h = (h.0.clean, entries_clean entries h.1)
 
--- the call of a line that is read as a call
-call_is : (line : List ℕ) (pid : ℕ) (done : Call) (recorded : Option Recorded) (call : Option ReadCall) → Spells line (Played pid done recorded)
-    → IsReadAs line call → call ≡ Some (record { pid = pid; call = done; recorded = recorded })
-call_is line pid done recorded None s r = absurd (r pid done recorded s)
-call_is line pid done recorded (Some c) s r =
-    let e = (one_outcome line).item (Played pid done recorded) (Played c.pid c.call c.recorded) s r in
-    let a : c.pid ≡ pid = cc in
-    let b : c.call ≡ done = cc in
-    let d : c.recorded ≡ recorded = cc in
-    call_same c (record { pid = pid; call = done; recorded = recorded }) a b d
-  where
-    call_same : (c d : ReadCall) → c.pid ≡ d.pid → c.call ≡ d.call → c.recorded ≡ d.recorded → ◌≡◌ {A = Option ReadCall} (Some c) (Some d)
-    call_same c d a b e = λ i. Some (record { pid = a i; call = b i; recorded = e i })
-
--- a line that is none has none
+-- a line that is read as no call has none
 no_call : (line : List ℕ) (item : Item) (call : Option ReadCall) → ((pid : ℕ) (done : Call) (recorded : Option Recorded) → item ≡ Played pid done recorded → ⊥)
     → Spells line item → IsReadAs line call → call ≡ None
-no_call line item None never s r = refl
-no_call line item (Some c) never s r =
-    absurd (never c.pid c.call c.recorded ((one_outcome line).item item (Played c.pid c.call c.recorded) s r))
+no_call line item call never s r =
+    read_one line call None r (λ pid done recorded k. never pid done recorded ((one_outcome line).item item (Played pid done recorded) s k))
 
 -- one line is read, and then the others
 read_line : (heard : List (List ℕ)) (e : Entry) (lines : List (List ℕ)) (calls : List ReadCall) → AreWhole heard → IsReadAs e.line e.call
     → ReadsAs (e.line ∷ heard) lines calls → (item : Item) → Spells e.line item → IsWhole item
     → ReadsAs heard (e.line ∷ lines) (option_to_list e.call ++ calls)
 read_line heard e lines calls w r more (Played pid done recorded) s t =
-    subst (λ (x : Option ReadCall). ReadsAs heard (e.line ∷ lines) (option_to_list x ++ calls)) (sym (call_is e.line pid done recorded e.call s r))
+    subst (λ (x : Option ReadCall). ReadsAs heard (e.line ∷ lines) (option_to_list x ++ calls))
+    (read_one e.line (Some (record { pid = pid; call = done; recorded = recorded })) e.call s r)
     (reads_text (Answered pid done recorded 0) (inl (s, inr (keeps_none heard pid w, refl))) more)
 read_line heard e lines calls w r more (Unfinished pid name from to) s t = absurd t
 read_line heard e lines calls w r more (Resumed pid name from) s t = absurd t
@@ -157,12 +144,18 @@ reads heard (e ∷ entries) w h =
     read_line heard e (lines_as entries) (calls_of entries) w h.0.read
     (reads (e.line ∷ heard) entries ((h.0.item, h.0.spelled, h.0.whole), w) h.1) h.0.item h.0.spelled h.0.whole
 
--- what is written is read as just the calls of the log
-pub calls_kept : KeepsCalls
-calls_kept process bytes out counts number is =
+-- the lines of what is written are those of its entries
+pub lines_written : (process : Option ℕ) (bytes out : List ℕ) (counts : Counts) (number : ℕ) → (is : IsRewriting process bytes out counts number)
+    → EachEntry IsWritten (order frees_for [] is.steps) × (lines_of out ≡ lines_as (order frees_for [] is.steps))
+lines_written process bytes out counts number is =
     let clean = clean_texts is.chosen is.read is.reads (texts_clean process bytes is.chosen is.before is.texts) in
     let each = order_each IsWritten frees_for [] is.steps tt (steps_written [] is.read is.steps clean is.are) in
     let entries = order frees_for [] is.steps in
-    subst (λ (x : List (List ℕ)). ReadsAs [] x (calls_of entries))
-    (sym (ap lines_of is.bytes_of ∙ lines_back (lines_as entries) (entries_clean entries each)))
-    (reads [] entries tt each)
+    (each, ap lines_of is.bytes_of ∙ lines_back (lines_as entries) (entries_clean entries each))
+
+-- what is written is read as just the calls of the log
+pub calls_kept : KeepsCalls
+calls_kept process bytes out counts number is =
+    let written = lines_written process bytes out counts number is in
+    let entries = order frees_for [] is.steps in
+    subst (λ (x : List (List ℕ)). ReadsAs [] x (calls_of entries)) (sym written.1) (reads [] entries tt written.0)

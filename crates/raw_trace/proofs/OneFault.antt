@@ -32,8 +32,6 @@ trouble_cause w (Some t) = t.cause
 entry_fault_one : (strict : Bool) (e : Entry) (a b : Fault) → IsEntryFault strict e a → IsEntryFault strict e b → a ≡ b
 entry_fault_one strict e (LongLine n) (LongLine m) h g = ap (λ (x : ℕ). LongLine x) (h.1 ∙ sym g.1)
 entry_fault_one strict e (LongLine n) (Unreadable m d v) h g = absurd (omega (arith, h.0, g.1))
-entry_fault_one strict e (LongLine n) NoProcess h g = absurd g
-entry_fault_one strict e (LongLine n) Memory h g = absurd g
 entry_fault_one strict e (Unreadable n c w) (LongLine m) h g = absurd (omega (arith, h.1, g.0))
 entry_fault_one strict e (Unreadable n c w) (Unreadable m d v) h g =
     let k : ◌≡◌ {A = Option Trouble} (Some (record { column = c; cause = w })) (Some (record { column = d; cause = v })) = sym h.3 ∙ g.3 in
@@ -41,10 +39,9 @@ entry_fault_one strict e (Unreadable n c w) (Unreadable m d v) h g =
     let p : c ≡ d = ap trouble_column k in
     let q : w ≡ v = ap (trouble_cause w) k in
     λ i. Unreadable (l i) (p i) (q i)
-entry_fault_one strict e (Unreadable n c w) NoProcess h g = absurd g
-entry_fault_one strict e (Unreadable n c w) Memory h g = absurd g
 entry_fault_one strict e NoProcess b h g = absurd h
 entry_fault_one strict e Memory b h g = absurd h
+entry_fault_one strict e a b h g = absurd g
 
 -- ---- the first fault of lines
 

@@ -49,7 +49,7 @@ becomes_one line a b e f (becomes_unread never half none) (becomes_unreturned g)
 becomes_one line a b e f (becomes_unread never half none) (becomes_unread not alone nothing) = (refl, refl)
 
 -- a line is read as one call at most
-read_one : (line : List ℕ) (a b : Option ReadCall) → IsReadAs line a → IsReadAs line b → a ≡ b
+pub read_one : (line : List ℕ) (a b : Option ReadCall) → IsReadAs line a → IsReadAs line b → a ≡ b
 read_one line None None h g = refl
 read_one line None (Some c) h g = absurd (h c.pid c.call c.recorded g)
 read_one line (Some c) None h g = absurd (g c.pid c.call c.recorded h)
@@ -81,14 +81,9 @@ cause_one line c d Alone Unclear h g = absurd (g.2 h.1 h.2 h.3 h.4)
 cause_one line c d Unclear (Form v) h g = absurd (h.1 (record { column = d; what = v }) g)
 cause_one line c d Unclear Alone h g = absurd (h.2 g.1 g.2 g.3 g.4)
 cause_one line c d Unclear Unclear h g = (h.0 ∙ sym g.0, refl)
-cause_one line c d (Form w) OtherForm h g = absurd g
-cause_one line c d (Form w) Unknown h g = absurd g
-cause_one line c d Alone OtherForm h g = absurd g
-cause_one line c d Alone Unknown h g = absurd g
-cause_one line c d Unclear OtherForm h g = absurd g
-cause_one line c d Unclear Unknown h g = absurd g
 cause_one line c d OtherForm v h g = absurd h
 cause_one line c d Unknown v h g = absurd h
+cause_one line c d w v h g = absurd g
 
 -- a line has one trouble
 trouble_one : (line written : List ℕ) (ending : Ending) (a b : Option Trouble) → IsTrouble line written ending a → IsTrouble line written ending b → a ≡ b
@@ -123,32 +118,23 @@ entry_one number joined line a b h g =
 -- a part does one step
 done_one : (line : Numbered) (one : Part) (a b : Step) → IsDone line one a → IsDone line one b → a ≡ b
 done_one line Whole (Comes a) (Comes b) h g = ap (λ (x : Entry). Comes x) (entry_one line.number false line.text a b h g)
-done_one line Whole (Comes a) (Begins b) h g = absurd g
-done_one line Whole (Comes a) (Ends q) h g = absurd g
-done_one line Whole (Begins a) b h g = absurd h
-done_one line Whole (Ends p) b h g = absurd h
+done_one line Whole (Comes a) b h g = absurd g
 done_one line (Front joined) (Begins a) (Begins b) h g = ap (λ (x : Entry). Begins x) (entry_one line.number true joined a b h g)
-done_one line (Front joined) (Begins a) (Comes b) h g = absurd g
-done_one line (Front joined) (Begins a) (Ends q) h g = absurd g
-done_one line (Front joined) (Comes a) b h g = absurd h
-done_one line (Front joined) (Ends p) b h g = absurd h
+done_one line (Front joined) (Begins a) b h g = absurd g
 done_one line (Back p) (Ends a) (Ends b) h g = ap (λ (x : ℕ). Ends x) (h ∙ sym g)
-done_one line (Back p) (Ends a) (Comes b) h g = absurd g
-done_one line (Back p) (Ends a) (Begins b) h g = absurd g
-done_one line (Back p) (Comes a) b h g = absurd h
-done_one line (Back p) (Begins a) b h g = absurd h
+done_one line (Back p) (Ends a) b h g = absurd g
+done_one line one a b h g = absurd h
 
 -- and so do texts
 pub steps_one : (fed texts later : List ReadText) (a b : List Step) → AreSteps fed texts later a → AreSteps fed texts later b → a ≡ b
 steps_one fed [] later [] [] h g = refl
-steps_one fed [] later [] (y ∷ b) h g = absurd g
-steps_one fed [] later (x ∷ a) b h g = absurd h
-steps_one fed (text ∷ texts) later [] b h g = absurd h
-steps_one fed (text ∷ texts) later (x ∷ a) [] h g = absurd g
 steps_one fed (text ∷ texts) later (x ∷ a) (y ∷ b) h g =
     let s = done_one text.line (part fed text (texts ++ later) text.reading) x y h.0 g.0 in
     let r = steps_one (text ∷ fed) texts later a b h.1 g.1 in
     λ i. s i ∷ r i
+steps_one fed [] later [] b h g = absurd g
+steps_one fed (text ∷ texts) later (x ∷ a) b h g = absurd g
+steps_one fed texts later a b h g = absurd h
 
 -- ---- the whole
 

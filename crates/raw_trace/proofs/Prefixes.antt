@@ -5,7 +5,7 @@ use Rattle.std.proofs.lemmas.List.{append_cancel_right}
 use Rattle.line_parts.specs.Parts.{starts}
 use Rattle.line_parts.specs.Leaves.{is, EachIs}
 use Rattle.strace_reader.specs.declared.item.Name.{Name}
-use Rattle.strace_reader.specs.declared.item.Name.TheVariants.{Mmap, Munmap, Mprotect, Fault, Mseal, Brk, Mremap}
+use Rattle.strace_reader.specs.declared.item.Name.TheVariants.{Mmap}
 use Rattle.strace_reader.specs.Words.{call_head}
 use Rattle.strace_reader.specs.Grammar.{BeginsWith, IsBehindSpaces, IsCut}
 use Rattle.strace_reader.proofs.BodyAnswers.{call_cut}
@@ -13,12 +13,7 @@ use Rattle.strace_reader.proofs.BodyAnswers.{call_cut}
 -- a call's name begins with no space
 head_no_space : (name : Name) (text : List ℕ) → BeginsWith (call_head name) text → starts (is 32) text ≡ false
 head_no_space Mmap text h = ap (starts (is 32)) h.1
-head_no_space Munmap text h = ap (starts (is 32)) h.1
-head_no_space Mprotect text h = ap (starts (is 32)) h.1
-head_no_space Fault text h = ap (starts (is 32)) h.1
-head_no_space Mseal text h = ap (starts (is 32)) h.1
-head_no_space Brk text h = ap (starts (is 32)) h.1
-head_no_space Mremap text h = ap (starts (is 32)) h.1
+head_no_space name text h = ap (starts (is 32)) h.1
 
 -- a number and a space, and spaces behind them
 spaced : (digits word spaces c : List ℕ) → (digits ++ (word ++ spaces)) ++ c ≡ digits ++ (word ++ (spaces ++ c))

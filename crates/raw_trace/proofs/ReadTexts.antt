@@ -1,11 +1,11 @@
 -- What the texts of a log are read as: each in one way. The call of a process that was cut in two at a place is told by
 -- the nearest texts of the process, so a further text changes it only where nothing of the process stands before.
-use Rattle.std.proofs.Common.{◌≡◌, ℕ, zero, suc, ◌+◌, List, [], ◌∷◌, ◌++◌, take, drop, true, false, refl, sym, ap, subst, ◌∙◌, inl, inr}
+use Rattle.std.proofs.Common.{◌≡◌, ℕ, zero, suc, List, [], ◌∷◌, ◌++◌, take, drop, true, false, refl, sym, ap, subst, ◌∙◌, inl, inr}
 use Rattle.std.specs.Prelude.{◌==◌, Option, Some, None, option_and_then, option_map, unwrap_or, Result, Ok, Err}
 use Rattle.std.proofs.lemmas.Bool.{eqb-true, eq-eqb}
 use Rattle.line_parts.proofs.Leaves.{bool_cases}
 use Rattle.strace_reader.specs.declared.item.Item.{Item}
-use Rattle.strace_reader.specs.declared.item.Item.TheVariants.{Played, Unfinished, Resumed, Other, Blank}
+use Rattle.strace_reader.specs.declared.item.Item.TheVariants.{Unfinished, Resumed, Other, Blank}
 use Rattle.strace_reader.specs.declared.item.Name.{Name}
 use Rattle.strace_reader.specs.declared.item.Name.TheVariants.{Mmap, Munmap, Mprotect, Fault, Mseal, Brk, Mremap}
 use Rattle.strace_reader.proofs.FormFacts.{cut_same}
@@ -50,12 +50,7 @@ name_at (suc (suc (suc (suc (suc (suc n)))))) = Mremap
 
 name_back : (name : Name) → name_at (name_number name) ≡ name
 name_back Mmap = refl
-name_back Munmap = refl
-name_back Mprotect = refl
-name_back Fault = refl
-name_back Mseal = refl
-name_back Brk = refl
-name_back Mremap = refl
+name_back name = refl
 
 -- names of one number are one
 pub name_one : (n m : Name) → (name_number n == name_number m) ≡ true → n ≡ m
@@ -115,17 +110,8 @@ IsNoSecond reading = Unit {0}
 
 -- so it ends no call
 pub no_second : (first : List ℕ) (reading : Result Item ℕ) (second : List ℕ) (r : Result Item ℕ) → IsNoSecond r → joined first reading second r ≡ None
-no_second first (Ok (Unfinished p n from to)) second (Ok (Unfinished q m a b)) h = refl
 no_second first (Ok (Unfinished p n from to)) second (Ok (Resumed q m b)) h = absurd h
-no_second first (Ok (Unfinished p n from to)) second (Ok (Played q c r)) h = refl
-no_second first (Ok (Unfinished p n from to)) second (Ok Other) h = refl
-no_second first (Ok (Unfinished p n from to)) second (Ok Blank) h = refl
-no_second first (Ok (Unfinished p n from to)) second (Err q) h = refl
-no_second first (Ok (Resumed p n b)) second r h = refl
-no_second first (Ok (Played p c d)) second r h = refl
-no_second first (Ok Other) second r h = refl
-no_second first (Ok Blank) second r h = refl
-no_second first (Err p) second r h = refl
+no_second first begin second end h = refl
 
 no_value : (o : Option ReadText) (k : ReadText → Option (List ℕ)) → ((y : ReadText) → k y ≡ None) → option_and_then k o ≡ None
 no_value None k h = refl
@@ -147,12 +133,10 @@ cut_past p fed x later f = rw f refl
 
 -- what is read so is of one process
 pub of_one : (p q : ℕ) (r : Result Item ℕ) → is_of p r ≡ true → is_of q r ≡ true → p ≡ q
-of_one p q (Ok (Played o c r)) t u = sym (eqb-true o p t) ∙ eqb-true o q u
-of_one p q (Ok (Unfinished o n from to)) t u = sym (eqb-true o p t) ∙ eqb-true o q u
-of_one p q (Ok (Resumed o n b)) t u = sym (eqb-true o p t) ∙ eqb-true o q u
 of_one p q (Ok Other) t u = absurd cc
 of_one p q (Ok Blank) t u = absurd cc
 of_one p q (Err o) t u = sym (eqb-true o p t) ∙ eqb-true o q u
+of_one p q reading t u = sym (eqb-true _ p t) ∙ eqb-true _ q u
 
 -- ---- the parts of a log
 
@@ -203,11 +187,7 @@ front_joins first second p from to n (Ok (Resumed q m b)) line e = elim (bool_ca
 
     none_line : (a : List ℕ) → ◌≡◌ {A = Option (List ℕ)} None (Some a) → ⊥
     none_line a e = cc
-front_joins first second p from to n (Ok (Unfinished q m a b)) line e = absurd cc
-front_joins first second p from to n (Ok (Played q c r)) line e = absurd cc
-front_joins first second p from to n (Ok Other) line e = absurd cc
-front_joins first second p from to n (Ok Blank) line e = absurd cc
-front_joins first second p from to n (Err q) line e = absurd cc
+front_joins first second p from to n end line e = absurd cc
 
 opened : (fed : List ReadText) (x : ReadText) (later : List ReadText) (p from to : ℕ) (n : Name) → x.reading ≡ Ok (Unfinished p n from to)
     → (o : Option (List ℕ)) → cut_call p (x ∷ fed) later ≡ o → HasPart fed x later (unwrap_or (option_map Front o) Whole)
@@ -263,13 +243,8 @@ parts_read : (fed : List ReadText) (line : Numbered) (reading : Result Item ℕ)
     → HasPart fed (record { line = line; reading = reading }) later (part fed (record { line = line; reading = reading }) later reading)
 parts_read fed line (Ok (Unfinished p n from to)) later = opened fed _ later p from to n refl _ refl
 parts_read fed line (Ok (Resumed p n b)) later = closed fed _ later p b n refl _ refl
-parts_read fed line (Ok (Played p c r)) later =
-    let x : ReadText = record { line = line; reading = Ok (Played p c r) } in
-    λ q t. (none_closed q fed x later t tt, none_opened q fed x later t (λ s. refl))
-parts_read fed line (Ok Other) later = λ q t. absurd cc
-parts_read fed line (Ok Blank) later = λ q t. absurd cc
-parts_read fed line (Err p) later =
-    let x : ReadText = record { line = line; reading = Err p } in
+parts_read fed line reading later =
+    let x : ReadText = record { line = line; reading = reading } in
     λ q t. (none_closed q fed x later t tt, none_opened q fed x later t (λ s. refl))
 
 -- each text has its part
@@ -299,10 +274,7 @@ part_read fed line (Ok (Unfinished p n a to)) later last h =
     let k : ReadText → Option (List ℕ) = λ s. joined line.text (Ok (Unfinished p n a to)) s.line.text s.reading in
     rw (self_is p) (ap (λ (o : Option (List ℕ)). unwrap_or (option_map Front o) Whole) (near_met p later last k (λ none t. h p (self_is p) none t)))
 part_read fed line (Ok (Resumed p n b)) later last h = rw (self_is p) refl
-part_read fed line (Ok (Played p c r)) later last h = refl
-part_read fed line (Ok Other) later last h = refl
-part_read fed line (Ok Blank) later last h = refl
-part_read fed line (Err p) later last h = refl
+part_read fed line reading later last h = refl
 
 -- such a text changes nothing
 pub part_more : (fed : List ReadText) (x : ReadText) (later : List ReadText) (last : ReadText) → IsUnmet x later last

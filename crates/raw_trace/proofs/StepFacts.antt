@@ -22,33 +22,10 @@ use Rattle.raw_trace.specs.Laws.{KeepsOrders}
 use Rattle.raw_trace.proofs.JoinedLines.{joined_cut}
 use Rattle.raw_trace.proofs.LineCalls.{half_first, unread_passes}
 use Rattle.raw_trace.proofs.OwnCalls.{own, own_apart}
-use Rattle.raw_trace.proofs.ReadTexts.{
-  reading_one,
-  reading_of,
-  self_is,
-  IsNoSecond,
-  none_closed,
-  none_last,
-  cut_past,
-  of_one,
-  FrontParts,
-  BackParts,
-  WholeParts,
-  HasPart,
-  parts_of,
-}
-use Rattle.raw_trace.proofs.StepOrders.{
-  Fits,
-  fits_end,
-  fits_comes,
-  fits_between,
-  fits_begins,
-  fits_other_begins,
-  fits_ends,
-  fits_other_ends,
-  holds_none,
-  order_fits,
-}
+use Rattle.raw_trace.proofs.ReadTexts.{reading_one, reading_of, self_is, IsNoSecond, none_closed, none_last, cut_past, of_one}
+use Rattle.raw_trace.proofs.ReadTexts.{FrontParts, BackParts, WholeParts, HasPart, parts_of}
+use Rattle.raw_trace.proofs.StepOrders.{Fits, fits_end, fits_comes, fits_between, fits_begins, fits_other_begins, fits_ends, fits_other_ends}
+use Rattle.raw_trace.proofs.StepOrders.{holds_none, order_fits}
 
 true_false : true ≡ false → ⊥
 true_false e = cc
@@ -178,29 +155,23 @@ step_fit : (p : ℕ) (fed : List ReadText) (x : ReadText) (later : List ReadText
     → FitsBehind p fed (x ∷ later) (step ∷ steps)
 step_fit p fed x later Whole (Comes e) steps h parts is behind one state =
     comes_fit p fed x later e steps one h parts is behind state (bool_cases (is_of p x.reading))
-step_fit p fed x later Whole (Begins e) steps h parts is behind one state = absurd is
-step_fit p fed x later Whole (Ends q) steps h parts is behind one state = absurd is
 step_fit p fed x later (Front line) (Begins e) steps h parts is behind one state =
     begins_fit p fed x later line e steps one parts (begun_process fed x later x.line.number line e h parts is) behind state (bool_cases (is_of p x.reading))
-step_fit p fed x later (Front line) (Comes e) steps h parts is behind one state = absurd is
-step_fit p fed x later (Front line) (Ends q) steps h parts is behind one state = absurd is
 step_fit p fed x later (Back q) (Ends r) steps h parts is behind one state =
     ends_fit p fed x later q r steps one parts is behind state (bool_cases (is_of p x.reading))
-step_fit p fed x later (Back q) (Comes e) steps h parts is behind one state = absurd is
-step_fit p fed x later (Back q) (Begins e) steps h parts is behind one state = absurd is
+step_fit p fed x later o step steps h parts is behind one state = absurd is
 
 steps_fit : (p : ℕ) (fed : List ReadText) (lines : List Numbered) (texts : List ReadText) (steps : List Step) → Each IsReadText lines texts
     → AreSteps fed texts [] steps → FitsBehind p fed (texts ++ []) steps
 steps_fit p fed [] [] [] reads are one (closed n) = ([], fits_end)
 steps_fit p fed [] [] [] reads are one (opened x t line c) = absurd (none_some (cut_call p fed []) line (none_last p fed) c)
-steps_fit p fed [] [] (step ∷ steps) reads are one state = absurd are
-steps_fit p fed [] (text ∷ texts) steps reads are one state = absurd reads
-steps_fit p fed (line ∷ lines) [] steps reads are one state = absurd reads
-steps_fit p fed (line ∷ lines) (text ∷ texts) [] reads are one state = absurd are
 steps_fit p fed (line ∷ lines) (text ∷ texts) (step ∷ steps) reads are one state =
     let later = texts ++ [] in
     step_fit p fed text later (part fed text later text.reading) step steps (reading_of line text reads.0) (parts_of fed text later) are.0
     (steps_fit p (text ∷ fed) lines texts steps reads.1 are.1) one state
+steps_fit p fed [] [] steps reads are one state = absurd are
+steps_fit p fed (line ∷ lines) (text ∷ texts) steps reads are one state = absurd are
+steps_fit p fed lines texts steps reads are one state = absurd reads
 
 -- each process keeps its order
 pub orders_kept : KeepsOrders

@@ -1,35 +1,14 @@
 -- Each process keeps the order of its calls: between the halves of one nothing of it is written, so it doesn't matter
 -- where between them the call stands.
-use Rattle.std.proofs.Common.{◌≡◌, ℕ, ◌+◌, Bool, true, false, List, [], ◌∷◌, ◌++◌, Option, Some, None, refl, sym, ap, subst, ◌∙◌, append_assoc, inl, inr, arith}
+use Rattle.std.proofs.Common.{◌≡◌, ℕ, Bool, true, false, List, [], ◌∷◌, ◌++◌, Option, Some, None, refl, sym, ap, subst, ◌∙◌, append_assoc, inl, inr, arith}
 use Rattle.std.specs.Prelude.{◌==◌}
 use Rattle.std.proofs.lemmas.List.{append-nil}
 use Rattle.std.proofs.lemmas.Bool.Decides.{eqb_tells}
 use Rattle.raw_trace.specs.declared.calls.ReadCall.{ReadCall}
 use Rattle.raw_trace.specs.Order.{Entry, Step, Begins, Ends, Comes, pick, turns, write_entry, order}
 use Rattle.raw_trace.specs.Laws.{of_process}
-use Rattle.raw_trace.proofs.OwnCalls.{
-  own,
-  none_picked,
-  one_picked,
-  Apart,
-  OneOf,
-  of_both,
-  own_apart,
-  apart_both,
-  Picks,
-  picks_one,
-  picks_none,
-  picks,
-  IsPickedOf,
-  is_it,
-  is_other,
-  picked_of,
-  due_apart,
-  WroteOne,
-  waits_still,
-  was_written,
-  due_one,
-}
+use Rattle.raw_trace.proofs.OwnCalls.{own, none_picked, one_picked, Apart, OneOf, of_both, own_apart, apart_both, Picks, picks_one, picks_none, picks}
+use Rattle.raw_trace.proofs.OwnCalls.{IsPickedOf, is_it, is_other, picked_of, due_apart, WroteOne, waits_still, was_written, due_one}
 
 -- ---- steps that fit
 

@@ -34,11 +34,9 @@ use Rattle.raw_trace.proofs.Turns.{wrote_none}
 
 -- a line that is left unread is no call
 pub unread_none : (from line : List ℕ) (ending : Ending) → Becomes from line ending → ending ≡ AsUnread → IsReadAs line None
-unread_none from line ending (becomes_itself g) e = absurd cc
-unread_none from line ending (becomes_mended bad r short m g) e = absurd cc
-unread_none from line ending (becomes_unreturned h) e = absurd cc
 unread_none from line ending (becomes_unread never half none) e = λ pid done recorded s.
     let k = (one_outcome (unread_text from)).item (Played pid done recorded) Other s (unread_passes from) in absurd cc
+unread_none from line ending becomes e = absurd cc
 
 -- any other is short
 pub read_short : (from line : List ℕ) (ending : Ending) → Becomes from line ending → ending ≢ AsUnread → length line ≤ 65535

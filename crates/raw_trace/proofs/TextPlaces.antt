@@ -53,8 +53,6 @@ pub record LineAt (lines : List Numbered) (place : ℕ) (text : ReadText) : Type
 pub line_at : (lines : List Numbered) (texts : List ReadText) (place : ℕ) (text : ReadText) → Each IsReadText lines texts → slice_get texts place ≡ Some text
     → LineAt lines place text
 line_at [] [] place text h e = absurd cc
-line_at [] (x ∷ texts) place text h e = absurd h
-line_at (line ∷ lines) [] place text h e = absurd h
 line_at (line ∷ lines) (x ∷ texts) zero text h e =
     record { line = line; got = refl; read = subst (IsReadText line) (some_text e) h.0; within = omega arith }
   where
@@ -63,13 +61,13 @@ line_at (line ∷ lines) (x ∷ texts) zero text h e =
 line_at (line ∷ lines) (x ∷ texts) (suc place) text h e =
     let r = line_at lines texts place text h.1 e in
     record { line = r.line; got = r.got; read = r.read; within = let w = r.within in omega arith }
+line_at lines texts place text h e = absurd h
 
 -- there are as many texts as lines
 pub reads_count : (lines : List Numbered) (texts : List ReadText) → Each IsReadText lines texts → length texts ≡ length lines
 reads_count [] [] h = refl
-reads_count [] (x ∷ texts) h = absurd h
-reads_count (line ∷ lines) [] h = absurd h
 reads_count (line ∷ lines) (x ∷ texts) h = ap suc (reads_count lines texts h.1)
+reads_count lines texts h = absurd h
 
 -- ---- the role at a place
 
@@ -94,10 +92,9 @@ pub record RoleAt (lines : List Numbered) (place : ℕ) (fed later : List ReadTe
 
 role_there : (all fed before : List ReadText) (text : ReadText) (rest : List ReadText) (roles : List Role) → HaveRoles all fed (before ++ (text ∷ rest)) roles
     → IsRole all (fed_by fed before) text rest (get_or roles (length before) Alone)
-role_there all fed [] text rest [] h = absurd h
 role_there all fed [] text rest (r ∷ roles) h = h.0
-role_there all fed (x ∷ before) text rest [] h = absurd h
 role_there all fed (x ∷ before) text rest (r ∷ roles) h = role_there all (x ∷ fed) before text rest roles h.1
+role_there all fed before text rest roles h = absurd h
 
 -- each place has one
 pub role_at : (lines : List Numbered) (place : ℕ) (fed later : List ReadText) (roles : List Role) (role : Role) → Each IsReadText lines (fed ++ later)

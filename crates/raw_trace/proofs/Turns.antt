@@ -1,8 +1,9 @@
 -- Which waiting entry is picked, and what a turn of an entry that is due comes to.
 use Rattle.std.proofs.Common.{◌≡◌, ℕ, zero, suc, ◌+◌, ◌*◌, ◌<◌, ◌≤◌, Bool, true, false, List, [], ◌∷◌, ◌++◌, length, take, get_or, Option, Some, None, refl, sym, ap, subst, ◌∙◌, append_assoc, inl, inr, arith}
-use Rattle.std.proofs.lemmas.Bool.Decides.{eqb_tells}
-use Rattle.std.specs.Prelude.{◌==◌, reverse, remove}
-use Rattle.std.proofs.lemmas.List.{append-nil, take_more, take_all, length-append, length-map, length-reverse, reverse-append}
+use Rattle.std.specs.Prelude.{reverse, remove}
+use Rattle.std.proofs.Common.{drop, take-append-drop}
+use Rattle.std.proofs.Math.Seq.{get_or-append_seam}
+use Rattle.std.proofs.lemmas.List.{append-nil, take_more, take_all, drop_more, length-take-le, length-append, length-map, length-reverse, reverse-append}
 use Rattle.raw_logs.specs.declared.counts.Counts.{Counts}
 use Rattle.raw_logs.proofs.TextLists.{item_of}
 use Rattle.raw_trace.specs.declared.fault.Fault.{Fault}
@@ -36,60 +37,23 @@ none_at_all test pieces i l h =
     let n = length-map pieces entry in
     none_picked test (entries pieces) (subst (NoneIn test) (take_all i (entries pieces) (omega arith)) h)
 
--- the parts of a list at an item
-pub record Parts (items : List Entry) (i : ℕ) (x : Entry) : Type 0 where
-  -- those before it
-  pub before : List Entry
-  -- those behind it
-  pub after : List Entry
-  -- these are all
-  pub parts : items ≡ before ++ (x ∷ after)
-  -- how many are before it
-  pub count : length before ≡ i
-  -- they are the first
-  pub taken : take i items ≡ before
-  -- without it these are left
-  pub removed : remove items i ≡ before ++ after
-
-pub parts_at : (items : List Entry) (i : ℕ) (x : Entry) → i < length items → get_or items i x ≡ x → Parts items i x
-parts_at [] i x l e = absurd (omega (arith, l))
-parts_at (y ∷ items) zero x l e =
-    let k : y ≡ x = e in
-    record { before = []; after = items; parts = ap (λ (z : Entry). z ∷ items) k; count = refl; taken = refl; removed = refl }
-parts_at (y ∷ items) (suc i) x l e =
-    let r = parts_at items i x (omega (arith, l)) e in
-    record {
-      before = y ∷ r.before;
-      after = r.after;
-      parts = ap (λ (z : List Entry). y ∷ z) r.parts;
-      count = ap suc r.count;
-      taken = ap (λ (z : List Entry). y ∷ z) r.taken;
-      removed = ap (λ (z : List Entry). y ∷ z) r.removed;
-    }
-
 -- a piece passes the test, and none before it
 pub is_picked : (test : Entry → Bool) (pieces : List Piece) (i : ℕ) (piece : Piece) → i < length pieces → piece ≡ get_or pieces i piece
     → NoneIn test (take i (entries pieces)) → test (entry piece) ≡ true → IsPicked test (entries pieces) i
 is_picked test pieces i piece l e h t =
+    let all = entries pieces in
     let n = length-map pieces entry in
-    let r = parts_at (entries pieces) i (entry piece) (omega arith) (item_of entry pieces i piece ∙ ap entry (sym e)) in
+    let next : drop i all ≡ entry piece ∷ drop (i + 1) all =
+    drop_more all i (entry piece) (omega arith) ∙ ap (λ (x : Entry). x ∷ drop (i + 1) all) (item_of entry pieces i piece ∙ ap entry (sym e)) in
+    let parts = sym (take-append-drop i all) ∙ ap (λ (x : List Entry). take i all ++ x) next in
     record {
-      before = r.before;
+      before = take i all;
       one = entry piece;
-      after = r.after;
-      parts = r.parts;
-      count = r.count;
-      is = ap (pick test) r.parts ∙ one_picked test r.before (entry piece) r.after (subst (NoneIn test) r.taken h) t;
+      after = drop (i + 1) all;
+      parts = parts;
+      count = length-take-le i all (omega arith);
+      is = ap (pick test) parts ∙ one_picked test (take i all) (entry piece) (drop (i + 1) all) h t;
     }
-
--- the place of one that is picked is there
-pub picked_within : (test : Entry → Bool) (pieces : List Piece) (i : ℕ) → IsPicked test (entries pieces) i → i < length pieces
-picked_within test pieces i p =
-    let n = length-map pieces entry in
-    let k = ap length p.parts in
-    let m = length-append p.before (p.one ∷ p.after) in
-    let c = p.count in
-    omega arith
 
 entries_removed : (pieces : List Piece) (i : ℕ) → entries (remove pieces i) ≡ remove (entries pieces) i
 entries_removed [] zero = refl
@@ -97,25 +61,19 @@ entries_removed [] (suc i) = refl
 entries_removed (x ∷ pieces) zero = refl
 entries_removed (x ∷ pieces) (suc i) = ap (λ (z : List Entry). entry x ∷ z) (entries_removed pieces i)
 
-removed_at : (a : List Entry) (x : Entry) (b : List Entry) (i : ℕ) → length a ≡ i → remove (a ++ (x ∷ b)) i ≡ a ++ b
-removed_at [] x b i e = subst (λ (k : ℕ). remove (x ∷ b) k ≡ b) e refl
-removed_at (y ∷ a) x b zero e = absurd (omega (arith, e))
-removed_at (y ∷ a) x b (suc i) e = ap (λ (z : List Entry). y ∷ z) (removed_at a x b i (omega (arith, e)))
-
-got_at : (a : List Entry) (x : Entry) (b : List Entry) (i : ℕ) (d : Entry) → length a ≡ i → get_or (a ++ (x ∷ b)) i d ≡ x
-got_at [] x b i d e = subst (λ (k : ℕ). get_or (x ∷ b) k d ≡ x) e refl
-got_at (y ∷ a) x b zero d e = absurd (omega (arith, e))
-got_at (y ∷ a) x b (suc i) d e = got_at a x b i d (omega (arith, e))
+removed_at : (a : List Entry) (x : Entry) (b : List Entry) → remove (a ++ (x ∷ b)) (length a) ≡ a ++ b
+removed_at [] x b = refl
+removed_at (y ∷ a) x b = ap (λ (z : List Entry). y ∷ z) (removed_at a x b)
 
 -- the piece that is taken out is the one that is picked, and the others are left
 pub taken_out : (test : Entry → Bool) (pieces left : List Piece) (i : ℕ) (piece : Piece) → IsPicked test (entries pieces) i → piece ≡ get_or pieces i piece
     → left ≡ remove pieces i → pick test (entries pieces) ≡ Some (record { first = entry piece; others = entries left })
 taken_out test pieces left i piece p e r =
     let one : entry piece ≡ p.one =
-    ap entry e ∙ sym (item_of entry pieces i piece) ∙ ap (λ (x : List Entry). get_or x i (entry piece)) p.parts
-    ∙ got_at p.before p.one p.after i (entry piece) p.count in
+    ap entry e ∙ sym (item_of entry pieces i piece) ∙ (λ k. get_or (p.parts k) (sym p.count k) (entry piece))
+    ∙ get_or-append_seam p.before p.one p.after (entry piece) in
     let others : entries left ≡ p.before ++ p.after =
-    ap entries r ∙ entries_removed pieces i ∙ ap (λ (x : List Entry). remove x i) p.parts ∙ removed_at p.before p.one p.after i p.count in
+    ap entries r ∙ entries_removed pieces i ∙ (λ k. remove (p.parts k) (sym p.count k)) ∙ removed_at p.before p.one p.after in
     p.is ∙ (λ k. Some (record { first = sym one k; others = sym others k }))
 
 -- ---- what is due
@@ -188,25 +146,15 @@ due_first strict old piece due e =
 turns_more : (one : Entry) (due ws : List Entry) → turns (one ∷ due) ws ≡ suc (turns due ws)
 turns_more one due ws = omega arith
 
-write_one : (n : ℕ) (one : Entry) (due ws : List Entry) → pick (λ other. frees_for other one) ws ≡ None
-    → write_due (suc n) frees_for (one ∷ due) ws
-    ≡ record { lines = one ∷ (write_due n frees_for due ws).lines; waiting = (write_due n frees_for due ws).waiting }
-write_one n one due ws is = rw is refl
-
-make_due : (n : ℕ) (one : Entry) (due ws : List Entry) (p : Picked) → pick (λ other. frees_for other one) ws ≡ Some p
-    → write_due (suc n) frees_for (one ∷ due) ws ≡ write_due n frees_for (p.first ∷ (one ∷ due)) p.others
-make_due n one due ws p is = rw is refl
-
 -- a turn of an entry leaves the rest
 turn_written : (one : Entry) (due ws : List Entry) → pick (λ other. frees_for other one) ws ≡ None
     → write_due (turns (one ∷ due) ws) frees_for (one ∷ due) ws
     ≡ record { lines = one ∷ (write_due (turns due ws) frees_for due ws).lines; waiting = (write_due (turns due ws) frees_for due ws).waiting }
-turn_written one due ws is =
-    ap (λ (n : ℕ). write_due n frees_for (one ∷ due) ws) (turns_more one due ws) ∙ write_one (turns due ws) one due ws is
+turn_written one due ws is = ap (λ (n : ℕ). write_due n frees_for (one ∷ due) ws) (turns_more one due ws) ∙ rw is refl
 
 turn_due : (one : Entry) (due ws : List Entry) (p : Picked) (n : ℕ) → pick (λ other. frees_for other one) ws ≡ Some p
     → turns (one ∷ due) ws ≡ suc n → write_due (turns (one ∷ due) ws) frees_for (one ∷ due) ws ≡ write_due n frees_for (p.first ∷ (one ∷ due)) p.others
-turn_due one due ws p n is e = ap (λ (k : ℕ). write_due k frees_for (one ∷ due) ws) e ∙ make_due n one due ws p is
+turn_due one due ws p n is e = ap (λ (k : ℕ). write_due k frees_for (one ∷ due) ws) e ∙ rw is refl
 
 -- a picked entry is one fewer that waits
 turns_picked : (test : Entry → Bool) (one : Entry) (due ws : List Entry) (p : Picked) → pick test ws ≡ Some p
@@ -322,10 +270,3 @@ due_smaller strict one old new due0 due1 due2 e t =
 pub none_left : (due : List Piece) → length due ≡ 0 → due ≡ []
 none_left [] e = refl
 none_left (x ∷ due) e = absurd (omega (arith, e))
-
--- two numbers are the same, or aren't
-pub is_equal : (a b : ℕ) → a ≡ b → (a == b) ≡ true
-is_equal a b e = elim (eqb_tells a b) [ inl h ↦ h.0 | inr h ↦ absurd (h.1 e) ]
-
-pub is_other : (a b : ℕ) → (a ≡ b → ⊥) → (a == b) ≡ false
-is_other a b n = elim (eqb_tells a b) [ inl h ↦ absurd (n h.1) | inr h ↦ h.0 ]

@@ -1,33 +1,33 @@
 -- A whole log: what was written of it is its rewriting, its lines are short, and no other fault is called for than the
 -- one that was found.
-use Rattle.std.proofs.Common.{◌≡◌, ◌≢◌, ◌⊎◌, ℕ, suc, ◌≤◌, ◌<◌, Bool, true, false, List, [], ◌∷◌, ◌++◌, length, Option, Some, None, refl, sym, ap, subst, ◌∙◌, inl, inr, eqb, arith}
+use Rattle.std.proofs.Common.{◌≡◌, ◌≢◌, ◌⊎◌, ℕ, ◌≤◌, ◌<◌, Bool, true, false, List, [], ◌∷◌, ◌++◌, length, Option, Some, None, refl, sym, ap, subst, ◌∙◌, inl, inr, arith}
 use Rattle.std.specs.Prelude.{All, IfOk, IfErr, OnOk, Result, Ok, Err, if◌then◌else◌}
 use Rattle.std.proofs.lemmas.List.Elements.{All-cons, All-nil}
-use Rattle.line_parts.specs.Lines.{put_first, lines_of}
-use Rattle.line_parts.proofs.Leaves.{bool_cases}
 use Rattle.raw_logs.specs.declared.counts.Counts.{Counts}
 use Rattle.raw_logs.specs.declared.fault.LogFault.{LogFault}
 use Rattle.raw_logs.specs.declared.fault.LogFault.TheVariants.{Memory as LogMemory}
 use Rattle.raw_logs.specs.Counting.{one_more_of}
+use Rattle.raw_logs.specs.declared.counts.Sort.{Sort}
 use Rattle.raw_logs.specs.declared.counts.Sort.TheVariants.{Joined, Forms}
 use Rattle.raw_logs.specs.Log.{Numbered}
 use Rattle.raw_logs.specs.Reading.{AreTexts, IsFirstUnknown, IsLogFault}
 use Rattle.raw_logs.proofs.OneLog.{texts_one, unknown_one, texts_no_fault}
 use Rattle.raw_logs.proofs.UnreadLogs.{texts_unread}
 use Rattle.raw_trace.specs.declared.fault.Fault.{Fault}
-use Rattle.raw_trace.specs.declared.fault.Fault.TheVariants.{Unreadable, LongLine, NoProcess, Memory}
+use Rattle.raw_trace.specs.declared.fault.Fault.TheVariants.{Unreadable, LongLine, Memory}
 use Rattle.raw_trace.specs.declared.fault.Cause.TheVariants.{Unknown}
 use Rattle.raw_trace.specs.declared.fault.Trouble.{Trouble}
 use Rattle.raw_trace.specs.declared.rewriting.Rewriting.{Rewriting}
 use Rattle.raw_trace.specs.declared.settling.Ending.{Ending}
-use Rattle.raw_trace.specs.declared.settling.Ending.TheVariants.{AsItIs, ByMends, AsUnreturned, AsUnread}
+use Rattle.raw_trace.specs.declared.settling.Ending.TheVariants.{AsUnread}
 use Rattle.raw_trace.specs.declared.writing.Written.{Written}
 use Rattle.raw_trace.specs.Order.{Entry, Step, frees_for, order}
-use Rattle.raw_trace.specs.Places.{Becomes, becomes_itself, becomes_mended, becomes_unreturned, becomes_unread, IsTrouble, IsEntry, ReadText, part, AreSteps}
-use Rattle.raw_trace.specs.Rewriting.{text_of, lines_as, is_form, counted, counted_entry, counted_all, IsRewriting}
+use Rattle.raw_trace.specs.Places.{Becomes, becomes_unread, IsTrouble, IsEntry, ReadText, part, AreSteps}
+use Rattle.raw_trace.specs.Rewriting.{lines_as, is_form, counted, counted_entry, counted_all, IsRewriting}
 use Rattle.raw_trace.specs.Faults.{of_log, Stops, IsCausedFault, IsFault}
 use Rattle.raw_trace.specs.Laws.{HasShortLines, HasOneRewriting, HasOneFault}
 use Rattle.raw_trace.specs.Stages.{EachEntry, MayBeWritten, WroteAll, EndsAll}
+use Rattle.raw_trace.proofs.LineCalls.{lines_written}
 use Rattle.raw_trace.proofs.EachEntries.{EachStep, line_in, done_each, order_each}
 use Rattle.raw_trace.proofs.OneFault.{never_stops}
 
@@ -52,54 +52,6 @@ rewriting_is process strict bytes chosen before found are w =
 
 -- ---- the lines of what is written
 
--- the first line is no longer than this, and none of the others than that
-record StartsShort (first most : ℕ) (lines : List (List ℕ)) : Type 0 where
-  -- the first
-  pub line : List ℕ
-  -- the others
-  pub more : List (List ℕ)
-  -- these are the lines
-  pub are : lines ≡ line ∷ more
-  -- it is short
-  pub small : length line ≤ first
-  -- they are
-  pub others : All (λ x. length x ≤ most) more
-
-put_short : (most x : ℕ) (line rest : List ℕ) → StartsShort (length line) most (lines_of (line ++ (10 ∷ rest))) → length (x ∷ line) ≤ most → (b : Bool)
-    → eqb x 10 ≡ b → StartsShort (length (x ∷ line)) most (lines_of ((x ∷ line) ++ (10 ∷ rest)))
-put_short most x line rest inner l true e =
-    record {
-      line = [];
-      more = lines_of (line ++ (10 ∷ rest));
-      are = ap (λ (z : Bool). if z then [] ∷ lines_of (line ++ (10 ∷ rest)) else put_first x (lines_of (line ++ (10 ∷ rest)))) e;
-      small = omega arith;
-      others = subst (λ (z : List (List ℕ)). All (λ y. length y ≤ most) z) (sym inner.are)
-          (All-cons (λ (y : List ℕ). length y ≤ most) inner.line inner.more (let k = inner.small in omega (arith, l)) inner.others);
-    }
-put_short most x line rest inner l false e =
-    record {
-      line = x ∷ inner.line;
-      more = inner.more;
-      are = ap (λ (z : Bool). if z then [] ∷ lines_of (line ++ (10 ∷ rest)) else put_first x (lines_of (line ++ (10 ∷ rest)))) e
-          ∙ ap (put_first x) inner.are;
-      small = let k = inner.small in omega arith;
-      others = inner.others;
-    }
-
-starts_short : (most : ℕ) (line rest : List ℕ) → length line ≤ most → All (λ x. length x ≤ most) (lines_of rest)
-    → StartsShort (length line) most (lines_of (line ++ (10 ∷ rest)))
-starts_short most [] rest l h = record { line = []; more = lines_of rest; are = refl; small = omega arith; others = h }
-starts_short most (x ∷ line) rest l h = put_short most x line rest (starts_short most line rest (omega (arith, l)) h) l (eqb x 10) refl
-
--- lines that are written are short
-short_text : (written : List (List ℕ)) → All (λ line. length line ≤ 65535) written → HasShortLines (text_of written)
-short_text [] h = h
-short_text (line ∷ written) h =
-    let short : length line ≤ 65535 = h 0 line (omega arith) in
-    let s = starts_short 65535 line (text_of written) short (short_text written (λ k d l. h (suc k) d (omega (arith, l)))) in
-    subst (λ (z : List (List ℕ)). All (λ y. length y ≤ 65535) z) (sym s.are)
-    (All-cons (λ (y : List ℕ). length y ≤ 65535) s.line s.more (let k = s.small in omega (arith, short)) s.others)
-
 -- an entry that may be written is short
 may_short : (strict : Bool) (e : Entry) → MayBeWritten strict e → length e.line ≤ 65535
 may_short strict e may = let never : 65535 < length e.line → ⊥ = λ l. may (LongLine e.number) (l, refl) in omega (arith, never)
@@ -109,10 +61,14 @@ entries_short strict [] h = All-nil (λ (y : List ℕ). length y ≤ 65535)
 entries_short strict (e ∷ entries) h =
     All-cons (λ (y : List ℕ). length y ≤ 65535) e.line (lines_as entries) (may_short strict e h.0) (entries_short strict entries h.1)
 
-pub written_short : (strict : Bool) (texts : List Numbered) (before : Counts) (found : Written) → WroteAll strict texts before found
-    → HasShortLines found.out.items
-written_short strict texts before found w =
-    subst HasShortLines (sym w.out) (short_text (lines_as (order frees_for [] w.steps)) (entries_short strict (order frees_for [] w.steps) w.may))
+-- so are the lines that are written, which are the lines of what is written
+pub written_short : (process : Option ℕ) (strict : Bool) (bytes : List ℕ) (texts : List Numbered) (before : Counts) (found : Written)
+    → AreTexts process bytes texts before → WroteAll strict texts before found → HasShortLines found.out.items
+unfolding rewriting_is
+written_short process strict bytes texts before found are w =
+    subst (All (λ (line : List ℕ). length line ≤ 65535))
+    (sym (lines_written process bytes found.out.items found.counts found.calls (rewriting_is process strict bytes texts before found are w)).1)
+    (entries_short strict (order frees_for [] w.steps) w.may)
 
 -- ---- lines that are left unread
 
@@ -121,10 +77,8 @@ abbrev IsTold : Entry → Type 0
 IsTold e = e.ending ≡ AsUnread → e.trouble ≡ None → 65535 < length e.line
 
 unread_long : (line written : List ℕ) (ending : Ending) → Becomes line written ending → ending ≡ AsUnread → 65535 < length line → 65535 < length written
-unread_long line written ending (becomes_itself g) e l = absurd cc
-unread_long line written ending (becomes_mended bad r short m g) e l = absurd cc
-unread_long line written ending (becomes_unreturned h) e l = absurd cc
 unread_long line written ending (becomes_unread never half none) e l = omega (arith, l)
+unread_long line written ending becomes e l = absurd cc
 
 entry_told : (number : ℕ) (joined : Bool) (line : List ℕ) (e : Entry) → IsEntry number joined line e → IsTold e
 entry_told number joined line e is u n =
@@ -133,12 +87,11 @@ entry_told number joined line e is u n =
 
 steps_told : (fed texts later : List ReadText) (steps : List Step) → AreSteps fed texts later steps → EachStep IsTold steps
 steps_told fed [] later [] are = tt
-steps_told fed [] later (step ∷ steps) are = absurd are
-steps_told fed (text ∷ texts) later [] are = absurd are
 steps_told fed (text ∷ texts) later (step ∷ steps) are =
     let o = part fed text (texts ++ later) text.reading in
     done_each IsTold text.line o step steps (λ number two e h. entry_told number two (line_in text.line o) e h) are.0
     (steps_told (text ∷ fed) texts later steps are.1)
+steps_told fed texts later steps are = absurd are
 
 -- where every line has to be read, one that may be written isn't left unread
 may_not_unread : (e : Entry) → MayBeWritten true e → IsTold e → e.ending ≢ AsUnread
@@ -148,18 +101,13 @@ may_not_unread e may told u = by e.trouble refl
     by None n = may (LongLine e.number) (told u n, refl)
     by (Some t) n = may (Unreadable e.number t.column t.cause) (refl, may_short true e may, refl, n)
 
-forms_unread : (t : Option Trouble) (c : Counts) → (if is_form t then one_more_of Forms c else c).unread ≡ c.unread
-forms_unread t c = elim (bool_cases (is_form t)) [ inl h ↦ rw h refl | inr h ↦ rw h refl ]
-
-joined_unread : (b : Bool) (c : Counts) → (if b then one_more_of Joined c else c).unread ≡ c.unread
-joined_unread true c = refl
-joined_unread false c = refl
+more_unread : (b : Bool) (sort : Sort) (c : Counts) → (one_more_of sort c).unread ≡ c.unread → (if b then one_more_of sort c else c).unread ≡ c.unread
+more_unread true sort c e = e
+more_unread false sort c e = refl
 
 counted_unread : (e : Ending) (c : Counts) → e ≢ AsUnread → (counted e c).unread ≡ c.unread
-counted_unread AsItIs c n = refl
-counted_unread ByMends c n = refl
-counted_unread AsUnreturned c n = refl
 counted_unread AsUnread c n = absurd (n refl)
+counted_unread ending c n = refl
 
 all_unread : (entries : List Entry) (c : Counts) → EachEntry (MayBeWritten true) entries → EachEntry IsTold entries
     → (counted_all c entries).unread ≡ c.unread
@@ -168,7 +116,7 @@ all_unread (e ∷ entries) c may told =
     let j = if e.joined then one_more_of Joined c else c in
     all_unread entries (counted_entry e c) may.1 told.1
     ∙ counted_unread e.ending (if is_form e.trouble then one_more_of Forms j else j) (may_not_unread e may.0 told.0)
-    ∙ forms_unread e.trouble j ∙ joined_unread e.joined c
+    ∙ more_unread (is_form e.trouble) Forms j refl ∙ more_unread e.joined Joined c refl
 
 -- no line is left unread
 pub none_unread : (process : Option ℕ) (strict : Bool) (bytes : List ℕ) (texts : List Numbered) (before : Counts) (found : Written)
@@ -197,10 +145,8 @@ no_cause process strict bytes texts before unknown found are u k w fault (inr (i
 -- a fault of the reading
 pub log_fault : (process : Option ℕ) (strict : Bool) (bytes : List ℕ) (why : LogFault) (fault : Fault) → IsLogFault process bytes why → fault ≡ of_log why
     → IsFault process strict bytes fault
-log_fault process strict bytes why (Unreadable number column cause) h e = inl (why, h, e)
-log_fault process strict bytes why (LongLine number) h e = inl (why, h, e)
-log_fault process strict bytes why NoProcess h e = inl (why, h, e)
 log_fault process strict bytes why Memory h e = tt
+log_fault process strict bytes why fault h e = inl (why, h, e)
 
 -- what the reading ends with
 pub read_fault : (process : Option ℕ) (strict : Bool) (bytes : List ℕ) (why : LogFault) (fault : Fault) → fault ≡ of_log why
@@ -223,10 +169,8 @@ written_fault process strict bytes texts before unknown fault are u k (inr stops
     by fault (inr (inr ((λ s. subst (IsFirstUnknown process bytes) (k s) u), texts, before, are, stops)))
   where
     by : (fault : Fault) → IsCausedFault process strict bytes fault → IsFault process strict bytes fault
-    by (Unreadable number column cause) h = h
-    by (LongLine number) h = h
-    by NoProcess h = h
     by Memory h = tt
+    by fault h = h
 
 -- ---- what a run comes to
 
@@ -243,9 +187,5 @@ pub fault_comes : (process : Option ℕ) (strict : Bool) (bytes : List ℕ) (r :
     → IfErr r (IsFault process strict bytes) → OnOk r ((fault : Fault) → ¬ IsCausedFault process strict bytes fault)
     → (fault : Fault) → IsCausedFault process strict bytes fault → (r ≡ Err fault) ⊎ (r ≡ Err Memory)
 fault_comes process strict bytes (Ok found) one h never fault g = absurd (never fault g)
-fault_comes process strict bytes (Err (Unreadable number column cause)) one h never fault g =
-    inl (ap (λ (x : Fault). Err x) (one process strict bytes (Unreadable number column cause) fault h g))
-fault_comes process strict bytes (Err (LongLine number)) one h never fault g =
-    inl (ap (λ (x : Fault). Err x) (one process strict bytes (LongLine number) fault h g))
-fault_comes process strict bytes (Err NoProcess) one h never fault g = inl (ap (λ (x : Fault). Err x) (one process strict bytes NoProcess fault h g))
 fault_comes process strict bytes (Err Memory) one h never fault g = inr refl
+fault_comes process strict bytes (Err other) one h never fault g = inl (ap (λ (x : Fault). Err x) (one process strict bytes other fault h g))

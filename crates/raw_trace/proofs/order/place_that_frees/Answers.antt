@@ -1,4 +1,4 @@
-use Rattle.std.proofs.Common.{refl, sym, subst, ◌∙◌, ap, ◌+◌, arith}
+use Rattle.std.proofs.Common.{refl, sym, subst, ◌∙◌, ap, ◌+◌}
 use Rattle.raw_trace.specs.Order.{Entry, frees_for}
 use Rattle.raw_trace.specs.Stages.{entry, entries, IsPicked}
 use Rattle.raw_trace.proofs.Turns.{none_turn, none_at_all, is_picked}

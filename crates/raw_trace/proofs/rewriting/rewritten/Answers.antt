@@ -9,7 +9,8 @@ returns-clause-is c =
 
 -- each line may be read
 pub returns-clause-short : goal.returns-clause-short
-returns-clause-short c = written_short c.args.strict _ _ _ c.in_ok-written.ensures.wrote
+returns-clause-short c =
+    written_short c.args.process c.args.strict c.args.text.now _ _ _ c.in_ok-texts.ensures.texts c.in_ok-written.ensures.wrote
 
 -- no line is left unread
 pub returns-clause-read_all : goal.returns-clause-read_all

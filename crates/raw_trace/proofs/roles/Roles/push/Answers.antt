@@ -1,4 +1,4 @@
-use Rattle.std.proofs.Common.{[], ap, ◌∙◌}
+use Rattle.std.proofs.Common.{ap, ◌∙◌}
 use Rattle.std.specs.Prelude.{slice_set}
 use Rattle.raw_trace.specs.declared.halves.Role.TheVariants.{Alone}
 use Rattle.raw_trace.proofs.RoleMaps.{set_last}
