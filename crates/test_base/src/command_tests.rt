@@ -1,6 +1,6 @@
 //! What no clause says of the command line: that its words are accepted and refused as the tables here say, each case
 //! by hand.
-use command_words::{Command, Options, command_of};
+use command_words::{Command, Options, command_of, number};
 use std::alloc::{AllocError, AllocGlobal, Global};
 use std::process::Abort;
 use std::test::Fail;
@@ -191,4 +191,24 @@ fn a_number_of_400_digits_is_not_accepted(rt: HostRuntime) -> Result<(), Fail> {
         text.push('1')?;
     }
     ask(&rt, text.as_str(), None)
+}
+
+/// Texts, and the number that each is, if it is one.
+const NUMBERS: [(&str, Option<u32>); 9] = [
+    ("0", Some(0)),
+    ("907", Some(907)),
+    ("4294967295", Some(4_294_967_295)),
+    ("4294967296", None),
+    ("", None),
+    ("07", None),
+    ("+7", None),
+    ("-7", None),
+    ("7 ", None),
+];
+
+#[test]
+fn a_number_has_no_sign_and_no_zeros_before_it(rt: HostRuntime) {
+    for (text, wanted) in NUMBERS {
+        assert_eq!(rt; number(text), wanted, "{text}");
+    }
 }

@@ -2,7 +2,7 @@
 //! message of a failure. Each test is a table of calls; one small loop makes them and compares.
 use byte_ports::{
     CleanSink, CleanSource, DripSink, DripSource, Failed, FillSource, MemorySink, MemorySource,
-    Sink, Source, StdSink, StdSource, write_all,
+    Sink, Source, StdSink, StdSource, Unread, read_all, write_all,
 };
 use std::process::Abort;
 use std::test::Fail;
@@ -123,6 +123,31 @@ fn a_clean_sink_fails_where_it_is_full(rt: HostRuntime) -> Result<(), Fail> {
     expect_writes(&rt, &mut sink, &LAST);
     assert_eq!(rt; sink.written(), b"abcd".as_slice());
     assert_eq!(rt; sink.faults, 1);
+    Ok(())
+}
+
+/// Limits of a whole input of five bytes, calls of the source that fail, and what reading all gives.
+const INPUTS: [(usize, u32, Result<&[u8], Unread>); 6] = [
+    (5, 0, Ok(b"abcde")),
+    (9, 0, Ok(b"abcde")),
+    (4, 0, Err(Unread::Long)),
+    (0, 0, Err(Unread::Long)),
+    (5, 1, Err(Unread::Failed)),
+    (5, 2, Err(Unread::Failed)),
+];
+
+#[test]
+fn an_input_is_read_whole_up_to_a_limit(rt: HostRuntime) -> Result<(), Fail> {
+    let alloc = rt.alloc();
+    for (limit, fails, wanted) in INPUTS {
+        let mut source = MemorySource::new(b"abcde".to_vec(alloc)?, [fails].to_vec(alloc)?);
+        let found = read_all(alloc, &mut source, limit);
+        assert_eq!(rt;
+            found.as_deref(),
+            wanted.as_ref().map(|bytes| *bytes),
+            "{limit}"
+        );
+    }
     Ok(())
 }
 
