@@ -42,11 +42,6 @@ may_link v w node lo hi filled even = record {
 }
 
 module _ {P : Type 0} (p q : SeatPart (Beside P)) where
-  -- whatever a quick link answers, the epoch stays
-  pub same_epoch : (answer : Answer) → QuickLinks p q answer → q.core.epoch ≡ p.core.epoch
-  same_epoch IsDone e = ap (λ (x : View). x.epoch) e
-  same_epoch (Lost l) e = ap (λ (x : View). x.epoch) e.3
-
   -- a filled node that was linked at once is held
   pub linked_held : (v : View) (node lo hi : ℕ) → p.core ≡ record v { own = Filling node (Some lo) (Some hi) Writer None } → v.hand ≡ None
       → QuickLinks p q IsDone → Holds q

@@ -14,7 +14,4 @@ pub ready_again : (space : TableShape) (before after : CallerView) (line addr le
 ready_again space before after line addr len prot (Given e path) ready is = let n = is.1.called.numbered in
     record { table = n.table ∙ ready.table; free = n.held ∙ ready.free }
 ready_again space before after line addr len prot Spent ready is =
-    record {
-      table = ap (λ (c : CallerView). c.seat.table) is.1 ∙ ready.table;
-      free = ap (λ (c : CallerView). c.seat.held) is.1 ∙ ready.free;
-    }
+    record { table = ap (λ (c : CallerView). c.seat.table) is.1 ∙ ready.table; free = ap (λ (c : CallerView). c.seat.held) is.1 ∙ ready.free }

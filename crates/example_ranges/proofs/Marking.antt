@@ -21,13 +21,7 @@ module _ (seat : ℕ) (held : Option Held) (pass : Reading) where
   pub may_raise : (to : ℕ) → MayRaise held → pass.sure ≡ true → pass.seen ≤ to → IsAllowed IsHighWater IsMarkStep tt seat held pass (stores 0 to)
   may_raise to h sure more grants words passes m there small = (
     record { seen = to; sure = true },
-    (
-      refl,
-      m.exclusive,
-      (h.0, m.grant ∙ ap some h.1, h.2, h.3),
-      (pass, m.own, sure, more),
-      refl,
-    ),
+    (refl, m.exclusive, (h.0, m.grant ∙ ap some h.1, h.2, h.3), (pass, m.own, sure, more), refl),
   )
 
   -- what was read is no less than what the seat had read before, and it is sure of it

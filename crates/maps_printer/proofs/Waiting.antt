@@ -30,9 +30,7 @@ AppendsAllBut-flush_failed a {c = c} h k = subst (AppendsPrefix a c) (sym h.whol
 -- the lines of one item more
 pub lines_next : {A : Type 0} (line : A → List ℕ) (items : List A) (i : ℕ) (d : A) → i < length items
     → flat_map line (take (i + 1) items) ≡ flat_map line (take i items) ++ line (get_or items i d)
-lines_next line items i d below =
-    ap (flat_map line) (take_at_read items i d below).1
-    ∙ flat_map-append line (take i items) (get_or items i d ∷ [])
+lines_next line items i d below = ap (flat_map line) (take_at_read items i d below).1 ∙ flat_map-append line (take i items) (get_or items i d ∷ [])
     ∙ ap (λ l. flat_map line (take i items) ++ l) (append-nil (line (get_or items i d)))
 
 -- the lines of the first items and of the rest are the whole text
@@ -43,8 +41,7 @@ lines_whole line items i = sym (flat_map-append line (take i items) (drop i item
 pub lines_go_on : {A : Type 0} (line : A → List ℕ) (items : List A) (i : ℕ) (d : A) (a b c : Option (List ℕ)) (waiting pushed after : List ℕ) → i < length items
     → AppendsAllBut a b (flat_map line (take i items)) waiting → pushed ≡ waiting ++ line (get_or items i d) → AppendsAllBut b c pushed after
     → AppendsAllBut a c (flat_map line (take (i + 1) items)) after
-lines_go_on line items i d a b c waiting pushed after below h e k =
-    subst (λ l. AppendsAllBut a c l after) (sym (lines_next line items i d below))
+lines_go_on line items i d a b c waiting pushed after below h e k = subst (λ l. AppendsAllBut a c l after) (sym (lines_next line items i d below))
     (AppendsAllBut-line a (line (get_or items i d)) h (subst (λ l. AppendsAllBut b c l after) e k))
 
 -- the sink failed when the buffer made room after one line more

@@ -1,5 +1,6 @@
 -- The rule holds when the table is opened, and each seat begins with its quota.
-use Rattle.std.proofs.Common.{◌≡◌, ℕ, zero, suc, ◌+◌, ◌-◌, ◌<◌, ◌≤◌, List, [], ◌∷◌, ◌++◌, map, take, length, get_or, replicate, remove, sum, sum_by, Contains, Some, refl, sym, ap, subst, ◌∙◌, arith, slice_index}
+use Rattle.std.proofs.Common.{◌≡◌, ℕ, zero, suc, ◌+◌, ◌-◌, ◌<◌, ◌≤◌, List, [], ◌∷◌, ◌++◌, map, take, length, get_or, replicate, remove, sum, sum_by, Contains}
+use Rattle.std.proofs.Common.{Some, refl, sym, ap, subst, ◌∙◌, arith, slice_index}
 use Rattle.std.proofs.lemmas.List.{get_or-replicate, length-replicate, take_more, map-append}
 use Rattle.std.proofs.lemmas.List.Sums.{sum_by-cons}
 use Rattle.std.proofs.lemmas.List.Folds.{sum_by-replicate}
@@ -36,8 +37,7 @@ zeros {words} room is i lt = let wide : length words ≡ room = ap (λ (w : List
 -- the rule of words that are 0, with one seat that has all quotas
 pub begins : {room total : ℕ} {words : List ℕ} → words ≡ replicate room 0 → 0 < room → total ≤ room → Ruled room total words (begin total ∷ [])
 begins {room} {total} {words} is some_room enough =
-    let wide : length words ≡ room = ap (λ w. length w) is ∙ length-replicate room 0 in
-    let zero_at = zeros room is in
+    let wide : length words ≡ room = ap (λ w. length w) is ∙ length-replicate room 0 in let zero_at = zeros room is in
     let of_view : (P : SeatRecord → Type 0) → P (begin total) → (j : ℕ) (v : SeatRecord)
     → get_elem? (begin total ∷ []) j ≡ some v → P v = λ P p j v e. subst P (only (begin total) v j e) p in
     record {
@@ -59,8 +59,7 @@ pub opens : {key_seats seats : ℕ} (room : ℕ) {key_words words key_shares sha
     → words ≡ replicate room 0 → 0 < room → seats ≡ length shares → sum shares ≤ room
     → IsTouchTable (length key_words) (share_sum key_shares 0 (key_seats - 0)) (opening words [] (begin (share_sum shares 0 (seats - 0))))
 opens {key_seats} {seats} room {key_words} {words} {key_shares} {shares} e f h is some_room count enough =
-    let all : share_sum shares 0 (seats - 0) ≡ sum shares = let z : seats - 0 ≡ length shares = omega arith in ap
-    (share_sum shares 0) z ∙ all_shares shares in
+    let all : share_sum shares 0 (seats - 0) ≡ sum shares = let z : seats - 0 ≡ length shares = omega arith in ap (share_sum shares 0) z ∙ all_shares shares in
     let wide : length key_words ≡ room = ap (λ w. length w) (f ∙ is) ∙ length-replicate room 0 in
     let total : share_sum key_shares 0 (key_seats - 0) ≡ share_sum shares 0 (seats - 0) = λ i. share_sum (h i) 0 (e i - 0) in
     subst (λ (z : ℕ × ℕ). Ruled z.0 z.1 words (begin (share_sum shares 0 (seats - 0)) ∷ []))
@@ -76,8 +75,7 @@ module _ (table : TableId) (quotas : List ℕ) where
   pub next_seat : (n : ℕ) (opened : List (Seat (Unit {0}) SeatRecord)) {s : Seat (Unit {0}) SeatRecord} → Waiting n opened → 0 < length opened
       → s ≡ get_or opened 0 s → (s.table_id ≡ table) × (s.me ≡ (begin (get_or quotas n 0), []))
   next_seat n opened {s} wait more is =
-      let t = wait 0 s (at_index opened 0 s more is) in
-      let z : n + 0 ≡ n = omega arith in
+      let t = wait 0 s (at_index opened 0 s more is) in let z : n + 0 ≡ n = omega arith in
       let one : share_sum quotas n 1 ≡ get_or quotas n 0 = let e : share_sum quotas n 1 ≡ get_or quotas n 0 + 0 = refl in omega arith in
       (t.0, t.1 ∙ (ap (λ m. (begin (share_sum quotas m 1), [])) z ∙ ap (λ q. (begin q, [])) one))
 
@@ -86,8 +84,7 @@ module _ (table : TableId) (quotas : List ℕ) where
       → Waiting (n + 1) left
   wait_on n opened wait is k s at =
       let z : n + suc k ≡ n + 1 + k = omega arith in
-      let r = wait (suc k) s (moved opened k ∙ (ap (λ l. get_elem? l k) (sym is) ∙ at)) in
-      (r.0, r.1 ∙ ap (λ m. (begin (share_sum quotas m 1), [])) z)
+      let r = wait (suc k) s (moved opened k ∙ (ap (λ l. get_elem? l k) (sym is) ∙ at)) in (r.0, r.1 ∙ ap (λ m. (begin (share_sum quotas m 1), [])) z)
     where
       moved : (l : List (Seat (Unit {0}) SeatRecord)) (k : ℕ) → get_elem? l (suc k) ≡ get_elem? (remove l 0) k
       moved [] k = refl
@@ -96,6 +93,5 @@ module _ (table : TableId) (quotas : List ℕ) where
 -- one seat more
 pub more_seats : (table : TableId) (quotas : List ℕ) (n : ℕ) {made : List TouchView} {s : TouchView} → n < length quotas
     → made ≡ map (new_seat table) (take n quotas) → s ≡ new_seat table (get_or quotas n 0) → made ++ s ∷ [] ≡ map (new_seat table) (take (n + 1) quotas)
-more_seats table quotas n lt is e =
-    (λ i. is i ++ e i ∷ []) ∙ (sym (map-append (new_seat table) (take n quotas) (get_or quotas n 0 ∷ []))
+more_seats table quotas n lt is e = (λ i. is i ++ e i ∷ []) ∙ (sym (map-append (new_seat table) (take n quotas) (get_or quotas n 0 ∷ []))
     ∙ ap (map (new_seat table)) (sym (take_more quotas n 0 lt)))

@@ -1,5 +1,6 @@
 -- What the words have when all seats are in one view: the pages of its calls, each once.
-use Rattle.std.proofs.Common.{◌≡◌, ◌≢◌, ◌↔◌, ℕ, zero, suc, ◌+◌, ◌-◌, ◌<◌, ◌≤◌, List, [], ◌∷◌, ◌++◌, length, get_or, take, cond, sum_by, Contains, AllPairs, IsPermutation, refl, sym, ap, ◌∙◌, ⊎_elim, arith}
+use Rattle.std.proofs.Common.{◌≡◌, ◌≢◌, ◌↔◌, ℕ, zero, suc, ◌+◌, ◌-◌, ◌<◌, ◌≤◌, List, [], ◌∷◌, ◌++◌, length, get_or, take, cond, sum_by, Contains, AllPairs}
+use Rattle.std.proofs.Common.{IsPermutation, refl, sym, ap, ◌∙◌, ⊎_elim, arith}
 use Rattle.std.proofs.lemmas.Bool.Decides.{eqb_tells}
 use Rattle.std.proofs.lemmas.List.{take_more, append-nil, get_or_default}
 use Rattle.std.proofs.lemmas.List.Concat.{flat_map-append}
@@ -24,8 +25,7 @@ page_some w n = ⊎_elim (λ t. absurd (n t.1)) (λ t. ap (λ b. cond b [] ((w -
 -- one word more
 pub one_word_more : (words : List ℕ) (i : ℕ) {w : ℕ} → i < length words → get_or words i 0 ≡ w
     → pages_in (take (i + 1) words) ≡ pages_in (take i words) ++ page_in w
-one_word_more words i lt is = ap pages_in (take_more words i 0 lt)
-    ∙ (flat_map-append page_in (take i words) (get_or words i 0 ∷ [])
+one_word_more words i lt is = ap pages_in (take_more words i 0 lt) ∙ (flat_map-append page_in (take i words) (get_or words i 0 ∷ [])
     ∙ (ap (λ l. pages_in (take i words) ++ l) (append-nil (page_in (get_or words i 0))) ∙ ap (λ n. pages_in (take i words) ++ page_in n) is))
 
 -- a free word adds no page
@@ -44,25 +44,19 @@ more_pages words i {w} lt is other e = ap (λ l. l ++ (w - 1) ∷ []) e
 pub pages_times : (p : ℕ) (words : List ℕ) → times p (pages_in words) ≡ times (p + 1) words
 pages_times p [] = refl
 pages_times p (w ∷ ws) =
-    let rest = pages_times p ws in
-    let c = sum_by-cons (one_if (p + 1)) w ws in
+    let rest = pages_times p ws in let c = sum_by-cons (one_if (p + 1)) w ws in
     let a : times p (page_in w ++ pages_in ws) ≡ times p (page_in w) + times p (pages_in ws) = sum_by-append (one_if p) (page_in w) (pages_in ws) in ⊎_elim
     (λ t. let e : times p (page_in w) ≡ 0 = ap (times p) (page_none t.1) in
     let o = one_other (p + 1) w (λ z. let y = t.1 in omega arith) in a ∙ omega arith)
     (λ t. let e : times p (page_in w) ≡ one_if p (w - 1) = ap (times p) (page_some w t.1) ∙ omega arith in
-    let o : one_if (p + 1) w ≡ one_if p (w - 1) = ⊎_elim
-    (λ u. one_same {x = p + 1} {y = w} (let x = u.1 in let y = t.1 in omega arith) ∙ sym (one_same u.1))
-    (λ u. one_other (p + 1) w (λ z. u.1 (omega arith)) ∙ sym (one_other p (w - 1) u.1))
-    (eqb_tells (w - 1) p) in a ∙ omega arith)
-    (eqb_tells w 0)
+    let o : one_if (p + 1) w ≡ one_if p (w - 1) = ⊎_elim (λ u. one_same {x = p + 1} {y = w} (let x = u.1 in let y = t.1 in omega arith) ∙ sym (one_same u.1))
+    (λ u. one_other (p + 1) w (λ z. u.1 (omega arith)) ∙ sym (one_other p (w - 1) u.1)) (eqb_tells (w - 1) p) in a ∙ omega arith) (eqb_tells w 0)
 
 -- a sum that is one element's own, where others have nothing
-no_sum : {A : Type 0} (f g : A → ℕ) (l : List A) → sum_by g l ≡ 0
-    → ((k : ℕ) (a : A) → get_elem? l k ≡ some a → g a ≡ 0 → f a ≡ 0) → sum_by f l ≡ 0
+no_sum : {A : Type 0} (f g : A → ℕ) (l : List A) → sum_by g l ≡ 0 → ((k : ℕ) (a : A) → get_elem? l k ≡ some a → g a ≡ 0 → f a ≡ 0) → sum_by f l ≡ 0
 no_sum f g [] e h = refl
 no_sum f g (x ∷ xs) e h =
-    let p = sum_by-cons f x xs in let q = sum_by-cons g x xs in
-    let one = h 0 x refl (omega arith) in
+    let p = sum_by-cons f x xs in let q = sum_by-cons g x xs in let one = h 0 x refl (omega arith) in
     let rest = no_sum f g xs (omega arith) (λ k a at z. h (suc k) a at z) in omega arith
 
 -- where one entry has the whole of one sum, and another sum has nothing where that has none, it has the whole of both
@@ -70,15 +64,11 @@ pub own_sum : {A : Type 0} (f g : A → ℕ) (l : List A) (id : ℕ) (me : A) �
     → ((k : ℕ) (a : A) → get_elem? l k ≡ some a → g a ≡ 0 → f a ≡ 0) → sum_by f l ≡ f me
 own_sum f g [] id me at e h = absurd (some-ne-none me (sym at))
 own_sum f g (x ∷ xs) zero me at e h =
-    let same : x ≡ me = some-injective x me at in
-    let fx = ap f same in let gx = ap g same in
-    let p = sum_by-cons f x xs in let q = sum_by-cons g x xs in
-    let rest = no_sum f g xs (omega arith) (λ k a t z. h (suc k) a t z) in omega arith
+    let same : x ≡ me = some-injective x me at in let fx = ap f same in let gx = ap g same in
+    let p = sum_by-cons f x xs in let q = sum_by-cons g x xs in let rest = no_sum f g xs (omega arith) (λ k a t z. h (suc k) a t z) in omega arith
 own_sum {A} f g (x ∷ xs) (suc id) me at e h =
-    let p = sum_by-cons f x xs in let q = sum_by-cons g x xs in
-    let least = least_sum g xs id me at in
-    let one = h 0 x refl (omega arith) in
-    let rest = own_sum f g xs id me at (omega arith) (λ k a t z. h (suc k) a t z) in omega arith
+    let p = sum_by-cons f x xs in let q = sum_by-cons g x xs in let least = least_sum g xs id me at in
+    let one = h 0 x refl (omega arith) in let rest = own_sum f g xs id me at (omega arith) (λ k a t z. h (suc k) a t z) in omega arith
   where
     least_sum : (g : A → ℕ) (l : List A) (id : ℕ) (me : A) → get_elem? l id ≡ some me → g me ≤ sum_by g l
     least_sum g [] id me at = absurd (some-ne-none me (sym at))
@@ -96,11 +86,8 @@ times_there {x} (y ∷ ys) (suc i) lt e = let c = sum_by-cons (one_if x) y ys in
 -- a number that is there at least once stands at some place
 pub there_times : (x : ℕ) (l : List ℕ) → 1 ≤ times x l → Contains l x
 there_times x [] some_time = absurd (omega arith)
-there_times x (y ∷ ys) some_time = ⊎_elim
-    (λ t. (0, omega arith, t.1))
-    (λ t. let c = sum_by-cons (one_if x) y ys in let o = one_other x y t.1 in
-    let r = there_times x ys (omega arith) in let lt = r.1 in (suc r.0, omega arith, r.2))
-    (eqb_tells y x)
+there_times x (y ∷ ys) some_time = ⊎_elim (λ t. (0, omega arith, t.1)) (λ t. let c = sum_by-cons (one_if x) y ys in let o = one_other x y t.1 in
+    let r = there_times x ys (omega arith) in let lt = r.1 in (suc r.0, omega arith, r.2)) (eqb_tells y x)
 
 -- a number that stands at two places is there at least twice
 pub two_times : {x : ℕ} (l : List ℕ) (i j : ℕ) → i < j → j < length l → get_or l i 0 ≡ x → get_or l j 0 ≡ x → 2 ≤ times x l
@@ -108,8 +95,7 @@ two_times [] i j a b e f = absurd (omega arith)
 two_times (y ∷ ys) i zero a b e f = absurd (omega arith)
 two_times {x} (y ∷ ys) zero (suc j) a b e f = let c = sum_by-cons (one_if x) y ys in let o = one_same e in
     let r = times_there ys j (omega arith) f in omega arith
-two_times {x} (y ∷ ys) (suc i) (suc j) a b e f = let c = sum_by-cons (one_if x) y ys in
-    let r = two_times ys i j (omega arith) (omega arith) e f in omega arith
+two_times {x} (y ∷ ys) (suc i) (suc j) a b e f = let c = sum_by-cons (one_if x) y ys in let r = two_times ys i j (omega arith) (omega arith) e f in omega arith
 
 contains_times : (x : ℕ) (l : List ℕ) → Contains l x → 1 ≤ times x l
 contains_times x l h = times_there l h.0 h.1 (sym (get_or_default l h.0 x 0 h.1) ∙ h.2)
@@ -117,13 +103,10 @@ contains_times x l h = times_there l h.0 h.1 (sym (get_or_default l h.0 x 0 h.1)
 -- numbers that don't fall, each once, rise
 pub rising : (l : List ℕ) → IsNonDecreasingBy (λ (n : ℕ). n) l → ((p : ℕ) → times p l ≤ 1) → AllPairs (λ p q. p < q) l
 rising l up once i j d a b =
-    let le = up i j d (omega arith) b in
-    let x : ℕ = get_or l i d in
+    let le = up i j d (omega arith) b in let x : ℕ = get_or l i d in
     let is_i : get_or l i 0 ≡ x = get_or_default l i 0 d (omega arith) in
     let is_j : get_or l j 0 ≡ get_or l j d = get_or_default l j 0 d b in
-    dite (ℕ_discrete (get_or l j d) x)
-    (λ e. let two = two_times l i j a b is_i (is_j ∙ e) in let one = once x in absurd (omega arith))
-    (λ differ. omega arith)
+    dite (ℕ_discrete (get_or l j d) x) (λ e. let two = two_times l i j a b is_i (is_j ∙ e) in let one = once x in absurd (omega arith)) (λ differ. omega arith)
 
 -- ---- the one view has all
 
@@ -143,8 +126,7 @@ module _ {room total : ℕ} {words : List ℕ} {views : List SeatRecord} (id : �
   -- each page is among the pages at most once
   pub end_once : (p : ℕ) → times p pages ≤ 1
   end_once p = let wide = r.wide in let e = in_words p in
-      let one = at_most_one (p + 1) words (λ i j a b x y. r.alone i j (omega arith) (omega arith) (x ∙ sym y)
-      (λ z. let w = x in omega arith)) in omega arith
+      let one = at_most_one (p + 1) words (λ i j a b x y. r.alone i j (omega arith) (omega arith) (x ∙ sym y) (λ z. let w = x in omega arith)) in omega arith
 
   -- the pages are those that were touched
   pub end_pages : (p : ℕ) → Contains pages p ↔ Contains all.touched p

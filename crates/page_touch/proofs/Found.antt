@@ -20,21 +20,13 @@ pub put_seen : {room page place n m : ℕ} {v u w : SeatRecord} → IsProbe room
     → m ≡ page + 1 → IsFound room page place v Stands w
 put_seen {room} {page} {place} {n} {m} {v} {u} {w} p free q e =
     let first : u ≡ stayed page false place n v = p.after ∙ after_free page false place v free in
-    let second : w ≡ seen page true place m (stayed page false place n v) = q.after
-    ∙ (after_seen page true place u e ∙ ap (seen page true place m) first) in
+    let second : w ≡ seen page true place m (stayed page false place n v) = q.after ∙ (after_seen page true place u e ∙ ap (seen page true place m) first) in
     subst (IsFound room page place v Stands) (sym second) (
       refl,
       refl,
       refl,
       refl,
-      record {
-        step = last_of page true place m (stayed page false place n v);
-        last_is = refl;
-        newer = omega arith;
-        latest = refl;
-        place_is = refl;
-        found = e;
-      },
+      record { step = last_of page true place m (stayed page false place n v); last_is = refl; newer = omega arith; latest = refl; place_is = refl; found = e },
     )
 
 -- an exchange that found the word free has written the page
@@ -42,8 +34,7 @@ pub put_wrote : {room page place n m : ℕ} {v u w : SeatRecord} → IsProbe roo
     → IsFound room page place v Wrote w
 put_wrote {room} {page} {place} {n} {m} {v} {u} {w} p free q e =
     let first : u ≡ stayed page false place n v = p.after ∙ after_free page false place v free in
-    let second : w ≡ wrote page true place m (stayed page false place n v) = q.after
-    ∙ (after_free page true place u e ∙ ap (wrote page true place m) first) in
+    let second : w ≡ wrote page true place m (stayed page false place n v) = q.after ∙ (after_free page true place u e ∙ ap (wrote page true place m) first) in
     subst (IsFound room page place v Wrote) (sym second) (
       refl,
       refl,

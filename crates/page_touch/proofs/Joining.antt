@@ -13,8 +13,7 @@ use Rattle.page_touch.specs.Starting.{sum_after, begin_within, none_in}
 
 both_within : {v w : SeatRecord} → IsWithin v → IsWithin w → IsWithin (gathered v w)
 both_within {v} {w} a b =
-    let t = length-append v.touched w.touched in
-    let f = length-append v.firsts w.firsts in
+    let t = length-append v.touched w.touched in let f = length-append v.firsts w.firsts in
     let a1 = a.quota in let a2 = a.firsts in let b1 = b.quota in let b2 = b.firsts in
     record {
       quota = omega arith;
@@ -26,14 +25,11 @@ both_within {v} {w} a b =
 -- the seat that stays has what belonged to both, the other one nothing, so no sum changes
 pub joins : (room total id other : ℕ) (v w : SeatRecord) → Joins (IsTouchTable room total) id v other w (gathered v w) (begin 0)
 joins room total id other v w s r at differ there =
-    let both : SeatRecord = gathered v w in
-    let none : SeatRecord = begin 0 in
+    let both : SeatRecord = gathered v w in let none : SeatRecord = begin 0 in
     let views : List SeatRecord = set s.views id both in
     let was : get_elem? s.views other ≡ some w = ⊎_elim (λ t. absurd (differ t.0)) (λ t. t.1) (at_set s.views id other both w there) in
-    let of_view : (P : SeatRecord → Type 0) → P both → P none
-    → ((j : ℕ) (u : SeatRecord) → get_elem? s.views j ≡ some u → P u) → (j : ℕ) (u : SeatRecord)
-    → get_elem? (set views other none) j ≡ some u → P u =
-    λ P p q old j u e. ⊎_elim (λ t. subst P t.1 q) (λ t. ⊎_elim (λ x. subst P x.1 p) (λ x. old j u x.1)
+    let of_view : (P : SeatRecord → Type 0) → P both → P none → ((j : ℕ) (u : SeatRecord) → get_elem? s.views j ≡ some u → P u) → (j : ℕ) (u : SeatRecord)
+    → get_elem? (set views other none) j ≡ some u → P u = λ P p q old j u e. ⊎_elim (λ t. subst P t.1 q) (λ t. ⊎_elim (λ x. subst P x.1 p) (λ x. old j u x.1)
     (at_set s.views id j both u t.1)) (at_set views other j none u e) in
     let sums : (f : SeatRecord → ℕ) → f both + f none ≡ f v + f w → sum_by f (set views other none) ≡ sum_by f s.views =
     λ f e. let a = sum_after f s.views id v both at in let b = sum_after f views other w none there in omega arith in
@@ -45,8 +41,7 @@ joins room total id other v w s r at differ there =
       within = of_view IsWithin (both_within (r.within id v at) (r.within other w was)) (begin_within 0) r.within;
       full = r.full ∙ sym (sums first_count (let l = length-append v.firsts w.firsts in omega arith));
       told = λ page. sums (first_times page) (let l : times page
-          (v.firsts ++ w.firsts) ≡ times page v.firsts + times page w.firsts = sum_by-append
-          (one_if page) v.firsts w.firsts in omega arith) ∙ r.told page;
+          (v.firsts ++ w.firsts) ≡ times page v.firsts + times page w.firsts = sum_by-append (one_if page) v.firsts w.firsts in omega arith) ∙ r.told page;
       alone = r.alone;
       probed = r.probed;
       looked = λ j u l e is. of_view (λ x. x.looking ≡ Some l

@@ -22,23 +22,9 @@ use Rattle.page_fault.specs.declared.faults.TriedFault.{TriedFault}
 use Rattle.test_crews.specs.Crews.{HasCalled, HaveCalled, IsIdleAgain, IsCrew, OfCaller}
 
 -- what is back is idle
-pub back_idle : (table : TableId) (k : ℕ) (a b : CallerView) → IsIdleAgain a b
-    → (a.seat.table ≡ table) × (a.seat.number ≡ k) × (a.seat.held ≡ None)
+pub back_idle : (table : TableId) (k : ℕ) (a b : CallerView) → IsIdleAgain a b → (a.seat.table ≡ table) × (a.seat.number ≡ k) × (a.seat.held ≡ None)
     → (b.seat.table ≡ table) × (b.seat.number ≡ k) × (b.seat.held ≡ None)
 back_idle table k a b back i = (back.table ∙ i.0, back.number ∙ i.1, back.held)
-
--- new callers are a crew
-pub new_crew : (lists : ℕ) (table : TableId) (seats : ℕ) (start : List Area) (calls : List ℕ) (callers : List CallerView)
-    → length callers ≡ seats → 0 < seats → AreNewCallersIn lists table start calls callers → IsCrew table seats callers
-new_crew lists table seats start calls callers count more new = record {
-  count = count;
-  some = more;
-  idle = λ k c at. let e = new k c at in (
-    ap (λ (x : CallerView). x.seat.table) e,
-    ap (λ (x : CallerView). x.seat.number) e,
-    ap (λ (x : CallerView). x.seat.held) e,
-  );
-}
 
 -- a crew whose callers are each back is a crew
 pub crew_back : (table : TableId) (seats : ℕ) (old new : List CallerView) → length new ≡ length old → IsCrew table seats old
@@ -48,8 +34,7 @@ crew_back table seats old new same crew each = record {
   count = same ∙ crew.count;
   some = crew.some;
   idle = λ k c at.
-      let lt = below new k c at in
-      let e = each k c (omega arith) in
+      let lt = below new k c at in let e = each k c (omega arith) in
       let was : get_elem? old k ≡ some e.0 = at_index old k e.0 (omega arith) (e.2 ∙ same_or old k c e.0 (omega arith)) in
       let now : e.1 ≡ c = e.4 ∙ at_or new k c c at in
       subst (λ (x : CallerView). (x.seat.table ≡ table) × (x.seat.number ≡ k) × (x.seat.held ≡ None)) now (back_idle table k e.0 e.1 e.3 (crew.idle k e.0 was));
@@ -59,12 +44,11 @@ crew_back table seats old new same crew each = record {
 pub answer_back : (before after : CallerView) (line : ℕ) (call : Call) (answer : Answer) → before.seat.held ≡ None
     → IsAnswered before line call answer after → IsIdleAgain before after
 answer_back before after line call (Given e) free is = let n = is.1.numbered in record { table = n.table; number = n.number; held = n.held ∙ free }
-answer_back before after line call Spent free is =
-    record {
-      table = ap (λ (x : CallerView). x.seat.table) is.1;
-      number = ap (λ (x : CallerView). x.seat.number) is.1;
-      held = ap (λ (x : CallerView). x.seat.held) is.1 ∙ free;
-    }
+answer_back before after line call Spent free is = record {
+  table = ap (λ (x : CallerView). x.seat.table) is.1;
+  number = ap (λ (x : CallerView). x.seat.number) is.1;
+  held = ap (λ (x : CallerView). x.seat.held) is.1 ∙ free;
+}
 
 -- the first caller of a crew
 pub first_of : (table : TableId) (seats : ℕ) (callers : List CallerView) (c : CallerView) → IsCrew table seats callers
@@ -73,15 +57,12 @@ first_of table seats callers c crew is = crew.idle 0 c (at_index callers 0 c (le
 
 -- a crew whose first caller is back
 pub first_back : (table : TableId) (seats : ℕ) (callers : List CallerView) (before after : CallerView)
-    → IsCrew table seats callers → before ≡ get_or callers 0 before → IsIdleAgain before after
-    → IsCrew table seats (set callers 0 after)
+    → IsCrew table seats callers → before ≡ get_or callers 0 before → IsIdleAgain before after → IsCrew table seats (set callers 0 after)
 first_back table seats callers before after crew is back = record {
   count = length-set callers 0 after ∙ crew.count;
   some = crew.some;
-  idle = λ k c at. ⊎_elim
-      (λ t. subst (λ (z : ℕ × CallerView). (z.1.seat.table ≡ table) × (z.1.seat.number ≡ z.0) × (z.1.seat.held ≡ None))
-      (λ i. (sym t.0 i, t.1 i)) (back_idle table 0 before after back (first_of table seats callers before crew is)))
-      (λ t. crew.idle k c t.1)
+  idle = λ k c at. ⊎_elim (λ t. subst (λ (z : ℕ × CallerView). (z.1.seat.table ≡ table) × (z.1.seat.number ≡ z.0) × (z.1.seat.held ≡ None))
+      (λ i. (sym t.0 i, t.1 i)) (back_idle table 0 before after back (first_of table seats callers before crew is))) (λ t. crew.idle k c t.1)
       (at_set callers 0 k after c at);
 }
 
@@ -148,31 +129,25 @@ pub one_more : (calls : ℕ) (start before after : CallerView) (line : ℕ) (cal
     → HasCalled calls start before → IsAnswered before line call answer after → HasCalled (calls + 1) start after
 one_more calls start before after line call (Given e) h is =
     let more : length after.seat.pass.mine ≡ length before.seat.pass.mine + 1 = ap length is.1.numbered.mine ∙ length-append before.seat.pass.mine (e ∷ []) in
-    let l = h.left in let k = h.kept in let m = is.1.left in
-    record { left = omega arith; kept = omega arith }
+    let l = h.left in let k = h.kept in let m = is.1.left in record { left = omega arith; kept = omega arith }
 one_more calls start before after line call Spent h is =
     let same : after.left ≡ before.left = ap (λ (x : CallerView). x.left) is.1 in
     let mine : length after.seat.pass.mine ≡ length before.seat.pass.mine = ap (λ (x : CallerView). length x.seat.pass.mine) is.1 in
-    let l = h.left in let k = h.kept in let z = is.0 in
-    record { left = omega arith; kept = omega arith }
+    let l = h.left in let k = h.kept in let z = is.0 in record { left = omega arith; kept = omega arith }
 
 -- a crew whose callers each made so many calls
 pub crew_called : (calls : ℕ) (old new : List CallerView)
     → ((k : ℕ) (d : CallerView) → k < length old → (a : CallerView) × (b : CallerView) × (a ≡ get_or old k d)
     × HasCalled calls a b × (b ≡ get_or new k d)) → HaveCalled calls old new
 crew_called calls old new each k a b at_a at_b =
-    let e = each k a (below old k a at_a) in
-    let was : e.0 ≡ a = e.2 ∙ at_or old k a a at_a in
-    let now : e.1 ≡ b = e.4 ∙ (at_or new k b a at_b) in
-    subst (λ (z : CallerView × CallerView). HasCalled calls z.0 z.1) (λ i. (was i, now i)) e.3
+    let e = each k a (below old k a at_a) in let was : e.0 ≡ a = e.2 ∙ at_or old k a a at_a in
+    let now : e.1 ≡ b = e.4 ∙ (at_or new k b a at_b) in subst (λ (z : CallerView × CallerView). HasCalled calls z.0 z.1) (λ i. (was i, now i)) e.3
 
 -- a crew that was lent as a slice of all of its callers is idle where it is handed back
 pub idle_kept : (table : TableId) (seats len : ℕ) (callers items : List CallerView) → IsCrew table seats callers → length items ≡ seats → len ≡ seats
     → AreIdle table (take len (callers ++ drop (length callers) items))
 idle_kept table seats len callers items crew own wide =
     let le : length items ≤ length callers = let n = crew.count in omega (arith, own, n) in
-    let whole : take len (callers ++ drop (length callers) items) ≡ callers =
-    ap (λ n. take n (callers ++ drop (length callers) items)) (wide ∙ sym crew.count)
-    ∙ ap (λ r. take (length callers) (callers ++ r)) (drop_of_length-le items le)
-    ∙ ap (take (length callers)) (append-nil callers) ∙ take-length callers in
+    let whole : take len (callers ++ drop (length callers) items) ≡ callers = ap (λ n. take n (callers ++ drop (length callers) items)) (wide ∙ sym crew.count)
+    ∙ ap (λ r. take (length callers) (callers ++ r)) (drop_of_length-le items le) ∙ ap (take (length callers)) (append-nil callers) ∙ take-length callers in
     subst (AreIdle table) (sym whole) crew.idle

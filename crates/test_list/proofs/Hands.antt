@@ -22,15 +22,10 @@ module _ {P : Type 0} (table : TableId) (hands : List (HandState P)) (i : ℕ) (
 
   -- the hand at a place changed, and is of the same list and number
   pub order_set : (h : HandState P) → IsSameHand (get_or hands i d) h → AreInOrder table (set hands i h)
-  order_set h same k b at =
-      ⊎_elim
-      (λ (t : (k ≡ i) × (h ≡ b)). (
-        sym (ap (λ (x : HandState P). x.table) t.1) ∙ (same.table ∙ at_place.0),
-        sym (ap (λ (x : HandState P). x.part.number) t.1)
-            ∙ (same.number ∙ (at_place.1 ∙ sym t.0)),
-      ))
-      (λ (t : (k ≢ i) × (get_elem? hands k ≡ some b)). order k b t.1)
-      (at_set hands i k h b at)
+  order_set h same k b at = ⊎_elim (λ (t : (k ≡ i) × (h ≡ b)). (
+    sym (ap (λ (x : HandState P). x.table) t.1) ∙ (same.table ∙ at_place.0),
+    sym (ap (λ (x : HandState P). x.part.number) t.1) ∙ (same.number ∙ (at_place.1 ∙ sym t.0)),
+  )) (λ (t : (k ≢ i) × (get_elem? hands k ≡ some b)). order k b t.1) (at_set hands i k h b at)
 
 -- hands in order that are all idle
 pub idle_in_order : {P : Type 0} (table : TableId) (hands : List (HandState P)) → AreInOrder table hands → AreAllIdle hands → AreIdleHands table hands
@@ -38,28 +33,23 @@ idle_in_order table hands order idle k h at = let o = order k h at in (o.0, o.1,
 
 -- one idle hand more
 pub idle_more : {P : Type 0} (hands : List (HandState P)) (i : ℕ) (a : HandState P)
-    → ((k : ℕ) (h : HandState P) → k < i → get_elem? hands k ≡ some h → IsIdle h.part.core) → i < length hands
-    → a ≡ get_or hands i a → IsIdle a.part.core
+    → ((k : ℕ) (h : HandState P) → k < i → get_elem? hands k ≡ some h → IsIdle h.part.core) → i < length hands → a ≡ get_or hands i a → IsIdle a.part.core
     → (k : ℕ) (h : HandState P) → k < i + 1 → get_elem? hands k ≡ some h → IsIdle h.part.core
-idle_more {P} hands i a before less is here k h low at =
-    ⊎_elim
+idle_more {P} hands i a before less is here k h low at = ⊎_elim
     (λ (e : k ≡ i). subst (λ (x : HandState P). IsIdle x.part.core) (is ∙ (ap (λ n. get_or hands n a) (sym e) ∙ at_or hands k h a at)) here)
-    (λ (d : k ≢ i). before k h (omega arith) at)
-    (cases_eq k i)
+    (λ (d : k ≢ i). before k h (omega arith) at) (cases_eq k i)
 
 -- hands in order of which each is of the same list and number, and idle
 pub hands_back : {P : Type 0} (table : TableId) (old new : List (HandState P)) → length new ≡ length old → AreInOrder table old
     → ((k : ℕ) (d : HandState P) → k < length old → (a : HandState P) × (b : HandState P) × (a ≡ get_or old k d) × IsSameHand a b
     × IsIdle b.part.core × (b ≡ get_or new k d)) → AreIdleHands table new
 hands_back {P} table old new same order each k h at =
-    let less = below new k h at in
-    let e = each k h (omega arith) in
+    let less = below new k h at in let e = each k h (omega arith) in
     let was : get_elem? old k ≡ some e.0 = at_index old k e.0 (omega arith) (e.2 ∙ same_or old k h e.0 (omega arith)) in
     let o = order k e.0 was in
     let now : e.1 ≡ h = e.5 ∙ at_or new k h h at in (
       sym (ap (λ (x : HandState P). x.table) now) ∙ (e.3.table ∙ o.0),
-      sym (ap (λ (x : HandState P). x.part.number) now)
-          ∙ (e.3.number ∙ o.1),
+      sym (ap (λ (x : HandState P). x.part.number) now) ∙ (e.3.number ∙ o.1),
       subst (λ (x : HandState P). IsIdle x.part.core) now e.4,
     )
 

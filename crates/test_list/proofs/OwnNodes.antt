@@ -26,9 +26,7 @@ known_by o e = subst (λ (b : Bool). OnTrue b ((n : ℕ) × (o ≡ Some n))) e (
 pub ends_if : (own : Own) (f : Filled) (b : Bool) → own ≡ filling f → OnTrue b ((is_some f.lo ≡ true) × (is_some f.hi ≡ true)) → OnTrue b (HasEnds own)
 ends_if own f false is h = tt
 ends_if own f true is h =
-    let lo = known_by f.lo h.0 in
-    let hi = known_by f.hi h.1 in
-    record { node = f; is = is; lo = lo.0; hi = hi.0; low = lo.1; high = hi.1 }
+    let lo = known_by f.lo h.0 in let hi = known_by f.hi h.1 in record { node = f; is = is; lo = lo.0; hi = hi.0; low = lo.1; high = hi.1 }
 
 -- where a node that is being filled was found to be aimed at nothing, it may be filled
 pub fresh_if : (v : View) (f : Filled) (o : Option ℕ) → v.own ≡ filling f → v.cursor ≡ None
@@ -67,8 +65,7 @@ module _ (seats : ℕ) (v : View) (t : Todo) (d : IsDue v.own t) (inside : IsIns
           next = at.next;
         };
         few = at.few;
-      } in
-      record { inside = inside; own = record { node = d.node; is = d.is; todo = d.first }; begins = inr (todo, stands) }
+      } in record { inside = inside; own = record { node = d.node; is = d.is; todo = d.first }; begins = inr (todo, stands) }
 
   -- where that is asked when a trial runs
   pub validates_if : (c : Cursor) (b : Bool) → v.cursor ≡ Some c → t ≡ Forward → OnTrue b (IsAtKnownNode seats c) → OnTrue b (MayValidate seats v)

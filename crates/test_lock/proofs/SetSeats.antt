@@ -23,19 +23,7 @@ free_four a b c d w x y z (suc (suc zero)) e lt = y
 free_four a b c d w x y z (suc (suc (suc zero))) e lt = z
 free_four a b c d w x y z (suc (suc (suc (suc k)))) e lt = absurd (omega arith)
 
--- the first item and those that are left without it are all items
-pub first_removed : {X : Type 0} (xs ys : List X) (x : X) → 0 < length xs → x ≡ get_or xs 0 x → ys ≡ remove xs 0 → xs ≡ x ∷ ys
-first_removed [] ys x more is rest = absurd (omega arith)
-first_removed (z ∷ zs) ys x more is rest = λ i. sym is i ∷ sym rest i
-
 module _ {P : Type 0} where
-  -- the four seats of a set, taken one by one, and those that are left are all seats
-  pub first_four : (all one two three left : List (SeatState P)) (a b c d : SeatState P) (table : TableId) (set : SetView P)
-      → set ≡ record { table = table; seats = a ∷ b ∷ c ∷ d ∷ [] } → all ≡ a ∷ one → one ≡ b ∷ two → two ≡ c ∷ three → three ≡ d ∷ left
-      → all ≡ set.seats ++ left
-  first_four all one two three left a b c d table set is e f g h =
-      e ∙ (ap (λ l. a ∷ l) (f ∙ ap (λ l. b ∷ l) (g ∙ ap (λ l. c ∷ l) h)) ∙ sym (ap (λ (s : SetView P). s.seats ++ left) is))
-
   at_append : (xs ys : List (SeatState P)) (k : ℕ) (s : SeatState P) → get_elem? xs k ≡ some s → get_elem? (xs ++ ys) k ≡ some s
   at_append [] ys k s at = absurd (some-ne-none s (sym at))
   at_append (x ∷ xs) ys zero s at = at
@@ -46,8 +34,7 @@ module _ {P : Type 0} where
       → all ≡ ps ++ rest → rest ≡ qs ++ left → AreIdleSeats table (ps ++ qs)
   both_idle table first all ps rest qs left new e f k s at =
       let whole : all ≡ (ps ++ qs) ++ left = e ∙ (ap (λ l. ps ++ l) f ∙ sym (append_assoc ps qs left)) in
-      let is = new k s (ap (λ l. get_elem? l k) whole ∙ at_append (ps ++ qs) left k s at) in
-      (ap (λ x. x.table) is, ap (λ x. x.number) is, ap (λ x. x.held) is)
+      let is = new k s (ap (λ l. get_elem? l k) whole ∙ at_append (ps ++ qs) left k s at) in (ap (λ x. x.table) is, ap (λ x. x.number) is, ap (λ x. x.held) is)
 
   each_at : (R : SeatState P → SeatState P → Type 0) (xs ys : List (SeatState P)) → EachIs R xs ys → (k : ℕ) (t : SeatState P)
       → get_elem? ys k ≡ some t → (s : SeatState P) × (get_elem? xs k ≡ some s) × R s t
@@ -57,8 +44,7 @@ module _ {P : Type 0} where
   each_at R (x ∷ xs) (y ∷ ys) each zero t at = (x, refl, subst (R x) (some-injective y t at) each.0)
   each_at R (x ∷ xs) (y ∷ ys) each (suc k) t at = each_at R xs ys each.1 k t at
 
-  each_append : (R : SeatState P → SeatState P → Type 0) (xs ys zs ws : List (SeatState P)) → EachIs R xs ys → EachIs R zs ws
-      → EachIs R (xs ++ zs) (ys ++ ws)
+  each_append : (R : SeatState P → SeatState P → Type 0) (xs ys zs ws : List (SeatState P)) → EachIs R xs ys → EachIs R zs ws → EachIs R (xs ++ zs) (ys ++ ws)
   each_append R [] [] zs ws one other = other
   each_append R [] (y ∷ ys) zs ws one other = absurd one
   each_append R (x ∷ xs) [] zs ws one other = absurd one
@@ -69,12 +55,10 @@ module _ {P : Type 0} where
       → EachIs IsGivenBack zs ws → AreIdleSeats table (ys ++ ws)
   idle_again table xs ys zs ws idle one other k t at =
       let e = each_at IsGivenBack (xs ++ zs) (ys ++ ws) (each_append IsGivenBack xs ys zs ws one other) k t at in
-      let was = idle k e.0 e.1 in
-      (e.2.table ∙ was.0, e.2.number ∙ was.1, e.2.held)
+      let was = idle k e.0 e.1 in (e.2.table ∙ was.0, e.2.number ∙ was.1, e.2.held)
 
   -- the seats of two sets are those that the sets give back
-  pub both_given : (table : TableId) (xs ys ps qs : List (SeatState P)) → ps ≡ xs → qs ≡ ys → AreIdleSeats table (xs ++ ys)
-      → AreIdleSeats table (ps ++ qs)
+  pub both_given : (table : TableId) (xs ys ps qs : List (SeatState P)) → ps ≡ xs → qs ≡ ys → AreIdleSeats table (xs ++ ys) → AreIdleSeats table (ps ++ qs)
   both_given table xs ys ps qs e f = subst (AreIdleSeats table) (sym (λ i. e i ++ f i))
 
   -- each seat of a set that let go what it had got is given back
@@ -85,8 +69,7 @@ module _ {P : Type 0} where
   let_go_back (x ∷ xs) (y ∷ ys) each = (each.0.back, let_go_back xs ys each.1)
 
   release_back : (rested : P → P) (x y z : SeatState P) → IsLockCall x y → IsReleasedIfHeld rested y z → IsGivenBack x z
-  release_back rested x y z call (inl r) = let back = r.1 in
-      record { table = back.table ∙ call.table; number = back.number ∙ call.number; held = back.held }
+  release_back rested x y z call (inl r) = let back = r.1 in record { table = back.table ∙ call.table; number = back.number ∙ call.number; held = back.held }
   release_back rested x y z call (inr r) =
       record { table = ap (λ s. s.table) r.1 ∙ call.table; number = ap (λ s. s.number) r.1 ∙ call.number; held = ap (λ s. s.held) r.1 ∙ r.0 }
 

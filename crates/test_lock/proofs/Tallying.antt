@@ -31,19 +31,14 @@ module _ (seat : ℕ) (held : Option Held) (pass : Brought) where
   -- after a read the pass knows the value that was found
   pub was_read : (found : ℕ) (after : Brought) → IsMade IsTallied IsTallyStep tt seat held pass (loads 0) found after → after ≡ has_read pass found
   was_read found after made =
-      let m = made.3 in
-      let here = made.4 in
-      let step = made.5.2 in
-      let same : step.0 ≡ pass = some-injective _ _ (sym step.1 ∙ m.own) in
-      step.2 ∙ (λ i. has_read (same i) (here i))
+      let m = made.3 in let here = made.4 in let step = made.5.2 in
+      let same : step.0 ≡ pass = some-injective _ _ (sym step.1 ∙ m.own) in step.2 ∙ (λ i. has_read (same i) (here i))
 
   -- after a store the pass knows the value that was stored
   pub was_written : (value found : ℕ) (after : Brought)
       → IsMade IsTallied IsTallyStep tt seat held pass (stores 0 value) found after → after ≡ has_written pass value
   was_written value found after made =
-      let m = made.3 in
-      let step = made.5.3 in
-      let same : step.0 ≡ pass = some-injective _ _ (sym step.1 ∙ m.own) in
+      let m = made.3 in let step = made.5.3 in let same : step.0 ≡ pass = some-injective _ _ (sym step.1 ∙ m.own) in
       step.4 ∙ ap (λ (p : Brought). has_written p value) same
 
 -- the seats behind the first begin with nothing
@@ -51,15 +46,12 @@ total_later : (words : List ℕ) (n k : ℕ) → total (first_passes (first_shar
 total_later words n zero = refl
 total_later words n (suc k) =
     let r = total_later words (suc n) k in
-    let s = sum_by-cons amount_of (first_share words (suc n)) (first_passes (first_share words) (suc (suc n)) k) in
-    omega arith
+    let s = sum_by-cons amount_of (first_share words (suc n)) (first_passes (first_share words) (suc (suc n)) k) in omega arith
 
 total_first : (word seats : ℕ) → 0 < seats → total (first_passes (first_share (word ∷ [])) 0 seats) ≡ word
 total_first word zero more = absurd (omega arith)
 total_first word (suc k) more =
-    let r = total_later (word ∷ []) 0 k in
-    let s = sum_by-cons amount_of (first_share (word ∷ []) 0) (first_passes (first_share (word ∷ [])) 1 k) in
-    omega arith
+    let r = total_later (word ∷ []) 0 k in let s = sum_by-cons amount_of (first_share (word ∷ []) 0) (first_passes (first_share (word ∷ [])) 1 k) in omega arith
 
 -- the rule holds at the opening
 pub tally_begins : (word seats : ℕ) (grants : Grants) → 0 < seats → word < 2 ^ 64
@@ -79,10 +71,8 @@ total_added n (x ∷ xs) [] same all = absurd (omega arith)
 total_added n (x ∷ xs) (y ∷ ys) same all =
     let h : y.pass.amount ≡ x.pass.amount + n = all 0 x y refl refl in
     let r = total_added n xs ys (omega arith) (λ k a b at_a at_b. all (suc k) a b at_a at_b) in
-    let s = sum_by-cons amount_of y.pass (map pass_in ys) in
-    let t = sum_by-cons amount_of x.pass (map pass_in xs) in
-    let m = suc-mul (length xs) n in
-    omega arith
+    let s = sum_by-cons amount_of y.pass (map pass_in ys) in let t = sum_by-cons amount_of x.pass (map pass_in xs) in
+    let m = suc-mul (length xs) n in omega arith
 
 -- what the word is at the closing
 pub tally_left : (table : TableId) (word n : ℕ) (old new : List (SeatState Brought)) (grants : Grants) (words : List ℕ)

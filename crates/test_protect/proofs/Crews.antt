@@ -17,8 +17,7 @@ use Rattle.test_crews.proofs.Crews.{answer_back}
 use Rattle.test_protect.specs.ProtectTrials.{FirstProtected}
 
 -- it is answered as other calls are
-pub answered : (before after : CallerView) (line addr len : ℕ) (prot : Prot) (protected : Protected)
-    → IsAnswer before line addr len prot protected after
+pub answered : (before after : CallerView) (line addr len : ℕ) (prot : Prot) (protected : Protected) → IsAnswer before line addr len prot protected after
     → (answer : Answer) × IsAnswered before line (Protect addr len prot) answer after
 answered before after line addr len prot (Given e path) is = (Answered e, (is.0, is.1.called))
 answered before after line addr len prot Spent is = (AllSpent, is)
@@ -31,8 +30,7 @@ protected_back before after line addr len prot protected free is = let a =
 
 -- the first caller's answer, told by places
 pub first_protected : (callers : List CallerView) (d n : CallerView) (line addr len : ℕ) (prot : Prot) (answer : Protected)
-    → IsAnswer (get_or callers 0 d) line addr len prot answer n
-    → FirstProtected callers line addr len prot answer (set callers 0 n)
+    → IsAnswer (get_or callers 0 d) line addr len prot answer n → FirstProtected callers line addr len prot answer (set callers 0 n)
 first_protected [] d n line addr len prot answer is a b p q = absurd (some-ne-none a (sym p))
 first_protected (x ∷ xs) d n line addr len prot answer is a b p q =
     subst (λ (z : CallerView × CallerView). IsAnswer z.0 line addr len prot answer z.1) (λ i. (some-injective x a p i, some-injective n b q i)) is

@@ -1,9 +1,8 @@
 -- The lines of a log are read one by one, and none ends the run before a limit is passed; of a line, the digits at its
 -- front and the byte behind them tell whether it belongs to the log. The numbers of a verdict are small, since an input
 -- has fewer lines than bytes.
-use Rattle.std.proofs.Common.{◌≡◌, ◌⊎◌, ◌↔◌, Bool, true, false, inl, inr, ℕ, zero, suc, ◌+◌, ◌<◌, ◌≤◌, List, [], ◌∷◌, ◌++◌, length}
-use Rattle.std.proofs.Common.{Result, Ok, Err, refl, sym, ap, subst, ◌∙◌, arith, append-nil, append_assoc, length-append, IsTrue}
-use Rattle.std.proofs.Common.{get_or}
+use Rattle.std.proofs.Common.{◌≡◌, ◌⊎◌, ◌↔◌, Bool, true, false, inl, inr, ℕ, zero, suc, ◌+◌, ◌<◌, ◌≤◌, List, [], ◌∷◌, ◌++◌, length, Result, Ok, Err, refl, sym}
+use Rattle.std.proofs.Common.{ap, subst, ◌∙◌, arith, append-nil, append_assoc, length-append, IsTrue, get_or}
 use Rattle.std.proofs.lemmas.List.{get_or_append_left}
 use Rattle.std.specs.Prelude.{All}
 use Rattle.std.proofs.lemmas.List.Elements.{All-push, All-nil, All-head, All-tail}
@@ -55,15 +54,10 @@ cut_last : (log rest front : List (List ℕ)) (x : List ℕ) → log ++ rest ≡
     → (log ≡ front ++ x ∷ []) ⊎ ((more : List (List ℕ)) × (front ≡ log ++ more))
 cut_last [] rest front x e = inr (front, refl)
 cut_last (l ∷ ls) rest [] x e =
-    let none : ls ≡ [] = none_before ls rest (let k : ls ++ rest ≡ [] = cc in k) in
-    let first : l ≡ x = cc in inl (rw (none, first) refl)
+    let none : ls ≡ [] = none_before ls rest (let k : ls ++ rest ≡ [] = cc in k) in let first : l ≡ x = cc in inl (rw (none, first) refl)
 cut_last (l ∷ ls) rest (f ∷ fs) x e =
-    let first : l ≡ f = cc in
-    let others : ls ++ rest ≡ fs ++ x ∷ [] = cc in
-    elim (cut_last ls rest fs x others) [
-      | inl all ↦ inl (rw (first, all) refl)
-      | inr part ↦ inr (part.0, rw (first, part.1) refl)
-    ]
+    let first : l ≡ f = cc in let others : ls ++ rest ≡ fs ++ x ∷ [] = cc in
+    elim (cut_last ls rest fs x others) [ inl all ↦ inl (rw (first, all) refl) | inr part ↦ inr (part.0, rw (first, part.1) refl) ]
 
 -- lines that keep the limits keep them with one behind them that is short, where not all of them belong to the log
 keeps_over : (front : List (List ℕ)) (text : List ℕ) → KeepsLimits front → IsShort text → ¬ All BeginsLog (front ++ text ∷ [])

@@ -1,9 +1,8 @@
 -- Runs whose sinks have room: no sink is ever full, so no count rises, and the run ends as it is called for. A sized
 -- sink's meaning is the length of its store and then the bytes that it holds, so it tells that the store is as long
 -- afterwards as before.
-use Rattle.std.proofs.Common.{◌≡◌, ◌⊎◌, inl, inr, Bool, ℕ, ◌+◌, ◌-◌, ◌^◌, ◌<◌, ◌≤◌, List, [], ◌∷◌, ◌++◌, length, take}
-use Rattle.std.proofs.Common.{vec_len, codes, decimal, Option, None, Some, refl, sym, ap, ◌∙◌, subst, arith}
-use Rattle.std.proofs.Common.{length-append}
+use Rattle.std.proofs.Common.{◌≡◌, ◌⊎◌, inl, inr, Bool, ℕ, ◌+◌, ◌-◌, ◌^◌, ◌<◌, ◌≤◌, List, [], ◌∷◌, ◌++◌, length, take, vec_len, codes, decimal, Option, None}
+use Rattle.std.proofs.Common.{Some, refl, sym, ap, ◌∙◌, subst, arith, length-append}
 use Rattle.std.proofs.lemmas.Fmt.{length-decimal-le}
 use Rattle.std.proofs.lemmas.List.{length-take-le}
 use Rattle.std.specs.Io.KnownBytes.{Appends, Keeps}
@@ -51,19 +50,13 @@ pub short_bad_line : (line column : ℕ) (what : What) → line < 2 ^ 32 → col
 short_bad_line line column what l c =
     let whole = length-append (numbered (codes "line ") line (codes " column ")) (numbered [] column (what_text what)) in
     let first = length_numbered (codes "line ") (codes " column ") line in
-    let second = length_numbered [] (what_text what) column in
-    let one = short_decimal line (omega (arith, l)) in
-    let other = short_decimal column (omega (arith, c)) in
-    let rest = short_what what in
-    omega arith
+    let second = length_numbered [] (what_text what) column in let one = short_decimal line (omega (arith, l)) in
+    let other = short_decimal column (omega (arith, c)) in let rest = short_what what in omega arith
 
 -- the text of a limit has at most 200 bytes
 pub short_limit : (which : Which) (value : ℕ) → value < 2 ^ 64 → length (numbered (which_text which) value (codes "\n")) ≤ 200
 short_limit which value v =
-    let whole = length_numbered (which_text which) (codes "\n") value in
-    let one = short_decimal value v in
-    let rest = short_which which in
-    omega arith
+    let whole = length_numbered (which_text which) (codes "\n") value in let one = short_decimal value v in let rest = short_which which in omega arith
 
 short_why : (why : WrongLog) → length (wrong_text why) ≤ 40
 short_why FormWrong = omega arith
@@ -72,14 +65,10 @@ short_why other = omega arith
 -- the line of a verdict with small numbers has at most 200 bytes
 short_verdict : (before : ℕ) (verdict : Verdict) → HasNumbers before verdict → length (verdict_line before verdict) ≤ 200
 short_verdict before (Legal entries) small =
-    let whole = length_numbered (codes "legal ") (codes "\n") entries in
-    let one = short_decimal entries (omega (arith, small)) in
-    omega arith
+    let whole = length_numbered (codes "legal ") (codes "\n") entries in let one = short_decimal entries (omega (arith, small)) in omega arith
 short_verdict before (WrongVerdict line why) small =
     let whole = length_numbered (codes "wrong line ") (wrong_text why) (before + line) in
-    let one = short_decimal (before + line) (omega (arith, small)) in
-    let rest = short_why why in
-    omega arith
+    let one = short_decimal (before + line) (omega (arith, small)) in let rest = short_why why in omega arith
 
 short_judged : {opening : Bool} {input : Option (List ℕ) × Option (List ℕ)} {P : ℕ → Verdict → Type 0} → (h : Judged opening input P)
     → length (verdict_line h.before h.verdict) ≤ 200
@@ -100,8 +89,7 @@ rest_of [] = []
 rest_of (x ∷ l) = l
 
 prefix_alone : (n m : ℕ) (old new text : List ℕ) → AppendsPrefix (Some (n ∷ old)) (Some (m ∷ new)) text → AppendsPrefix (Some old) (Some new) text
-prefix_alone n m old new text p =
-    record { front = p.front; rest = p.rest; whole = p.whole; appended = ap rest_of p.appended }
+prefix_alone n m old new text p = record { front = p.front; rest = p.rest; whole = p.whole; appended = ap rest_of p.appended }
 
 -- what is so of a verdict is so in each weaker form
 judged_weaker : {opening : Bool} {input : Option (List ℕ) × Option (List ℕ)} (P Q : ℕ → Verdict → Type 0)
@@ -140,11 +128,9 @@ checked_alone opening input n m old new other h = ap rest_of h
 still_room : (n m used_old used_new : ℕ) (old new text : List ℕ) → length old ≡ used_old → length new ≡ used_new
     → AppendsPrefix (Some (n ∷ old)) (Some (m ∷ new)) text → length text < n - used_old → used_new < m
 still_room n m used_old used_new old new text long_old long_new p less =
-    let e : m ∷ new ≡ n ∷ (old ++ p.front) = p.appended in
-    let same : m ≡ n = ap first_of e in
+    let e : m ∷ new ≡ n ∷ (old ++ p.front) = p.appended in let same : m ≡ n = ap first_of e in
     let grown : length new ≡ length old + length p.front = ap (λ l. length (rest_of l)) e ∙ length-append old p.front in
-    let whole : length text ≡ length p.front + length p.rest = ap length p.whole ∙ length-append p.front p.rest in
-    omega arith
+    let whole : length text ≡ length p.front + length p.rest = ap length p.whole ∙ length-append p.front p.rest in omega arith
 
 -- ---- counts that are 0
 
@@ -158,8 +144,7 @@ long_enough sink = length-take-le sink.used sink.store.items (omega (arith, sink
 module _ (before after : CleanSink) where
   -- a sink that took a first part of a text, and had room for more, counts no failure
   no_fault : (text : List ℕ) → AppendsPrefix (told before) (told after) text → length text < free_in before → after.faults ≡ 0
-  no_fault text p less =
-      after.clean (still_room (vec_len before.store) (vec_len after.store) before.used after.used (held_by before) (held_by after) text
+  no_fault text p less = after.clean (still_room (vec_len before.store) (vec_len after.store) before.used after.used (held_by before) (held_by after) text
       (long_enough before) (long_enough after) p less)
 
   no_fault_before : HasRoomForLine before → before.faults ≡ 0
@@ -176,15 +161,13 @@ module _ (before after : CleanSink) where
   -- whatever a run wrote, its output counts no failure
   no_fault_out : (words : List (List ℕ)) (bytes : List ℕ) (j : Option (List ℕ)) (status : Status) → HasRoomForLine before → HasRoomForReports words bytes before
       → Wrote words (Some bytes) j (told before) (told after) status → ChecksAs words (Some bytes, j) (told before, told after) status → after.faults ≡ 0
-  no_fault_out words bytes j (Done None) some room h says =
-      let c = says h.0 h.1 in no_fault_verdict c.before c.verdict (short_judged c) some c.holds.1
+  no_fault_out words bytes j (Done None) some room h says = let c = says h.0 h.1 in no_fault_verdict c.before c.verdict (short_judged c) some c.holds.1
   no_fault_out words bytes j (Done (Some closed)) some room h says =
       no_fault h.0 (AppendsPrefix-itself (told before) (told after) h.0 h.2) (room j closed h.0 h.1)
   no_fault_out words bytes j (WriteFault None) some room h says =
       let c = (says h.0 h.1).1 in no_fault (verdict_line c.before c.verdict) c.holds (omega (arith, some, short_judged c))
   no_fault_out words bytes j (WriteFault (Some closed)) some room h says = no_fault h.0 h.2 (room j closed h.0 h.1)
-  no_fault_out words bytes j (Wrong line) some room h says =
-      let c = says h.0 h.1 in no_fault_verdict c.before c.verdict (short_judged c) some c.holds.1
+  no_fault_out words bytes j (Wrong line) some room h says = let c = says h.0 h.1 in no_fault_verdict c.before c.verdict (short_judged c) some c.holds.1
   no_fault_out words bytes j other some room h says = no_fault_kept some h
 
   -- nor does the other one, whose line is short
@@ -248,9 +231,7 @@ module _ (before taken after : CleanSink) (same : taken ≡ before) (some : HasR
       (room : HasRoomForReports words bytes before) (h : Wrote words (Some bytes) j (told taken) (told after) status)
       (says : ChecksAs words (Some bytes, j) (told taken, told after) status) where
     out_none : after.faults ≡ 0
-    out_none =
-        no_fault_out before after words bytes j status some room
-        (subst (λ sink. Wrote words (Some bytes) j (told sink) (told after) status) same h)
+    out_none = no_fault_out before after words bytes j status some room (subst (λ sink. Wrote words (Some bytes) j (told sink) (told after) status) same h)
         (subst (λ sink. ChecksAs words (Some bytes, j) (told sink, told after) status) same says)
 
     -- the sink for the report counts no failure that it hadn't counted before

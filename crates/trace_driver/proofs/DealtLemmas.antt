@@ -17,8 +17,7 @@ use Rattle.trace_driver.specs.Dealt.{worker_of, played_line, worker_lines, dealt
 set_at_number : {X : Type 0} (f g : ℕ → X) (at n : ℕ) (y : X) → ((k : ℕ) → k ≢ at → f k ≡ g k) → y ≡ g at → at < n
     → set (map f (range_with_len 0 n)) at y ≡ map g (range_with_len 0 n)
 set_at_number {X = X} f g at n y others here low =
-    let old : List X = map f (range_with_len 0 n) in
-    let long : length old ≡ n = length-map-range_with_len f 0 n in
+    let old : List X = map f (range_with_len 0 n) in let long : length old ≡ n = length-map-range_with_len f 0 n in
     fill_by_all g (set old at y) n y (length-set old at y ∙ long) (λ k below. elim (cases_eq k at) [
       | inl is ↦ ap (λ i. get_or (set old at y) i y) is ∙ get_or-set_same old at y y (omega (arith, low, long)) ∙ here ∙ ap g (sym is)
       | inr apart ↦ get_or-set_other old at k y y apart ∙ get_or-map-range_with_len f 0 n k k y below (omega arith) ∙ others k apart
@@ -37,8 +36,7 @@ own_more : (threads : ℕ) (lines : List Line) (line : Line) (k : ℕ)
     → worker_lines threads (lines ++ line ∷ []) k ≡ worker_lines threads lines k ++ own_line threads k line
 own_more threads lines line k =
     let mine : Line → Bool = λ l. worker_of threads l == k in
-    ap (map played_line) (filter-append mine lines (line ∷ []))
-    ∙ map-append played_line (filter mine lines) (filter mine (line ∷ []))
+    ap (map played_line) (filter-append mine lines (line ∷ [])) ∙ map-append played_line (filter mine lines) (filter mine (line ∷ []))
     ∙ ap (λ (l : List Turn). worker_lines threads lines k ++ l) (one_or_none (mine line) line)
 
 -- which is the line for its worker, and nothing for another
@@ -66,8 +64,7 @@ HasNamedTurns own = All (λ line. IsNamedCall line.call) own
 
 -- a line that is put behind its worker's list is dealt out
 pub one_dealt : (threads at : ℕ) (lines : List Line) (line : Line) (all : List (Vec Turn Global)) (own new : Vec Turn Global)
-    (turn : Turn) → at ≡ worker_of threads line → at < threads → turn ≡ played_line line → own ≡ slice_index_or all at own
-    → new.items ≡ own.items ++ turn ∷ []
+    (turn : Turn) → at ≡ worker_of threads line → at < threads → turn ≡ played_line line → own ≡ slice_index_or all at own → new.items ≡ own.items ++ turn ∷ []
     → map vec_items all ≡ dealt threads lines → map vec_items (slice_set all at new) ≡ dealt threads (lines ++ line ∷ [])
 one_dealt threads at lines line all own new turn is low turn_is own_is more so_far =
     let had : own.items ≡ worker_lines threads lines at =
@@ -77,8 +74,7 @@ one_dealt threads at lines line all own new turn is low turn_is own_is more so_f
     more ∙ ap (λ (l : List Turn). l ++ turn ∷ []) had ∙ ap (λ (t : Turn). worker_lines threads lines at ++ t ∷ []) turn_is
     ∙ sym (own_more threads lines line at ∙ ap (λ (l : List Turn). worker_lines threads lines at ++ l) (owned threads line at is)) in
     map-set vec_items all at new ∙ ap (λ (l : List (List Turn)). set l at new.items) so_far
-    ∙ set_at_number (worker_lines threads lines) (worker_lines threads (lines ++ line ∷ [])) at threads new.items
-    (λ k apart. sym (own_more threads lines line k
+    ∙ set_at_number (worker_lines threads lines) (worker_lines threads (lines ++ line ∷ [])) at threads new.items (λ k apart. sym (own_more threads lines line k
     ∙ ap (λ (l : List Turn). worker_lines threads lines k ++ l) (other threads line k (λ e. apart (e ∙ sym is)))
     ∙ append-nil (worker_lines threads lines k))) now low
 
@@ -94,8 +90,7 @@ named_dealt at all own new turn low own_is more named so_far =
 
 -- one worker more has no line
 pub none_more : (threads : ℕ) (lists new : List (List Turn)) → lists ≡ dealt threads [] → new ≡ lists ++ [] ∷ [] → new ≡ dealt (threads + 1) []
-none_more threads lists new so_far more =
-    more ∙ ap (λ (l : List (List Turn)). l ++ [] ∷ []) so_far
+none_more threads lists new so_far more = more ∙ ap (λ (l : List (List Turn)). l ++ [] ∷ []) so_far
     ∙ sym (map-range_with_len_more (λ (k : ℕ). worker_lines threads [] k) 0 threads threads (omega arith))
 
 -- what is so of each list so far and of one more is so of all

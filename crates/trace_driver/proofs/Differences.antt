@@ -1,8 +1,7 @@
 -- Replies are compared one by one, each with what its line recorded. The lines' numbers rise, so a number is that of
 -- one line at most, which is found by halving.
-use Rattle.std.proofs.Common.{◌≡◌, ◌↔◌, Bool, true, false, ℕ, zero, suc, ◌+◌, ◌<◌, ◌≤◌, inl, inr, List, [], ◌∷◌, ◌++◌}
-use Rattle.std.proofs.Common.{length, get_or, drop, drop-cons, Result, Ok, Err, IfOk, IfErr, refl, sym, ap, subst, ◌∙◌}
-use Rattle.std.proofs.Common.{arith, add-one, add-zero}
+use Rattle.std.proofs.Common.{◌≡◌, ◌↔◌, Bool, true, false, ℕ, zero, suc, ◌+◌, ◌<◌, ◌≤◌, inl, inr, List, [], ◌∷◌, ◌++◌, length, get_or, drop, drop-cons, Result}
+use Rattle.std.proofs.Common.{Ok, Err, IfOk, IfErr, refl, sym, ap, subst, ◌∙◌, arith, add-one, add-zero}
 use Rattle.std.specs.Prelude.{All}
 use Rattle.std.proofs.Math.ListN.{drop_of_length-le}
 use Rattle.std.specs.Bool.{IsTrue}
@@ -31,17 +30,14 @@ Completes lines entries i count = (more : ℕ) → Differing lines (drop i entri
 
 opened : (lines : List Line) (entries : List Entry) (i more : ℕ) (e : Entry) → i < length entries
     → Differing lines (get_or entries i e ∷ drop (i + 1) entries) more → Differing lines (drop i entries) more
-opened lines entries i more e among h =
-    let b : drop i entries ≡ get_or entries i e ∷ drop (i + 1) entries = rw (drop-cons entries i e, add-one) refl in
-    rw b h
+opened lines entries i more e among h = let b : drop i entries ≡ get_or entries i e ∷ drop (i + 1) entries = rw (drop-cons entries i e, add-one) refl in rw b h
 
 -- an entry that differs from its line is counted, and the count completes as before
 pub completes_yes : (lines : List Line) (entries : List Entry) (i count : ℕ) (e : Entry) → i < length entries
     → Completes lines entries i count → DiffersFromLine lines (get_or entries i e) → Completes lines entries (i + 1) (count + 1)
 completes_yes lines entries i count e among so_far differs more h =
     let all : Differing lines entries (count + (1 + more)) = so_far (1 + more) (opened lines entries i (1 + more) e among (inl (differs, (more, h, refl)))) in
-    let same : count + (1 + more) ≡ count + 1 + more = omega arith in
-    subst (λ n. Differing lines entries n) same all
+    let same : count + (1 + more) ≡ count + 1 + more = omega arith in subst (λ n. Differing lines entries n) same all
 
 -- an entry that doesn't is passed over, and the count completes as before
 pub completes_no : (lines : List Line) (entries : List Entry) (i count : ℕ) (e : Entry) → i < length entries
@@ -52,8 +48,7 @@ completes_no lines entries i count e among so_far agrees more h = so_far more (o
 pub completed : (lines : List Line) (entries : List Entry) (i count : ℕ) → length entries ≤ i → Completes lines entries i count → Differing lines entries count
 completed lines entries i count above so_far =
     let b : drop i entries ≡ [] = drop_of_length-le entries above in
-    let none : Differing lines (drop i entries) 0 = rw b refl in
-    rw (add-zero) at (so_far 0 none)
+    let none : Differing lines (drop i entries) 0 = rw b refl in rw (add-zero) at (so_far 0 none)
 
 -- ---- the line of an entry
 
@@ -67,8 +62,7 @@ one_place lines i j d rise low high same = elim (cases_lt i j) [
 
 -- the line at the entry's place is the only one of its number, so it tells whether the entry differs
 pub tells_at : (is : Bool) (lines : List Line) (entry : Entry) (place : ℕ) (d : Line) → LinesRise lines → place < length lines
-    → (get_or lines place d).number ≡ entry.line
-    → IsTrue is ↔ Differs entry.reply (get_or lines place d).recorded → IsTrue is ↔ DiffersFromLine lines entry
+    → (get_or lines place d).number ≡ entry.line → IsTrue is ↔ Differs entry.reply (get_or lines place d).recorded → IsTrue is ↔ DiffersFromLine lines entry
 tells_at is lines entry place d rise low number tells = (
   (λ yes. (get_or lines place d, (place, low, get_or_default lines place (get_or lines place d) d low), number, tells.0 yes)),
   (λ differs.
@@ -102,14 +96,10 @@ pub searched : (lines : List Line) (number : ℕ) → LinesRise lines → (r : R
 searched lines number rise (Ok place) low equal = ((low, λ d. ranked _ number _ (sym (equal d))), tt)
 searched lines number rise (Err gap) low parted = (
   tt,
-  λ other there is.
-      let k = there.0 in
-      let below = there.1 in
-      let halves = parted (comparisons_rise lines number rise) in
-      elim (cases_lt k gap) [
-        | inl before ↦ let less = ranked _ number _ (sym (halves.0 k other (omega arith) before)) in omega (arith, ap (λ (l : Line). l.number) there.2)
-        | inr behind ↦ let more = ranked _ number _ (sym (halves.1 k other behind below)) in omega (arith, ap (λ (l : Line). l.number) there.2)
-      ],
+  λ other there is. let k = there.0 in let below = there.1 in let halves = parted (comparisons_rise lines number rise) in elim (cases_lt k gap) [
+    | inl before ↦ let less = ranked _ number _ (sym (halves.0 k other (omega arith) before)) in omega (arith, ap (λ (l : Line). l.number) there.2)
+    | inr behind ↦ let more = ranked _ number _ (sym (halves.1 k other behind below)) in omega (arith, ap (λ (l : Line). l.number) there.2)
+  ],
 )
 
 -- ---- the lines of a trace

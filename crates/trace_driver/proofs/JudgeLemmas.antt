@@ -83,18 +83,15 @@ fails_among : (A : List Area) (lines : List (List ℕ)) (line : ℕ) (why : Wron
 fails_among A lines line why h = let whole = ap length h.whole ∙ length-append h.front (h.text ∷ h.behind) in omega (arith, whole, h.place)
 
 rest_among : (A : List Area) (lines : List (List ℕ)) (line : ℕ) → FailsInRest A lines line → line ≤ length lines + 1
-rest_among A lines line h =
-    let whole = ap length h.cut.whole ∙ length-append h.log h.rest in
-    elim h.fails.fails [
-      | inl there ↦ let low = slice_get_within h.rest h.count there.0 there.1 in omega (arith, whole, h.place)
-      | inr ended ↦ omega (arith, whole, h.place, ended.0)
-    ]
+rest_among A lines line h = let whole = ap length h.cut.whole ∙ length-append h.log h.rest in elim h.fails.fails [
+  | inl there ↦ let low = slice_get_within h.rest h.count there.0 there.1 in omega (arith, whole, h.place)
+  | inr ended ↦ omega (arith, whole, h.place, ended.0)
+]
 
 is_among : (A : List Area) (lines : List (List ℕ)) (verdict : Verdict) → IsVerdict A lines verdict → IsAmong (length lines) verdict
 is_among A lines (Legal n) (entries, good, count) =
     let whole = ap length good.cut.whole ∙ length-append good.log good.rest in
-    let many = as_many_lines good.log entries good.right.spelled in
-    omega (arith, whole, many, count)
+    let many = as_many_lines good.log entries good.right.spelled in omega (arith, whole, many, count)
 is_among A lines (WrongVerdict line Rest) h = rest_among A lines line h
 is_among A lines (WrongVerdict line why) h = fails_among A lines line why h
 

@@ -14,8 +14,7 @@ pub made_count : (seed threads calls : ℕ) → length (drawn_lines seed threads
 made_count seed threads zero = refl
 made_count seed threads (suc made) =
     let before = made_count seed threads made in
-    let more = length-append (drawn_lines seed threads made) (line_at (state_after seed (4 * made)) threads made ∷ []) in
-    omega (arith, before, more)
+    let more = length-append (drawn_lines seed threads made) (line_at (state_after seed (4 * made)) threads made ∷ []) in omega (arith, before, more)
 
 -- a load has as many lines as calls
 pub load_count : (seed threads calls : ℕ) → length (map line_of (drawn_lines seed threads calls)) ≡ calls
@@ -23,10 +22,8 @@ load_count seed threads calls = length-map (drawn_lines seed threads calls) line
 
 -- with the next made line dealt out the made lines up to it are
 pub next_made : (threads i : ℕ) (made : List MadeLine) (d : MadeLine) (line : Line) (all : List (List Turn)) → i < length made
-    → line ≡ line_of (get_or made i d) → all ≡ dealt threads (map line_of (take i made) ++ line ∷ [])
-    → all ≡ dealt threads (map line_of (take (i + 1) made))
+    → line ≡ line_of (get_or made i d) → all ≡ dealt threads (map line_of (take i made) ++ line ∷ []) → all ≡ dealt threads (map line_of (take (i + 1) made))
 next_made threads i made d line all low is h =
-    let lines : map line_of (take i made) ++ line ∷ [] ≡ map line_of (take (i + 1) made) =
-    ap (λ (l : Line). map line_of (take i made) ++ l ∷ []) is
+    let lines : map line_of (take i made) ++ line ∷ [] ≡ map line_of (take (i + 1) made) = ap (λ (l : Line). map line_of (take i made) ++ l ∷ []) is
     ∙ sym (map-append line_of (take i made) (get_or made i d ∷ [])) ∙ ap (map line_of) (sym (take_more made i d low)) in
     subst (λ (l : List Line). all ≡ dealt threads l) lines h

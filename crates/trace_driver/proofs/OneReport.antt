@@ -75,16 +75,14 @@ rising_one : (xs ys : List ℕ) → Rises xs → Rises ys → ((z : ℕ) → Con
 rising_one [] [] a b there back = refl
 rising_one [] (y ∷ ys) a b there back = absurd (omega (arith, (back y (zero, omega arith, refl)).1))
 rising_one (x ∷ xs) [] a b there back = absurd (omega (arith, (there x (zero, omega arith, refl)).1))
-rising_one (x ∷ xs) (y ∷ ys) a b there back =
-    let same : x ≡ y = elim (first_or_later y ys x (there x (zero, omega arith, refl))) [
-      | inl e ↦ sym e
-      | inr up ↦ elim (first_or_later x xs y (back y (zero, omega arith, refl))) [
-        | inl e ↦ e
-        | inr over ↦ absurd (omega (arith, first_lowest y ys x b up, first_lowest x xs y a over))
-      ]
-    ] in
-    let rest =
-    rising_one xs ys (rises_behind x xs a) (rises_behind y ys b) (later_among x y xs ys same a there) (later_among y x ys xs (sym same) b back) in
+rising_one (x ∷ xs) (y ∷ ys) a b there back = let same : x ≡ y = elim (first_or_later y ys x (there x (zero, omega arith, refl))) [
+  | inl e ↦ sym e
+  | inr up ↦ elim (first_or_later x xs y (back y (zero, omega arith, refl))) [
+    | inl e ↦ e
+    | inr over ↦ absurd (omega (arith, first_lowest y ys x b up, first_lowest x xs y a over))
+  ]
+] in
+    let rest = rising_one xs ys (rises_behind x xs a) (rises_behind y ys b) (later_among x y xs ys same a there) (later_among y x ys xs (sym same) b back) in
     λ i. same i ∷ rest i
 
 -- ---- one script
@@ -95,10 +93,8 @@ counted fed n few h = elim h.is [ inl e ↦ e | inr e ↦ absurd (omega (arith, 
 
 kept_one : (fed : List (List ℕ)) (n m : ℕ) → length fed ≤ 67108865 → CountsKept fed n → CountsKept fed m → n ≡ m
 kept_one fed n m few a b =
-    let one =
-    rising_one a.processes b.processes (AllPairs-from_increasing a.processes a.ascending) (AllPairs-from_increasing b.processes b.ascending)
-    (λ z h. (b.each z).1 ((a.each z).0 h)) (λ z h. (a.each z).1 ((b.each z).0 h)) in
-    counted fed n few a ∙ ap length one ∙ sym (counted fed m few b)
+    let one = rising_one a.processes b.processes (AllPairs-from_increasing a.processes a.ascending) (AllPairs-from_increasing b.processes b.ascending)
+    (λ z h. (b.each z).1 ((a.each z).0 h)) (λ z h. (a.each z).1 ((b.each z).0 h)) in counted fed n few a ∙ ap length one ∙ sym (counted fed m few b)
 
 -- texts are read in one way
 reads_one : {stand : TracePosition} {texts : List (List ℕ)} {xs ys : List Line} {n m : ℕ} → Reads stand texts xs n → Reads stand texts ys m
@@ -121,8 +117,7 @@ script_one options bytes A B xs ys n m few a b =
     let s = same_opens options.opening (lines_of bytes) _ _ _ _ _ _ _ _ b.head.opens a.head.opens in
     let reads : Reads (start_at a.head.next) a.head.left ys b.passed = rw (s.next, s.left) at b.reads in
     let short = opens_few options.opening (lines_of bytes) a.head.left a.head.areas a.head.past a.head.next a.head.opens in
-    let fewer = lines_few bytes in
-    let one = reads_one a.reads reads (omega (arith, short, fewer, few)) in
+    let fewer = lines_few bytes in let one = reads_one a.reads reads (omega (arith, short, fewer, few)) in
     record { start = start_one a.head b.head A B a.kinds b.kinds; lines = one.0; skipped = omega (arith, a.counted, b.counted, s.past, one.1) }
 
 -- ---- one history
@@ -152,8 +147,7 @@ entries_one (turn ∷ turns) (x ∷ xs) (y ∷ ys) n A B C w a b l m (D, (x_held
     let number : x.number ≡ y.number = l.0 ∙ sym m.0 in
     let worker : x.worker ≡ y.worker = a.0.worker_is ∙ sym b.0.worker_is in
     let line_number : x.line ≡ y.line = a.0.line_is ∙ sym b.0.line_is in
-    let rest =
-    entries_one turns xs ys (n + 1) D B C (leaves_areas A x.call x.reply D w x_replies) a.1 b.1 l.1 m.1 s
+    let rest = entries_one turns xs ys (n + 1) D B C (leaves_areas A x.call x.reply D w x_replies) a.1 b.1 l.1 m.1 s
     (subst (λ X. Chains HeldAndReplies X ys C) (sym one.1) t) in
     λ i. (record { number = number i; worker = worker i; line = line_number i; call = call i; reply = one.0 i; under = under i }) ∷ rest i
 
@@ -171,11 +165,9 @@ played_one : (opening : List Area) (lines : List Line) (entries others : List En
 played_one opening lines entries others last end w a b =
     let held = held_along opening entries last (a.alone 0 (first_alone entries a.no_other)) in
     let other_held = held_along opening others end (b.alone 0 (first_alone others b.no_other)) in
-    let same =
-    entries_one (worker_lines 1 lines 0) entries others 0 opening last end w (of_lines lines entries a.own a.no_other)
+    let same = entries_one (worker_lines 1 lines 0) entries others 0 opening last end w (of_lines lines entries a.own a.no_other)
     (of_lines lines others b.own b.no_other) a.runs.0 b.runs.0 held other_held in
-    let left = (all_legal opening last entries a.runs).1 in
-    let other_left = (all_legal opening end others b.runs).1 in
+    let left = (all_legal opening last entries a.runs).1 in let other_left = (all_legal opening end others b.runs).1 in
     (same, one_state opening entries last end left (subst (λ es. StateAfter opening es end) (sym same) other_left))
 
 -- ---- one report
@@ -183,8 +175,7 @@ played_one opening lines entries others last end w a b =
 -- the replies that differ from their lines are one number
 differing_one : (lines : List Line) (entries : List Entry) (n m : ℕ) → Differing lines entries n → Differing lines entries m → n ≡ m
 differing_one lines [] n m a b = a ∙ sym b
-differing_one lines (e ∷ es) n m (inl a) (inl b) =
-    a.1.2 ∙ ap (λ k. 1 + k) (differing_one lines es a.1.0 b.1.0 a.1.1 b.1.1) ∙ sym b.1.2
+differing_one lines (e ∷ es) n m (inl a) (inl b) = a.1.2 ∙ ap (λ k. 1 + k) (differing_one lines es a.1.0 b.1.0 a.1.1 b.1.1) ∙ sym b.1.2
 differing_one lines (e ∷ es) n m (inl a) (inr b) = absurd (b.0 a.0)
 differing_one lines (e ∷ es) n m (inr a) (inl b) = absurd (a.0 b.0)
 differing_one lines (e ∷ es) n m (inr a) (inr b) = differing_one lines es n m a.1 b.1
@@ -192,8 +183,7 @@ differing_one lines (e ∷ es) n m (inr a) (inr b) = differing_one lines es n m 
 -- so are the pages that were touched
 touched_one : (entries : List Entry) (n m : ℕ) → CountsTouched entries n → CountsTouched entries m → n ≡ m
 touched_one entries n m a b =
-    let one =
-    rising_one a.pages b.pages a.rising b.rising (λ z h. (b.all z).1 ((a.all z).0 h)) (λ z h. (a.all z).1 ((b.all z).0 h)) in
+    let one = rising_one a.pages b.pages a.rising b.rising (λ z h. (b.all z).1 ((a.all z).0 h)) (λ z h. (a.all z).1 ((b.all z).0 h)) in
     a.counted ∙ ap length one ∙ sym b.counted
 
 where_asked : (asked : Bool) (n m : ℕ) → (asked ≡ true → n ≡ m) → (if asked then touched_text n else []) ≡ (if asked then touched_text m else [])
@@ -218,12 +208,10 @@ report_one options bytes one other first second few a b =
     let differ : a.differ ≡ b.differ = differing_one a.lines one.entries a.differ b.differ a.differs differs in
     let touched = where_asked options.touched a.touched b.touched
     (λ is. touched_one one.entries a.touched b.touched (a.touches is) (subst (λ es. CountsTouched es b.touched) (sym same.0) (b.touches is))) in
-    let text =
-    text_one options one.areas other.areas one.entries other.entries
+    let text = text_one options one.areas other.areas one.entries other.entries
     (record { skipped = a.skipped; refused = refused_count one.entries; differ = a.differ; touched = a.touched })
     (record { skipped = b.skipped; refused = refused_count other.entries; differ = b.differ; touched = b.touched }) same.1 same.0
-    (sym script.skipped) (ap refused_count same.0) differ touched in
-    record { entries = same.0; areas = same.1; bytes = a.text ∙ text ∙ sym b.text }
+    (sym script.skipped) (ap refused_count same.0) differ touched in record { entries = same.0; areas = same.1; bytes = a.text ∙ text ∙ sym b.text }
 
 -- two reports of one load by one worker are one
 load_one : (seed calls : ℕ) (one other : ClosedView) (first second : List ℕ) → IsHistoryOf 1 [] (map line_of (drawn_lines seed 1 calls)) one.entries one.areas
@@ -238,13 +226,10 @@ load_one seed calls one other first second a b text other_text =
 module _ (words : List (List ℕ)) (asks : AskForOne words) where
   -- the report of an input is by one worker where the words ask for one
   by_one : (bytes : List ℕ) (left : Option (List ℕ)) (closed : ClosedView) (report : List ℕ) (options : Options) → AskFor words (Play options 1)
-      → Heard words (Some bytes) left (λ o threads b. IsReport o threads b closed report)
-      → (length bytes ≤ 67108864) × IsReport options 1 bytes closed report
+      → Heard words (Some bytes) left (λ o threads b. IsReport o threads b closed report) → (length bytes ≤ 67108864) × IsReport options 1 bytes closed report
   by_one bytes left closed report options spells h =
       let same : Play h.options h.threads ≡ Play options 1 = asks _ _ h.accepted spells in
-      let o : h.options ≡ options = cc in
-      let n : h.threads ≡ 1 = cc in
-      let b : bytes ≡ h.bytes = h.input.0.0 in
+      let o : h.options ≡ options = cc in let n : h.threads ≡ 1 = cc in let b : bytes ≡ h.bytes = h.input.0.0 in
       (subst (λ l. length l ≤ 67108864) (sym b) h.input.1, rw (o, n, sym b) at h.holds)
 
   -- and the report of a load
@@ -252,21 +237,16 @@ module _ (words : List (List ℕ)) (asks : AskForOne words) where
       → IsHistoryOf 1 [] (map line_of (drawn_lines seed 1 calls)) closed.entries closed.areas
   load_by_one closed report seed calls spells h =
       let same : Load h.seed h.threads h.calls ≡ Load seed 1 calls = asks _ _ h.accepted spells in
-      let s : h.seed ≡ seed = cc in
-      let n : h.threads ≡ 1 = cc in
-      let c : h.calls ≡ calls = cc in
-      rw (s, n, c) at h.played
+      let s : h.seed ≡ seed = cc in let n : h.threads ≡ 1 = cc in let c : h.calls ≡ calls = cc in rw (s, n, c) at h.played
 
   -- words that ask for an input to be played have no load
   no_load : (closed : ClosedView) (report : List ℕ) (options : Options) (threads : ℕ) → AskFor words (Play options threads) → Loaded words closed report → ⊥
-  no_load closed report options threads spells h =
-      let same : Load h.seed h.threads h.calls ≡ Play options threads = asks _ _ h.accepted spells in cc
+  no_load closed report options threads spells h = let same : Load h.seed h.threads h.calls ≡ Play options threads = asks _ _ h.accepted spells in cc
 
   -- nor have those that ask for a load an input
   no_input : (input left : Option (List ℕ)) (P : Options → ℕ → List ℕ → Type 0) (seed threads calls : ℕ) → AskFor words (Load seed threads calls)
       → Heard words input left P → ⊥
-  no_input input left P seed threads calls spells h =
-      let same : Play h.options h.threads ≡ Load seed threads calls = asks _ _ h.accepted spells in cc
+  no_input input left P seed threads calls spells h = let same : Play h.options h.threads ≡ Load seed threads calls = asks _ _ h.accepted spells in cc
 
   of_loads : (one other : ClosedView) (first second : List ℕ) → AskForOneWorker words → Loaded words one first → Loaded words other second
       → AreOneReport one other first second
@@ -278,12 +258,10 @@ module _ (words : List (List ℕ)) (asks : AskForOne words) where
       → Reports words (Some bytes) left one first → Reports words (Some bytes) other_left other second → AreOneReport one other first second
   of_inputs bytes left other_left one other first second (inl (options, spells)) (inl a) (inl b) =
       let x = by_one bytes left one first options spells a in
-      let y = by_one bytes other_left other second options spells b in
-      report_one options bytes one other first second x.0 x.1 y.1
+      let y = by_one bytes other_left other second options spells b in report_one options bytes one other first second x.0 x.1 y.1
   of_inputs bytes left other_left one other first second (inl (options, spells)) (inl a) (inr b) = absurd (no_load other second options 1 spells b)
   of_inputs bytes left other_left one other first second (inl (options, spells)) (inr a) b = absurd (no_load one first options 1 spells a)
-  of_inputs bytes left other_left one other first second (inr (seed, calls, spells)) (inl a) b =
-      absurd (no_input (Some bytes) left _ seed 1 calls spells a)
+  of_inputs bytes left other_left one other first second (inr (seed, calls, spells)) (inl a) b = absurd (no_input (Some bytes) left _ seed 1 calls spells a)
   of_inputs bytes left other_left one other first second (inr (seed, calls, spells)) (inr a) (inl b) =
       absurd (no_input (Some bytes) other_left _ seed 1 calls spells b)
   of_inputs bytes left other_left one other first second (inr (seed, calls, spells)) (inr a) (inr b) =

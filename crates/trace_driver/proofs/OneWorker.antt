@@ -20,8 +20,7 @@ use Rattle.trace_driver.proofs.PlayLemmas.{AreOwn, none_from, of_worker}
 -- one worker's entries are those of all its lines
 pub of_lines : (lines : List Line) (entries : List Entry) → AreOwn 1 lines entries → All (λ (e : Entry). e.worker < 1) entries
     → AreEntriesOf 0 (worker_lines 1 lines 0) entries
-of_lines lines entries own below =
-    subst (AreEntriesOf 0 (worker_lines 1 lines 0)) (part_whole (λ (e : Entry). e.worker) entries (none_from 1 entries below))
+of_lines lines entries own below = subst (AreEntriesOf 0 (worker_lines 1 lines 0)) (part_whole (λ (e : Entry). e.worker) entries (none_from 1 entries below))
     (of_worker 1 lines entries 0 own (omega arith))
 
 -- what the entries of lines have of their lines
@@ -34,11 +33,7 @@ agrees : (worker : ℕ) (turns : List Turn) (entries : List Entry) → AreEntrie
 agrees worker [] [] h = record { workers = refl; lines = refl; calls = refl }
 agrees worker (t ∷ ts) (e ∷ es) h =
     let rest = agrees worker ts es h.1 in
-    record {
-      workers = λ i. h.0.worker_is i ∷ rest.workers i;
-      lines = λ i. h.0.line_is i ∷ rest.lines i;
-      calls = λ i. h.0.call_is i ∷ rest.calls i;
-    }
+    record { workers = λ i. h.0.worker_is i ∷ rest.workers i; lines = λ i. h.0.line_is i ∷ rest.lines i; calls = λ i. h.0.call_is i ∷ rest.calls i }
 agrees worker turns entries h = absurd h
 
 -- the same calls leave the same areas
@@ -57,8 +52,7 @@ pub one_history : OneWorkerPlaysOneHistory
 one_history opening lines entries others last end a b =
     let x = agrees 0 (worker_lines 1 lines 0) entries (of_lines lines entries a.own a.no_other) in
     let y = agrees 0 (worker_lines 1 lines 0) others (of_lines lines others b.own b.no_other) in
-    let calls = x.calls ∙ sym y.calls in
-    let one = all_legal opening last entries a.runs in
+    let calls = x.calls ∙ sym y.calls in let one = all_legal opening last entries a.runs in
     let other = all_legal opening end others b.runs in
     let replies = agree opening entries others one.0 other.0 calls in (
       record { numbers = replies.0; workers = x.workers ∙ sym y.workers; lines = x.lines ∙ sym y.lines; calls = calls; replies = replies.1 },

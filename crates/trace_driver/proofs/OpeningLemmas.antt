@@ -30,43 +30,32 @@ pub record MapsSoFar (all : List (List ℕ)) (number from : ℕ) (left : List (L
       → ReadsMaps 1 0 all (areas ++ more) (past + p) next rest
   pub ends : (end : EarlyEnd) → EndsMaps number from left end → EndsMaps 1 0 all end
 
--- before the first maps line nothing was read
-pub maps_start : (all : List (List ℕ)) → MapsSoFar all 1 0 all [] 0
-maps_start all = record {
-  reads = λ more p next rest h. subst (λ n. ReadsMaps 1 0 all more n next rest) (omega arith) h;
-  ends = λ end h. h;
-}
-
 -- behind a maps line what was read has its area too, or one line more past the user addresses
 pub maps_next : (all : List (List ℕ)) (number from : ℕ) (text : List ℕ) (texts : List (List ℕ)) (areas new_areas : List Area) (past new_past : ℕ)
     (item : MapsItem) → MapsSoFar all number from (text ∷ texts) areas past → IsNext from text item → new_areas ≡ areas_with areas item
     → new_past ≡ past_with past item → MapsSoFar all (number + 1) (map_stop item) texts new_areas new_past
-maps_next all number from text texts areas new_areas past new_past (Mapped area) so_far next is_areas is_past =
-    rw (is_areas, is_past) (record {
-      reads = λ more p n rest h. rw append_assoc (so_far.reads (area ∷ more) p n rest (mapped next h));
-      ends = λ end h. so_far.ends end (later (Mapped area) next h);
-    })
-maps_next all number from text texts areas new_areas past new_past (Past start stop) so_far next is_areas is_past =
-    rw (is_areas, is_past) (record {
-      reads = λ more p n rest h.
-          let one_more : past + (1 + p) ≡ past + 1 + p = omega arith in
-          subst (λ k. ReadsMaps 1 0 all (areas ++ more) k n rest) one_more (so_far.reads more (1 + p) n rest (past_end next h));
-      ends = λ end h. so_far.ends end (later (Past start stop) next h);
-    })
+maps_next all number from text texts areas new_areas past new_past (Mapped area) so_far next is_areas is_past = rw (is_areas, is_past) (record {
+  reads = λ more p n rest h. rw append_assoc (so_far.reads (area ∷ more) p n rest (mapped next h));
+  ends = λ end h. so_far.ends end (later (Mapped area) next h);
+})
+maps_next all number from text texts areas new_areas past new_past (Past start stop) so_far next is_areas is_past = rw (is_areas, is_past) (record {
+  reads = λ more p n rest h.
+      let one_more : past + (1 + p) ≡ past + 1 + p = omega arith in
+      subst (λ k. ReadsMaps 1 0 all (areas ++ more) k n rest) one_more (so_far.reads more (1 + p) n rest (past_end next h));
+  ends = λ end h. so_far.ends end (later (Past start stop) next h);
+})
 
 -- at the empty line the opening is what was read so far, and the trace is behind it
 pub maps_empty : (all : List (List ℕ)) (number from : ℕ) (texts : List (List ℕ)) (areas : List Area) (past : ℕ)
     → MapsSoFar all number from ([] ∷ texts) areas past → ReadsMaps 1 0 all areas past (number + 1) texts
 maps_empty all number from texts areas past so_far =
-    let h : ReadsMaps 1 0 all (areas ++ []) (past + 0) (number + 1) texts = so_far.reads [] 0 (number + 1) texts empty in
-    rw (append-nil, add-zero) at h
+    let h : ReadsMaps 1 0 all (areas ++ []) (past + 0) (number + 1) texts = so_far.reads [] 0 (number + 1) texts empty in rw (append-nil, add-zero) at h
 
 -- where the text is over the opening is what was read so far
 pub maps_over : (all : List (List ℕ)) (number from : ℕ) (areas : List Area) (past : ℕ)
     → MapsSoFar all number from [] areas past → ReadsMaps 1 0 all areas past number []
 maps_over all number from areas past so_far =
-    let h : ReadsMaps 1 0 all (areas ++ []) (past + 0) number [] = so_far.reads [] 0 number [] over in
-    rw (append-nil, add-zero) at h
+    let h : ReadsMaps 1 0 all (areas ++ []) (past + 0) number [] = so_far.reads [] 0 number [] over in rw (append-nil, add-zero) at h
 
 -- a line that ends the run ends the reading of all maps lines so
 pub maps_end : (all : List (List ℕ)) (number from : ℕ) (text : List ℕ) (texts : List (List ℕ)) (areas : List Area) (past : ℕ) (end : EarlyEnd)

@@ -165,8 +165,7 @@ same_maps empty_map (past_end a r) = absurd (a.some refl)
 same_maps (mapped a r) empty_map = absurd (a.some refl)
 same_maps (past_end a r) empty_map = absurd (a.some refl)
 same_maps (mapped {number = n} {from = f} {text = t} {texts = ts} {area = x} a r) (mapped {past = p} {next = m} {left = l} {area = y} {areas = ys} b q) =
-    let is : Mapped y ≡ Mapped x = next_same f t (Mapped y) (Mapped x) b a in
-    let same : y ≡ x = cc in
+    let is : Mapped y ≡ Mapped x = next_same f t (Mapped y) (Mapped x) b a in let same : y ≡ x = cc in
     let s = same_maps r (subst (λ k. ReadsMaps (n + 1) (k.hi * 4096) ts ys p m l) same q) in
     record { areas = rw (same, s.areas) refl; past = s.past; next = s.next; left = s.left }
 same_maps (mapped {from = f} {text = t} {area = x} a r) (past_end {start = u} {stop = v} b q) =
@@ -175,8 +174,7 @@ same_maps (past_end {from = f} {start = u} {stop = v} {text = t} a r) (mapped {a
     absurd (let is : Mapped x ≡ Past u v = next_same f t (Mapped x) (Past u v) b a in cc)
 same_maps (past_end {number = n} {from = f} {start = u} {stop = v} {text = t} {texts = ts} a r)
     (past_end {past = p} {next = m} {start = w} {stop = z} {left = l} {areas = ys} b q) =
-    let is : Past w z ≡ Past u v = next_same f t (Past w z) (Past u v) b a in
-    let same : z ≡ v = cc in
+    let is : Past w z ≡ Past u v = next_same f t (Past w z) (Past u v) b a in let same : z ≡ v = cc in
     let s = same_maps r (subst (λ k. ReadsMaps (n + 1) k ts ys p m l) same q) in
     record { areas = s.areas; past = ap (λ n. 1 + n) s.past; next = s.next; left = s.left }
 
@@ -200,8 +198,7 @@ opening_ends_same false texts s u e h = absurd e
 pub start_one : {has : Bool} {bytes : List ℕ} (a b : Begins has bytes) (A B : List Area) → HasKinds (kind_at a.areas) A → HasKinds (kind_at b.areas) B → A ≡ B
 start_one {has = has} {bytes = bytes} a b A B x y =
     let same = same_opens has (lines_of bytes) _ _ _ _ _ _ _ _ b.opens a.opens in
-    let kinds : HasKinds (kind_at a.areas) B = rw same.areas at y in
-    only_one A B x.areas kinds.areas (λ page. x.kinds_are page ∙ sym (kinds.kinds_are page))
+    let kinds : HasKinds (kind_at a.areas) B = rw same.areas at y in only_one A B x.areas kinds.areas (λ page. x.kinds_are page ∙ sym (kinds.kinds_are page))
 
 -- an input that its opening, a line behind it or its rows may end is ended in one way, where each of the latter does so
 -- and they exclude each other
@@ -219,8 +216,7 @@ one_of_three has bytes ByLine ByRows begins lines apart rows s u (inr (inr e)) (
 trace_ends : (options : Options) (bytes : List ℕ) (lines : List Line) (passed past next : ℕ) (left : List (List ℕ)) (areas : List Area) (end : EarlyEnd)
     → Opens options.opening (lines_of bytes) areas past next left → Reads (start_at next) left lines passed → EndsTrace options bytes end → ⊥
 trace_ends options bytes lines passed past next left areas end opens reads e =
-    let s = same_opens options.opening (lines_of bytes) _ _ _ _ _ _ _ _ e.head.opens opens in
-    reads_ends reads (rw (s.next, s.left) at e.ends)
+    let s = same_opens options.opening (lines_of bytes) _ _ _ _ _ _ _ _ e.head.opens opens in reads_ends reads (rw (s.next, s.left) at e.ends)
 
 -- an input that asks for a script ends no run
 script_ends : (options : Options) (bytes : List ℕ) (start : List Area) (lines : List Line) (skipped : ℕ) (end : EarlyEnd)
@@ -235,8 +231,7 @@ input_ends_same : (options : Options) (bytes : List ℕ) (s u : EarlyEnd) → En
 input_ends_same options bytes s u e h =
     one_of_three options.opening bytes (EndsTrace options bytes) (EndsByRows options bytes) (λ end x. elim x [ inl a ↦ a.head | inr b ↦ b.head ])
     (λ _ _ a b. let p = same_opens options.opening (lines_of bytes) _ _ _ _ _ _ _ _ b.head.opens a.head.opens in
-    ends_same a.ends (rw (p.next, p.left) at b.ends))
-    (λ x _ a b. trace_ends options bytes b.lines _ _ _ _ _ x b.head.opens b.reads a)
+    ends_same a.ends (rw (p.next, p.left) at b.ends)) (λ x _ a b. trace_ends options bytes b.lines _ _ _ _ _ x b.head.opens b.reads a)
     (λ _ _ a b. a.is ∙ ap (λ l. Above Rows (row_count l)) (start_one a.head b.head a.start b.start a.kinds b.kinds) ∙ sym b.is) s u e h
 
 -- ---- the ends of a check
@@ -246,8 +241,7 @@ ends_kept : (front : List (List ℕ)) (text : List ℕ) (more : List (List ℕ))
 ends_kept front text more (Above OfLine v) e kept =
     let short = All-head IsShort text more (all_behind IsShort front (text ∷ more) kept.short) in omega (arith, short, e.0)
 ends_kept front text more (Above OfLines v) e kept =
-    let few = kept.few (front ++ text ∷ []) more (sym (append_assoc front (text ∷ []) more)) e.2 in
-    omega (arith, few, e.3, length-append front (text ∷ []))
+    let few = kept.few (front ++ text ∷ []) more (sym (append_assoc front (text ∷ []) more)) e.2 in omega (arith, few, e.3, length-append front (text ∷ []))
 ends_kept front text more other e kept = e
 
 -- a line ends a check in one way
@@ -262,14 +256,12 @@ ends_behind_one front text other u e h = absurd e
 
 -- so do the lines of a log
 log_ends_same : (lines : List (List ℕ)) (s u : EarlyEnd) → EndsLog lines s → EndsLog lines u → s ≡ u
-log_ends_same lines s u a b =
-    elim (places a.front a.text a.behind b.front b.text b.behind (sym a.whole ∙ b.whole)) [
-      | at_same front text ↦
-          let there = subst (λ t. EndsBehind b.front t s) text (subst (λ f. EndsBehind f a.text s) front a.ends) in
-          ends_behind_one b.front b.text s u there b.ends
-      | is_before more is ↦ absurd (ends_kept a.front a.text more s a.ends (subst KeepsLimits is b.kept))
-      | is_behind more is ↦ absurd (ends_kept b.front b.text more u b.ends (subst KeepsLimits is a.kept))
-    ]
+log_ends_same lines s u a b = elim (places a.front a.text a.behind b.front b.text b.behind (sym a.whole ∙ b.whole)) [
+  | at_same front text ↦
+      let there = subst (λ t. EndsBehind b.front t s) text (subst (λ f. EndsBehind f a.text s) front a.ends) in ends_behind_one b.front b.text s u there b.ends
+  | is_before more is ↦ absurd (ends_kept a.front a.text more s a.ends (subst KeepsLimits is b.kept))
+  | is_behind more is ↦ absurd (ends_kept b.front b.text more u b.ends (subst KeepsLimits is a.kept))
+]
 
 -- lines that keep the limits end no check
 log_ends : (lines : List (List ℕ)) (end : EarlyEnd) → KeepsLimits lines → EndsLog lines end → ⊥
@@ -285,8 +277,7 @@ check_ends_same : (opening : Bool) (bytes : List ℕ) (s u : EarlyEnd) → EndsC
 check_ends_same opening bytes s u e h =
     one_of_three opening bytes (EndsByLine opening bytes) (EndsByStart opening bytes) (λ end x. elim x [ inl a ↦ a.head | inr b ↦ b.head ])
     (λ x y a b. let p = same_opens opening (lines_of bytes) _ _ _ _ _ _ _ _ b.head.opens a.head.opens in
-    log_ends_same a.head.left x y a.ends (rw p.left at b.ends))
-    (λ x _ a b. line_ends opening bytes _ _ _ _ x b.head.opens b.limits a)
+    log_ends_same a.head.left x y a.ends (rw p.left at b.ends)) (λ x _ a b. line_ends opening bytes _ _ _ _ x b.head.opens b.limits a)
     (λ _ _ a b. a.is ∙ ap (λ l. Above Rows (row_count l)) (start_one a.head b.head a.start b.start a.kinds b.kinds) ∙ sym b.is) s u e h
 
 -- an input that has a verdict ends no check
@@ -305,8 +296,7 @@ verdict_same opening bytes m n v w a b =
     let there : IsVerdict a.start a.head.left w = subst (λ A. IsVerdict A a.head.left w) (start_one b.head a.head b.start a.start b.kinds a.kinds)
     (subst (λ lines. IsVerdict b.start lines w) s.left b.verdict_is) in
     let number : m ≡ n = omega (arith, s.next, a.next, b.next) in
-    let verdict = one_verdict a.start a.head.left v w a.verdict_is there in
-    λ i. verdict_status (number i) (verdict i)
+    let verdict = one_verdict a.start a.head.left v w a.verdict_is there in λ i. verdict_status (number i) (verdict i)
 
 status_ends : (before : ℕ) (verdict : Verdict) → ending (verdict_status before verdict) ≡ verdict_status before verdict
 status_ends before (Legal entries) = refl
@@ -358,12 +348,10 @@ CommandEnd (Check opening) bytes end = InputEnd bytes (EndsCheck opening bytes) 
 
 -- each command ends in one way
 one_command_end : (command : Command) (bytes : List ℕ) (s u : Status) → CommandEnd command bytes s → CommandEnd command bytes u → s ≡ u
-one_command_end (Play options threads) bytes s u a b =
-    one_end (λ x y e h. input_ends_same options bytes x y e h)
+one_command_end (Play options threads) bytes s u a b = one_end (λ x y e h. input_ends_same options bytes x y e h)
     (λ x end e w. script_ends options bytes w.start w.lines w.skipped x w.script e) (λ e f v w. v.is ∙ sym w.is) a b
 one_command_end (Load seed threads calls) bytes s u a b = a ∙ sym b
-one_command_end (Check opening) bytes s u a b =
-    one_end (λ x y e h. check_ends_same opening bytes x y e h)
+one_command_end (Check opening) bytes s u a b = one_end (λ x y e h. check_ends_same opening bytes x y e h)
     (λ x end e w. verdict_ends opening bytes w.before w.verdict x w.verdict_is e)
     (λ e f v w. v.is ∙ verdict_same opening bytes v.before w.before v.verdict w.verdict v.verdict_is w.verdict_is ∙ sym w.is) a b
 
@@ -383,14 +371,12 @@ spelled (early {options = o} {threads = n} {end = e} acc fits ends is) =
 spelled (done {options = o} {threads = n} {start = x} {lines = l} {skipped = k} acc fits script) =
     inr (record { command = Play o n; spells = acc; ends = last fits (record { start = x; lines = l; skipped = k; script = script; is = refl }) })
 spelled (loaded {seed = x} {threads = n} {calls = k} acc) = inr (record { command = Load x n k; spells = acc; ends = refl })
-spelled (check_early {opening = o} {end = e} acc fits ends is) =
-    inr (record { command = Check o; spells = acc; ends = stops e fits ends (ap ending is) })
-spelled (checked {opening = o} {before = m} {verdict = v} acc fits verdict is) =
-    inr (record {
-      command = Check o;
-      spells = acc;
-      ends = last fits (record { before = m; verdict = v; verdict_is = verdict; is = ap ending is ∙ status_ends m v });
-    })
+spelled (check_early {opening = o} {end = e} acc fits ends is) = inr (record { command = Check o; spells = acc; ends = stops e fits ends (ap ending is) })
+spelled (checked {opening = o} {before = m} {verdict = v} acc fits verdict is) = inr (record {
+  command = Check o;
+  spells = acc;
+  ends = last fits (record { before = m; verdict = v; verdict_is = verdict; is = ap ending is ∙ status_ends m v });
+})
 
 -- words and an input have one outcome, but for the history that it carries
 one_status : {words : List (List ℕ)} {bytes : List ℕ} {s u : Status} → AskForOne words → IsOutcome words bytes s → IsOutcome words bytes u → ending s ≡ ending u
@@ -398,8 +384,7 @@ one_status {bytes = bytes} {s = s} {u = u} one a b = elim (spelled a) [
   | inl none ↦ elim (spelled b) [ inl other ↦ none.1 ∙ sym other.1 | inr some ↦ absurd (none.0 some.command some.spells) ]
   | inr first ↦ elim (spelled b) [
     | inl none ↦ absurd (none.0 first.command first.spells)
-    | inr other ↦
-        one_command_end first.command bytes (ending s) (ending u) first.ends
+    | inr other ↦ one_command_end first.command bytes (ending s) (ending u) first.ends
         (subst (λ c. CommandEnd c bytes (ending u)) (one other.command first.command other.spells first.spells) other.ends)
   ]
 ]
@@ -408,8 +393,7 @@ one_status {bytes = bytes} {s = s} {u = u} one a b = elim (spelled a) [
 early_from : (words : List (List ℕ)) (bytes : List ℕ) (new : Option (List ℕ)) (end : EarlyEnd) → EndsByInput words (Some bytes) new end
     → IsOutcome words bytes (status_of end)
 early_from words bytes new end (inl h) =
-    let same = sym h.input.0.0 in
-    early h.accepted (subst (λ b. length b ≤ 67108864) same h.input.1) (subst (λ b. EndsInput h.options b end) same h.holds) refl
+    let same = sym h.input.0.0 in early h.accepted (subst (λ b. length b ≤ 67108864) same h.input.1) (subst (λ b. EndsInput h.options b end) same h.holds) refl
 early_from words bytes new end (inr h) =
     let same = sym h.input.0.0 in
     check_early h.accepted (subst (λ b. length b ≤ 67108864) same h.input.1) (subst (λ b. EndsCheck h.opening b end) same h.ends) refl
@@ -419,8 +403,7 @@ checked_from : (words : List (List ℕ)) (bytes : List ℕ) (new : Option (List 
     → AskFor words (Check opening) → (h : Judged opening (Some bytes, new) P) → verdict_status h.before h.verdict ≡ status → IsOutcome words bytes status
 checked_from words bytes new status P opening accepted h is =
     let same = sym h.read.0.0 in
-    checked accepted (subst (λ b. length b ≤ 67108864) same h.read.1)
-    (subst (λ b. IsInputVerdict opening b h.before h.verdict) same h.is) (sym is)
+    checked accepted (subst (λ b. length b ≤ 67108864) same h.read.1) (subst (λ b. IsInputVerdict opening b h.before h.verdict) same h.is) (sym is)
 
 -- a report is called for
 done_outcome : (words : List (List ℕ)) (bytes : List ℕ) (new : Option (List ℕ)) (closed : ClosedView) (report : List ℕ)
@@ -437,8 +420,7 @@ outcome_of : (words : List (List ℕ)) (bytes : List ℕ) (new out_old out_new :
     → HasCause words (Some bytes) new input out result → IsOutcome words bytes result ⊎ IsHindered input out result
 outcome_of words bytes new out_old out_new input out (Done None) wrote says cause =
     let h = says wrote.0 wrote.1 in inl (checked_from words bytes new (Done None) _ wrote.0 wrote.1 h h.holds.0)
-outcome_of words bytes new out_old out_new input out (Done (Some closed)) wrote says cause =
-    inl (done_outcome words bytes new closed wrote.0 wrote.1)
+outcome_of words bytes new out_old out_new input out (Done (Some closed)) wrote says cause = inl (done_outcome words bytes new closed wrote.0 wrote.1)
 outcome_of words bytes new out_old out_new input out Usage wrote says cause = inl (usage cause)
 outcome_of words bytes new out_old out_new input out (BadLine l k w) wrote says cause = inl (early_from words bytes new (Refused l k w) cause)
 outcome_of words bytes new out_old out_new input out ReadFault wrote says cause = inr cause

@@ -13,8 +13,7 @@ total (suc n) f = f n + total n f
 -- sums of the same parts are the same
 pub total_same : (n : ℕ) (f g : ℕ → ℕ) → ((k : ℕ) → k < n → f k ≡ g k) → total n f ≡ total n g
 total_same zero f g same = refl
-total_same (suc n) f g same =
-    let last = same n (omega arith) in let rest = total_same n f g (λ k below. same k (omega arith)) in omega arith
+total_same (suc n) f g same = let last = same n (omega arith) in let rest = total_same n f g (λ k below. same k (omega arith)) in omega arith
 
 total_sum : (n : ℕ) (f g h : ℕ → ℕ) → ((k : ℕ) → h k ≡ f k + g k) → total n h ≡ total n f + total n g
 total_sum zero f g h is = refl
@@ -34,20 +33,16 @@ total_none : (n key : ℕ) → n ≤ key → total n (one_at key) ≡ 0
 total_none zero key above = refl
 total_none (suc n) key above =
     let here : one_at key n ≡ 0 = none_there key n (λ e. omega (arith, e)) in
-    let rest : total n (one_at key) ≡ 0 = total_none n key (omega arith) in
-    omega arith
+    let rest : total n (one_at key) ≡ 0 = total_none n key (omega arith) in omega arith
 
 total_one : (n key : ℕ) → key < n → total n (one_at key) ≡ 1
 total_one zero key below = absurd (omega arith)
 total_one (suc n) key below = elim (cases_eq key n) [
   | inl e ↦
       let here : one_at key n ≡ 1 = ap (λ k. one_at key k) (sym e) ∙ one_here key in
-      let rest : total n (one_at key) ≡ 0 = total_none n key (omega (arith, e)) in
-      omega arith
+      let rest : total n (one_at key) ≡ 0 = total_none n key (omega (arith, e)) in omega arith
   | inr apart ↦
-      let here : one_at key n ≡ 0 = none_there key n apart in
-      let rest : total n (one_at key) ≡ 1 = total_one n key (omega (arith, apart)) in
-      omega arith
+      let here : one_at key n ≡ 0 = none_there key n apart in let rest : total n (one_at key) ≡ 1 = total_one n key (omega (arith, apart)) in omega arith
 ]
 
 module _ {X : Type 0} (key : X → ℕ) where
@@ -89,10 +84,8 @@ module _ {X : Type 0} (key : X → ℕ) where
       total_zero zero = refl
       total_zero (suc m) = let rest = total_zero m in omega arith
   parts_whole n (x ∷ xs) none =
-      let rest = parts_whole n xs (rest_none n x xs none) in
-      let one = total_one n (key x) (first_below n x xs none) in
-      let sum = total_sum n (one_at (key x)) (λ k. length (part xs k)) (λ k. length (part (x ∷ xs) k)) (part_length x xs) in
-      omega arith
+      let rest = parts_whole n xs (rest_none n x xs none) in let one = total_one n (key x) (first_below n x xs none) in
+      let sum = total_sum n (one_at (key x)) (λ k. length (part xs k)) (λ k. length (part (x ∷ xs) k)) (part_length x xs) in omega arith
 
   -- where every number is below the bound
   pub none_above : (n : ℕ) → ((x : X) → key x < n) → (xs : List X) → NoneAbove n xs
@@ -108,7 +101,4 @@ module _ {X : Type 0} (key : X → ℕ) where
   part_whole (x ∷ xs) none =
       let zero_is : key x < 1 = first_below 1 x xs none in
       let rest : part xs 0 ≡ xs = part_whole xs (rest_none 1 x xs none) in
-      elim (eqb_tells (key x) 0) [
-        | inl h ↦ ap (λ b. cond b (x ∷ part xs 0) (part xs 0)) h.0 ∙ ap (λ l. x ∷ l) rest
-        | inr h ↦ absurd (h.1 (omega arith))
-      ]
+      elim (eqb_tells (key x) 0) [ inl h ↦ ap (λ b. cond b (x ∷ part xs 0) (part xs 0)) h.0 ∙ ap (λ l. x ∷ l) rest | inr h ↦ absurd (h.1 (omega arith)) ]

@@ -49,9 +49,7 @@ pub none_from : (n : ℕ) (entries : List Entry) → All (λ (e : Entry). e.work
 none_from n [] all k above = refl
 none_from n (e ∷ es) all k above = elim (eqb_tells e.worker k) [
   | inl h ↦ absurd (let low = All-head (λ (x : Entry). x.worker < n) e es all in omega (arith, low, h.1, above))
-  | inr h ↦
-      ap (λ b. cond b (e ∷ entries_of k es) (entries_of k es)) h.0
-      ∙ none_from n es (All-tail (λ (x : Entry). x.worker < n) e es all) k above
+  | inr h ↦ ap (λ b. cond b (e ∷ entries_of k es) (entries_of k es)) h.0 ∙ none_from n es (All-tail (λ (x : Entry). x.worker < n) e es all) k above
 ]
 
 -- the entry is that of the line: it has its number, and its call as it is played
@@ -71,8 +69,7 @@ zip_long (l ∷ ls) (e ∷ es) h = let rest = zip_long ls es h.1 in omega (arith
 -- one entry for each line
 pub as_many : (threads : ℕ) (lines : List Line) (entries : List Entry) → 0 < threads → AreOwn threads lines entries
     → All (λ (e : Entry). e.worker < threads) entries → length entries ≡ length lines
-as_many threads lines entries some_threads own below =
-    sym (parts_whole (λ (e : Entry). e.worker) threads entries (none_from threads entries below))
+as_many threads lines entries some_threads own below = sym (parts_whole (λ (e : Entry). e.worker) threads entries (none_from threads entries below))
     ∙ total_same threads (λ k. length (entries_of k entries)) (λ k. length (own_lines threads lines k))
     (λ k low. zip_long (own_lines threads lines k) (entries_of k entries) (own k low))
     ∙ parts_whole (worker_of threads) threads lines (none_above (worker_of threads) threads (λ line. mod-lt line.process some_threads) lines)
@@ -80,25 +77,18 @@ as_many threads lines entries some_threads own below =
 lists_total : (lists : List (Vec Turn Global)) → sum_by vec_len lists ≡ sum_by length (map vec_items lists)
 lists_total [] = refl
 lists_total (v ∷ vs) =
-    let rest = lists_total vs in
-    let left = sum_by-cons vec_len v vs in
-    let right = sum_by-cons length (vec_items v) (map vec_items vs) in
-    omega (arith, v.ok.0)
+    let rest = lists_total vs in let left = sum_by-cons vec_len v vs in let right = sum_by-cons length (vec_items v) (map vec_items vs) in omega (arith, v.ok.0)
 
 numbered_total : (f : ℕ → List Turn) (n : ℕ) → sum_by length (map f (range_with_len 0 n)) ≡ total n (λ k. length (f k))
 numbered_total f zero = refl
 numbered_total f (suc n) =
     let more : sum_by length (map f (range_with_len 0 (suc n))) ≡ sum_by length (map f (range_with_len 0 n)) + length (f n) =
-    rw add-one at (sum_by-map-range_with_len_more length f 0 n n (omega arith)) in
-    let rest = numbered_total f n in
-    omega arith
+    rw add-one at (sum_by-map-range_with_len_more length f 0 n n (omega arith)) in let rest = numbered_total f n in omega arith
 
 -- the lists have as many lines together as were dealt out
 pub dealt_total : (threads : ℕ) (lines : List Line) (lists : List (Vec Turn Global)) → 0 < threads → map vec_items lists ≡ dealt threads lines
     → sum_by vec_len lists ≡ length lines
-dealt_total threads lines lists some_threads is =
-    lists_total lists
-    ∙ ap (λ (x : List (List Turn)). sum_by length x) is
+dealt_total threads lines lists some_threads is = lists_total lists ∙ ap (λ (x : List (List Turn)). sum_by length x) is
     ∙ numbered_total (worker_lines threads lines) threads
     ∙ total_same threads (λ k. length (worker_lines threads lines k)) (λ k. length (own_lines threads lines k))
     (λ k low. length-map (own_lines threads lines k) played_line)
@@ -109,9 +99,7 @@ alone_of : (worker : ℕ) (entries : List Entry) → All (λ (e : Entry). e.work
 alone_of worker [] all k apart = refl
 alone_of worker (e ∷ es) all k apart = elim (eqb_tells e.worker k) [
   | inl h ↦ absurd (apart (sym h.1 ∙ All-head (λ (x : Entry). x.worker ≡ worker) e es all))
-  | inr h ↦
-      ap (λ b. cond b (e ∷ entries_of k es) (entries_of k es)) h.0
-      ∙ alone_of worker es (All-tail (λ (x : Entry). x.worker ≡ worker) e es all) k apart
+  | inr h ↦ ap (λ b. cond b (e ∷ entries_of k es) (entries_of k es)) h.0 ∙ alone_of worker es (All-tail (λ (x : Entry). x.worker ≡ worker) e es all) k apart
 ]
 
 -- what each call held is so on the way to the last state
@@ -150,8 +138,7 @@ of_worker threads lines entries worker own low =
 -- no entry has a worker that isn't below the number of workers
 workers_below : (n : ℕ) (entries : List Entry) → NoneAbove (λ (e : Entry). e.worker) n entries → All (λ (e : Entry). e.worker < n) entries
 workers_below n [] none = All-nil (λ (e : Entry). e.worker < n)
-workers_below n (e ∷ es) none =
-    All-cons (λ (e : Entry). e.worker < n) e es (first_below (λ (e : Entry). e.worker) n e es none)
+workers_below n (e ∷ es) none = All-cons (λ (e : Entry). e.worker < n) e es (first_below (λ (e : Entry). e.worker) n e es none)
     (workers_below n es (rest_none (λ (e : Entry). e.worker) n e es none))
 
 -- ---- who holds an area alone
@@ -192,8 +179,7 @@ area_alone A c under fits alone = (
       holds_there A c under simple.1.0 state simple.1.1 (alone simple.0 simple.1.0 simple.1.1),
 )
   where
-    decided : (o : Option Reply) → MatchOption o (FitsByState A c under) (λ reply. under ≡ Nothing) → HoldsSomeArea under
-        → (o ≡ None) × FitsByState A c under
+    decided : (o : Option Reply) → MatchOption o (FitsByState A c under) (λ reply. under ≡ Nothing) → HoldsSomeArea under → (o ≡ None) × FitsByState A c under
     decided None fits holds = (refl, fits)
     decided (Some reply) fits holds = absurd (subst HoldsSomeArea fits holds)
 
@@ -207,14 +193,12 @@ held_alone A e B step = ((step.0.fits, step.1), λ none a simple. not_whole e.un
 -- what workers have played is what `run` says of it
 pub played : (threads : ℕ) (opening : List Area) (lines : List Line) (entries : List Entry) (last : List Area)
     → WerePlayed opening (dealt threads lines) entries last → IsHistoryOf threads opening lines entries last
-played threads opening lines entries last h =
-    record {
-      own = λ worker low. zip_of worker (own_lines threads lines worker) (entries_of worker entries)
-          (h.collected.lines worker (worker_lines threads lines worker)
-          (numbered_list (worker_lines threads lines) 0 threads worker worker low (omega arith)));
-      no_other = workers_below threads entries (λ k above. let count = dealt_length threads lines in h.collected.no_other k (omega arith));
-      runs = h.runs;
-      alone = λ worker all. chains_weaker HeldAndReplies HeldAsMay held_alone opening entries last
-          (to_last opening entries last (h.alone worker (alone_of worker entries all)) (all_legal opening last entries h.runs).1);
-      named = λ k d within. (h.calls k d within, h.replies k d within);
-    }
+played threads opening lines entries last h = record {
+  own = λ worker low. zip_of worker (own_lines threads lines worker) (entries_of worker entries)
+      (h.collected.lines worker (worker_lines threads lines worker) (numbered_list (worker_lines threads lines) 0 threads worker worker low (omega arith)));
+  no_other = workers_below threads entries (λ k above. let count = dealt_length threads lines in h.collected.no_other k (omega arith));
+  runs = h.runs;
+  alone = λ worker all. chains_weaker HeldAndReplies HeldAsMay held_alone opening entries last
+      (to_last opening entries last (h.alone worker (alone_of worker entries all)) (all_legal opening last entries h.runs).1);
+  named = λ k d within. (h.calls k d within, h.replies k d within);
+}

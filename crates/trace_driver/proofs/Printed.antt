@@ -115,8 +115,7 @@ own_rise worker (t ∷ ts) (e ∷ es) h rise =
 
 turns_from : (n : ℕ) (lines : List Line) → All (λ (l : Line). n < l.number) lines → All (λ (t : Turn). n < t.line) (map played_line lines)
 turns_from n [] all = All-nil (λ (t : Turn). n < t.line)
-turns_from n (l ∷ ls) all =
-    All-cons (λ (t : Turn). n < t.line) (played_line l) (map played_line ls) (All-head (λ (l : Line). n < l.number) l ls all)
+turns_from n (l ∷ ls) all = All-cons (λ (t : Turn). n < t.line) (played_line l) (map played_line ls) (All-head (λ (l : Line). n < l.number) l ls all)
     (turns_from n ls (All-tail (λ (l : Line). n < l.number) l ls all))
 
 abbrev NumberBelow : Line → Line → Type 0
@@ -125,20 +124,16 @@ NumberBelow one other = one.number < other.number
 -- lines are played with their numbers
 turns_rise : (lines : List Line) → AllPairs NumberBelow lines → AllPairs TurnBelow (map played_line lines)
 turns_rise [] rise = λ i j d below low. absurd (omega arith)
-turns_rise (l ∷ ls) rise =
-    AllPairs-cons TurnBelow (played_line l) (map played_line ls) (turns_from l.number ls (pairs_head NumberBelow l ls rise))
+turns_rise (l ∷ ls) rise = AllPairs-cons TurnBelow (played_line l) (map played_line ls) (turns_from l.number ls (pairs_head NumberBelow l ls rise))
     (turns_rise ls (pairs_tail NumberBelow l ls rise))
 
 -- the entries of workers that played lines which rise have lines that rise
 each_rises : (threads : ℕ) (lines : List Line) (entries : List Entry) → LinesRise lines → AreOwn threads lines entries
     → All (λ (e : Entry). e.worker < threads) entries → (k : ℕ) → AllPairs LineBelow (entries_of k entries)
 each_rises threads lines entries rise own low k = elim (cases_lt k threads) [
-  | inl below ↦
-      own_rise k (worker_lines threads lines k) (entries_of k entries) (of_worker threads lines entries k own below)
+  | inl below ↦ own_rise k (worker_lines threads lines k) (entries_of k entries) (of_worker threads lines entries k own below)
       (turns_rise (own_lines threads lines k) (AllPairs-filter NumberBelow (λ line. worker_of threads line == k) lines rise))
-  | inr above ↦
-      let none = none_from threads entries low k above in
-      subst (AllPairs LineBelow) (sym none) (λ i j d below low. absurd (omega arith))
+  | inr above ↦ let none = none_from threads entries low k above in subst (AllPairs LineBelow) (sym none) (λ i j d below low. absurd (omega arith))
 ]
 
 -- ---- the whole log
@@ -146,17 +141,14 @@ each_rises threads lines entries rise own low k = elim (cases_lt k threads) [
 last_is_list : (threads : ℕ) (start : List Area) (lines : List Line) (entries : List Entry) (last : List Area) → IsAreaList start
     → IsHistoryOf threads start lines entries last → IsAreaList last
 last_is_list threads start lines entries last list h =
-    let left = area_state start entries list in
-    subst IsAreaList (one_state start entries left.0 last left.2 (all_legal start last entries h.runs).1) left.1
+    let left = area_state start entries list in subst IsAreaList (one_state start entries left.0 last left.2 (all_legal start last entries h.runs).1) left.1
 
 -- a text without a newline has no byte that is one
 lacks_all : (text : List ℕ) → lacks 10 text ≡ true → All (λ byte. byte ≢ 10) text
 lacks_all [] h = All-nil (λ byte. byte ≢ 10)
 lacks_all (b ∷ text) h = elim (eqb_tells b 10) [
   | inl same ↦ absurd (let no : not (b == 10) ≡ false = ap not same.0 in let e = rw no at h in cc)
-  | inr apart ↦
-      All-cons (λ byte. byte ≢ 10) b text apart.1
-      (lacks_all text (let yes : not (b == 10) ≡ true = ap not apart.0 in rw yes at h))
+  | inr apart ↦ All-cons (λ byte. byte ≢ 10) b text apart.1 (lacks_all text (let yes : not (b == 10) ≡ true = ap not apart.0 in rw yes at h))
 ]
 
 above_digits : 10 ≤ worth 10
@@ -176,8 +168,7 @@ touched_if true entries count counts =
 
 -- the text of a report with its log
 log_first_text : (options : Options) (bytes : List ℕ) (threads : ℕ) (closed : ClosedView) (report : List ℕ) → options.log ≡ true
-    → (h : IsReport options threads bytes closed report)
-    → log_text closed.entries ++ (maps_text closed.areas
+    → (h : IsReport options threads bytes closed report) → log_text closed.entries ++ (maps_text closed.areas
     ++ (summary_text (length closed.entries) h.skipped (refused_count closed.entries) h.differ ++ asked_touched options h.touched)) ≡ report
 log_first_text options bytes threads closed report log h =
     let asked : asked_log options closed.entries ≡ log_text closed.entries = ap (λ (b : Bool). if b then log_text closed.entries else []) log in
@@ -217,8 +208,7 @@ ranges_of words command h = has_ranges h.name h.rest h.asked h.options command h
 -- the report of a run whose words ask for its log is such a one
 of_reports : (words : List (List ℕ)) (input_old input_new : Option (List ℕ)) (options : Options) (threads : ℕ) (closed : ClosedView) (text report : List ℕ)
     → AskForOne words → AskFor words (Play options threads) → options.log ≡ true → Reports words input_old input_new closed text → report ≡ text
-    → PrintedLogIsGood closed.entries
-    → HasRead input_old input_new (λ bytes. LegalFrom options.opening bytes (lines_of report) (length closed.entries))
+    → PrintedLogIsGood closed.entries → HasRead input_old input_new (λ bytes. LegalFrom options.opening bytes (lines_of report) (length closed.entries))
 of_reports words a b options threads closed text report one spells log (inl h) same law =
     let command : Play h.options h.threads ≡ Play options threads = one (Play h.options h.threads) (Play options threads) h.accepted spells in
     let these : h.options ≡ options = cc in
@@ -229,8 +219,7 @@ of_reports words a b options threads closed text report one spells log (inl h) s
           (legal_report h.options h.threads h.bytes closed text report few.1 (ap (λ o. o.log) these ∙ log) h.holds same law),
     )
 of_reports words a b options threads closed text report one spells log (inr h) same law =
-    let other : Load h.seed h.threads h.calls ≡ Play options threads = one (Load h.seed h.threads h.calls) (Play options threads) h.accepted spells in
-    absurd cc
+    let other : Load h.seed h.threads h.calls ≡ Play options threads = one (Load h.seed h.threads h.calls) (Play options threads) h.accepted spells in absurd cc
 
 -- the log that a run printed is good, by the law on its entries
 pub logs_good : (words : List (List ℕ)) (input_old input_new out_old out_new : Option (List ℕ)) (status : Status) → AskForOne words

@@ -21,18 +21,12 @@ summary_of entries counts = summary_text (length entries) counts.skipped counts.
 pub report_all : {T E : Type 0} (r : Result T E) (a b c d e : Option (List ℕ)) (options : Options) (areas : List Area) (entries : List Entry)
     (counts : Counts) → Appends a b (asked_log options entries) → Appends b c (maps_text areas) → Appends c d (summary_of entries counts)
     → OnOk r (Appends d e (asked_touched options counts.touched)) → OnOk r (Appends a e (report_text options areas entries counts))
-report_all r a b c d e options areas entries counts log maps summary count =
-    on_ok_weaker r
-    (λ last. Appends-trans a b e (asked_log options entries) _ log
-    (Appends-trans b c e (maps_text areas) _ maps (Appends-trans c d e (summary_of entries counts) _ summary last)))
-    count
+report_all r a b c d e options areas entries counts log maps summary count = on_ok_weaker r (λ last. Appends-trans a b e (asked_log options entries) _ log
+    (Appends-trans b c e (maps_text areas) _ maps (Appends-trans c d e (summary_of entries counts) _ summary last))) count
 
 -- a log, the maps, the summary and a first part of the count are a first part of the report
 pub report_prefix : {T E : Type 0} (r : Result T E) (a b c d e : Option (List ℕ)) (options : Options) (areas : List Area) (entries : List Entry)
     (counts : Counts) → Appends a b (asked_log options entries) → Appends b c (maps_text areas) → Appends c d (summary_of entries counts)
     → OnErr r (AppendsPrefix d e (asked_touched options counts.touched)) → OnErr r (AppendsPrefix a e (report_text options areas entries counts))
-report_prefix r a b c d e options areas entries counts log maps summary count =
-    on_err_weaker r
-    (λ last. AppendsPrefix-after a (asked_log options entries) log
-    (AppendsPrefix-after b (maps_text areas) maps (AppendsPrefix-after c (summary_of entries counts) summary last)))
-    count
+report_prefix r a b c d e options areas entries counts log maps summary count = on_err_weaker r (λ last. AppendsPrefix-after a (asked_log options entries) log
+    (AppendsPrefix-after b (maps_text areas) maps (AppendsPrefix-after c (summary_of entries counts) summary last))) count

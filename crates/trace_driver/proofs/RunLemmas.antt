@@ -105,67 +105,21 @@ no_memory words a b m n failures end is = subst (λ e. HasCause words a b (m, n)
 
 -- an early end of a trace has its cause
 pub has_cause : (words : List (List ℕ)) (options : Options) (threads : ℕ) (a b : Option (List ℕ)) (m n : ℕ) (failures : ℕ × ℕ)
-    (end : EarlyEnd) → AskFor words (Play options threads)
-    → OrMemory (EndsEarly options a b m n) end → HasCause words a b (m, n) failures (status_of end)
+    (end : EarlyEnd) → AskFor words (Play options threads) → OrMemory (EndsEarly options a b m n) end → HasCause words a b (m, n) failures (status_of end)
 has_cause words options threads a b m n failures end accepted (inl memory) = no_memory words a b m n failures end memory
-has_cause words options threads a b m n failures end accepted (inr (inl h)) =
-    early_cause words a b m n failures end (inl (options, threads, accepted)) (inl h)
-has_cause words options threads a b m n failures end accepted (inr (inr h)) =
-    early_cause words a b m n failures end (inl (options, threads, accepted))
+has_cause words options threads a b m n failures end accepted (inr (inl h)) = early_cause words a b m n failures end (inl (options, threads, accepted)) (inl h)
+has_cause words options threads a b m n failures end accepted (inr (inr h)) = early_cause words a b m n failures end (inl (options, threads, accepted))
     (inr (inl (record { options = options; threads = threads; accepted = accepted; bytes = h.0; input = h.1; holds = h.2 }), of_bytes options h.0 end h.2))
 
 -- so has an early end of a check
 pub has_check_cause : (words : List (List ℕ)) (opening : Bool) (a b : Option (List ℕ)) (m n : ℕ) (failures : ℕ × ℕ)
-    (end : EarlyEnd) → AskFor words (Check opening)
-    → OrMemory (EndsCheckEarly opening a b m n) end → HasCause words a b (m, n) failures (status_of end)
+    (end : EarlyEnd) → AskFor words (Check opening) → OrMemory (EndsCheckEarly opening a b m n) end → HasCause words a b (m, n) failures (status_of end)
 has_check_cause words opening a b m n failures end accepted (inl memory) = no_memory words a b m n failures end memory
 has_check_cause words opening a b m n failures end accepted (inr (inl h)) = early_cause words a b m n failures end (inr (opening, accepted)) (inl h)
-has_check_cause words opening a b m n failures end accepted (inr (inr h)) =
-    early_cause words a b m n failures end (inr (opening, accepted))
+has_check_cause words opening a b m n failures end accepted (inr (inr h)) = early_cause words a b m n failures end (inr (opening, accepted))
     (inr (inr (record { opening = opening; accepted = accepted; bytes = h.0; input = h.1; ends = h.2 }), of_check opening h.0 end h.2))
 
 -- ---- what a check wrote
-
--- the verdict on what was read
-pub judged_as : (opening : Bool) (a b : Option (List ℕ)) (before : ℕ) (verdict : Verdict) (P : ℕ → Verdict → Type 0)
-    → HasRead a b (λ bytes. IsInputVerdict opening bytes before verdict) → P before verdict → Judged opening (a, b) P
-judged_as opening a b before verdict P read holds = record {
-  bytes = read.0;
-  read = read.1;
-  before = before;
-  verdict = verdict;
-  is = read.2;
-  holds = holds;
-}
-
--- where its whole line was written, the run's status is that of the verdict
-pub says_verdict : (opening : Bool) (a b out_old out_new : Option (List ℕ)) (before : ℕ) (verdict : Verdict)
-    → HasRead a b (λ bytes. IsInputVerdict opening bytes before verdict) → Appends out_old out_new (verdict_line before verdict)
-    → IsChecked opening (a, b) (out_old, out_new) (verdict_status before verdict)
-says_verdict opening a b out_old out_new before (Legal entries) read appends =
-    judged_as opening a b before (Legal entries) _ read (refl, appends)
-says_verdict opening a b out_old out_new before (WrongVerdict line why) read appends =
-    judged_as opening a b before (WrongVerdict line why) _ read (refl, appends)
-
--- where the output failed it has a first part of the line
-pub says_part : (opening : Bool) (a b out_old out_new : Option (List ℕ)) (before : ℕ) (verdict : Verdict)
-    → HasRead a b (λ bytes. IsInputVerdict opening bytes before verdict) → AppendsPrefix out_old out_new (verdict_line before verdict)
-    → IsChecked opening (a, b) (out_old, out_new) (WriteFault None)
-says_part opening a b out_old out_new before verdict read part = (refl, judged_as opening a b before verdict _ read part)
-
--- the status of a verdict is one of a check
-pub wrote_verdict : (words : List (List ℕ)) (opening : Bool) (a b out_old out_new : Option (List ℕ)) (before : ℕ) (verdict : Verdict)
-    → AskFor words (Check opening) → Wrote words a b out_old out_new (verdict_status before verdict)
-wrote_verdict words opening a b out_old out_new before (Legal entries) accepted = (opening, accepted)
-wrote_verdict words opening a b out_old out_new before (WrongVerdict line why) accepted = (opening, accepted)
-
--- and the verdict is its cause
-pub verdict_cause : (words : List (List ℕ)) (opening : Bool) (a b : Option (List ℕ)) (input out : ℕ × ℕ) (before : ℕ) (verdict : Verdict)
-    → AskFor words (Check opening) → HasRead a b (λ bytes. IsInputVerdict opening bytes before verdict)
-    → HasCause words a b input out (verdict_status before verdict)
-verdict_cause words opening a b input out before (Legal entries) accepted read = tt
-verdict_cause words opening a b input out before (WrongVerdict line why) accepted read =
-    (opening, accepted, judged_as opening a b before (WrongVerdict line why) _ read refl)
 
 -- words that ask for a play ask for no check
 pub play_is_no_check : (words : List (List ℕ)) (options : Options) (threads : ℕ) (opening : Bool)
@@ -189,13 +143,3 @@ pub checks_as_asked : (words : List (List ℕ)) (opening : Bool) (input out : Op
     → AskForOne words → AskFor words (Check opening) → IsChecked opening input out status → ChecksAs words input out status
 checks_as_asked words opening input out status one spells is other asked =
     subst (λ o. IsChecked o input out status) (ap opening_of (one (Check opening) (Check other) spells asked)) is
-
--- the status of a verdict is never that of words that are not accepted, nor one that leaves the output alone
-pub verdict_never : (before : ℕ) (verdict : Verdict) → verdict_status before verdict ≡ Usage → ⊥
-verdict_never before (Legal entries) is = cc
-verdict_never before (WrongVerdict line why) is = cc
-
--- it leaves no output alone
-pub verdict_written : (before : ℕ) (verdict : Verdict) → IsUnwritten (verdict_status before verdict) → ⊥
-verdict_written before (Legal entries) h = h
-verdict_written before (WrongVerdict line why) h = h

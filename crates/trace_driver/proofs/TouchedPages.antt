@@ -26,8 +26,7 @@ only_one x y (suc k, low, e) = absurd (omega (arith, low))
 -- a page of a call and its reply is that of a granted fault
 of_call : (entries : List Entry) (e : Entry) (page : ℕ) (c : Call) (r : Reply) → Contains entries e → e.call ≡ c → e.reply ≡ r
     → Contains (page_by c r) page → IsGranted entries page
-of_call entries e page (Fault addr access) (Granted kind) there call reply has =
-    (e, addr, access, kind, there, call, reply, only_one (page_of addr) page has)
+of_call entries e page (Fault addr access) (Granted kind) there call reply has = (e, addr, access, kind, there, call, reply, only_one (page_of addr) page has)
 of_call entries e page other r there call reply (k, low, at) = absurd (omega (arith, low))
 
 -- the same of more entries
@@ -36,16 +35,13 @@ with_first e es page h = (h.0, h.1, h.2, h.3, Contains-append_right (e ∷ []) e
 
 to_fault : (entries : List Entry) (page : ℕ) → Contains (granted_pages entries) page → IsGranted entries page
 to_fault [] page (k, low, at) = absurd (omega (arith, low))
-to_fault (e ∷ es) page has = ⊎_elim
-    (λ here. of_call (e ∷ es) e page e.call e.reply (zero, omega arith, refl) refl refl here)
-    (λ later. with_first e es page (to_fault es page later))
-    (Contains-append_cases (granted_page e) (granted_pages es) page has)
+to_fault (e ∷ es) page has = ⊎_elim (λ here. of_call (e ∷ es) e page e.call e.reply (zero, omega arith, refl) refl refl here)
+    (λ later. with_first e es page (to_fault es page later)) (Contains-append_cases (granted_page e) (granted_pages es) page has)
 
 -- an entry's page is among those of all
 own_page : (entries : List Entry) (e : Entry) (page : ℕ) → Contains entries e → Contains (granted_page e) page → Contains (granted_pages entries) page
 own_page [] e page (k, low, at) has = absurd (omega (arith, low))
-own_page (x ∷ xs) e page (zero, low, at) has =
-    Contains-append_left (granted_page x) (granted_pages xs) page (rw at has)
+own_page (x ∷ xs) e page (zero, low, at) has = Contains-append_left (granted_page x) (granted_pages xs) page (rw at has)
 own_page (x ∷ xs) e page (suc k, low, at) has =
     Contains-append_right (granted_page x) (granted_pages xs) page (own_page xs e page (k, omega (arith, low), at) has)
 
@@ -58,10 +54,7 @@ pub counts : (entries : List Entry) (pages : List ℕ) (count : ℕ) → AreTouc
 counts entries pages count touched counted narrow = record {
   pages = pages;
   rising = touched.rising;
-  all = λ page. (
-    (λ has. to_fault entries page ((touched.all page).0 has)),
-    (λ granted. (touched.all page).1 (from_fault entries page granted)),
-  );
+  all = λ page. ((λ has. to_fault entries page ((touched.all page).0 has)), (λ granted. (touched.all page).1 (from_fault entries page granted)));
   counted = counted;
   narrow = narrow;
 }

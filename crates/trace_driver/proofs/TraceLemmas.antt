@@ -1,7 +1,6 @@
 -- Lines are read one by one: what becomes of those that are left completes what became of those before them.
-use Rattle.std.proofs.Common.{◌≡◌, ℕ, ◌+◌, ◌≤◌, ◌==◌, Bool, true, false, not, if◌then◌else◌, List, [], ◌∷◌, ◌++◌, length, Option, Some}
-use Rattle.std.proofs.Common.{None, Result, Ok, Err, ap, subst, sym, refl, ◌∙◌}
-use Rattle.std.proofs.Common.{inl, inr, arith, append-nil, append_assoc}
+use Rattle.std.proofs.Common.{◌≡◌, ℕ, ◌+◌, ◌≤◌, ◌==◌, Bool, true, false, not, if◌then◌else◌, List, [], ◌∷◌, ◌++◌, length, Option, Some, None, Result, Ok, Err}
+use Rattle.std.proofs.Common.{ap, subst, sym, refl, ◌∙◌, inl, inr, arith, append-nil, append_assoc}
 use Rattle.std.specs.Prelude.{IfErr, OnOk}
 use Rattle.page_types.specs.declared.calls.Call.{Call}
 use Rattle.page_types.specs.declared.calls.Call.TheVariants.{Brk}
@@ -54,15 +53,13 @@ answers_few fed text (Kept count) h = kept_few fed h.0 count h.5
 answers_few fed text (Skipped count) h = passes_few fed text count h
 answers_few fed text Blank h = omega arith
 
-one_more : (call : Option Call) (pid : ℕ) (recorded : Option Recorded) (count : ℕ) → count ≤ 1
-    → skipped_by (answered call pid recorded count) ≤ 2
+one_more : (call : Option Call) (pid : ℕ) (recorded : Option Recorded) (count : ℕ) → count ≤ 1 → skipped_by (answered call pid recorded count) ≤ 2
 one_more (Some call) pid recorded count few = omega (arith, few)
 one_more None pid recorded count few = omega (arith, few)
 
 -- so does what becomes of a line
 pub skips_few : (base : ℕ) (fed : List (List ℕ)) (text : List ℕ) (answer : Fed) → IsAnswer fed text answer → skipped_by (on_base base answer) ≤ 2
-skips_few base fed text (Played pid call recorded count) h =
-    one_more (with_base base call) pid recorded count (beside_few fed text pid call recorded count h)
+skips_few base fed text (Played pid call recorded count) h = one_more (with_base base call) pid recorded count (beside_few fed text pid call recorded count h)
 skips_few base fed text (Kept count) h = kept_few fed h.0 count h.5
 skips_few base fed text (Skipped count) h = passes_few fed text count h
 skips_few base fed text Blank h = omega arith
@@ -81,8 +78,7 @@ based_named base pid other recorded count h = h
 
 -- what becomes of a line has no bit but the named ones
 pub is_named : (base : ℕ) (fed : List (List ℕ)) (text : List ℕ) (answer : Fed) → IsAnswer fed text answer → IsNamedAnswer (on_base base answer)
-is_named base fed text (Played pid call recorded count) h =
-    based_named base pid call recorded count (named_answer fed text pid call recorded count h)
+is_named base fed text (Played pid call recorded count) h = based_named base pid call recorded count (named_answer fed text pid call recorded count h)
 is_named base fed text other h = tt
 
 -- as many lines are played as an answer counts
@@ -94,8 +90,7 @@ played_are stand other = refl
 pub takes_by : (stand : TracePosition) (text : List ℕ) (old new : TraceReader) (answer : Fed) → IsShort text → StandsAt old stand
     → IsAnswer stand.fed text answer → IsFed new.joiner (text ∷ stand.fed)
     → new.base ≡ base_behind stand.base answer → new.lines.items ≡ old.lines.items ++ lines_by stand (taken stand answer)
-    → IsIndexed new.processes (seen_by stand.seen (taken stand answer))
-    → length new.lines.items ≡ length old.lines.items + played_by (taken stand answer)
+    → IsIndexed new.processes (seen_by stand.seen (taken stand answer)) → length new.lines.items ≡ length old.lines.items + played_by (taken stand answer)
     → length new.lines.items ≤ 1048576 → new.skipped ≡ old.skipped + skipped_by (taken stand answer) → Takes stand text old new
 takes_by stand text old new answer short at is fed base lines indexed len few skipped =
     let played = at.played in
@@ -124,8 +119,7 @@ takes_on (Ok x) text number old new joiner answer base told short is_base is_tol
     (subst (λ (j : Joiner). IsFed j (text ∷ stand.fed)) (sym same) (next stand.fed at.fed)) (kept ∙ behind)
     (lines stand is at.indexed ∙ ap (λ (f : Fed). old.lines.items ++ lines_by stand f) one)
     (subst (λ (f : Fed). IsIndexed new.processes (seen_by stand.seen f)) one (seen stand.seen at.indexed))
-    (len ∙ ap (λ (f : Fed). length old.lines.items + played_by f) one) few
-    (skipped ∙ ap (λ (f : Fed). old.skipped + skipped_by f) one)
+    (len ∙ ap (λ (f : Fed). length old.lines.items + played_by f) one) few (skipped ∙ ap (λ (f : Fed). old.skipped + skipped_by f) one)
 takes_on (Err e) text number old new joiner answer base told short is_base is_told answers next same kept lines seen len few skipped = tt
 
 -- a text of which what became is not taken ends the run
@@ -137,8 +131,7 @@ full_ends stand text reader answer base told end short is_base is_told at is (in
     let played = at.played in
     let behind : base ≡ base_behind stand.base answer = is_base ∙ ap (λ (b : ℕ). base_behind b answer) (sym at.base) in
     let one : told ≡ taken stand answer = is_told ∙ ap (λ (b : ℕ). on_base b answer) behind in
-    let more = ap played_by one in
-    let count = played_are stand (taken stand answer) in
+    let more = ap played_by one in let count = played_are stand (taken stand answer) in
     inr (subst (Ends stand text) (sym h.0) (short, refl, (answer, is, omega (arith, played, h.1, more, count))))
 
 -- so it does where adding it didn't succeed
@@ -176,14 +169,10 @@ so_far_start first all reader at none zero = record {
 
 -- behind a line that was taken the texts behind it are left
 pub so_far_step : (first : ℕ) (all : List (List ℕ)) (number : ℕ) (text : List ℕ) (texts : List (List ℕ)) (old new : TraceReader)
-    (so_far : SoFar first all number (text ∷ texts) old) → Takes so_far.stand text old new
-    → SoFar first all (number + 1) texts new
+    (so_far : SoFar first all number (text ∷ texts) old) → Takes so_far.stand text old new → SoFar first all (number + 1) texts new
 so_far_step first all number text texts old new so_far takes =
-    let stand = so_far.stand in
-    let told = taken stand takes.answer in
-    let counted = so_far.counted in
-    let is_lines = takes.lines in
-    let is_skipped = takes.skipped in
+    let stand = so_far.stand in let told = taken stand takes.answer in let counted = so_far.counted in
+    let is_lines = takes.lines in let is_skipped = takes.skipped in
     record {
       stand = after stand text takes.answer;
       stands = takes.stands;
@@ -191,8 +180,7 @@ so_far_step first all number text texts old new so_far takes =
       counted = omega (arith, counted);
       reads = λ more s h.
           let g = so_far.reads (lines_by stand told ++ more) (skipped_by told + s) (line takes.answer takes.asks h) in
-          let lines : old.lines.items ++ (lines_by stand told ++ more) ≡ new.lines.items ++ more =
-          sym (append_assoc old.lines.items (lines_by stand told) more)
+          let lines : old.lines.items ++ (lines_by stand told ++ more) ≡ new.lines.items ++ more = sym (append_assoc old.lines.items (lines_by stand told) more)
           ∙ ap (λ (x : List Line). x ++ more) (sym is_lines) in
           let skipped : old.skipped + (skipped_by told + s) ≡ new.skipped + s = omega (arith, is_skipped) in
           subst (λ (n : ℕ). Reads (start_at first) all (new.lines.items ++ more) n) skipped
@@ -202,11 +190,9 @@ so_far_step first all number text texts old new so_far takes =
 
 -- where no text is left the lines and the count of those passed over are those of the whole trace
 pub so_far_all : (first : ℕ) (all : List (List ℕ)) (number left : ℕ) (reader : TraceReader)
-    (so_far : SoFar first all number [] reader) → CountsKept so_far.stand.fed left
-    → Reads (start_at first) all reader.lines.items (reader.skipped + left)
+    (so_far : SoFar first all number [] reader) → CountsKept so_far.stand.fed left → Reads (start_at first) all reader.lines.items (reader.skipped + left)
 so_far_all first all number left reader so_far kept =
-    subst (λ (x : List Line). Reads (start_at first) all x (reader.skipped + left)) (append-nil reader.lines.items)
-    (so_far.reads [] left (nothing kept))
+    subst (λ (x : List Line). Reads (start_at first) all x (reader.skipped + left)) (append-nil reader.lines.items) (so_far.reads [] left (nothing kept))
 
 -- a text that ends the run ends it for the whole trace
 pub so_far_ends : (first : ℕ) (all : List (List ℕ)) (number : ℕ) (text : List ℕ) (texts : List (List ℕ)) (reader : TraceReader)
@@ -217,6 +203,5 @@ so_far_ends first all number text texts reader end so_far (inr h) = inr (so_far.
 
 -- no more halves are left than lines were read
 pub left_few : (first : ℕ) (all : List (List ℕ)) (number : ℕ) (left : List (List ℕ)) (reader : TraceReader) (count : ℕ)
-    (so_far : SoFar first all number left reader) → CountsKept so_far.stand.fed count
-    → count + first ≤ number
+    (so_far : SoFar first all number left reader) → CountsKept so_far.stand.fed count → count + first ≤ number
 left_few first all number left reader count so_far kept = let counted = so_far.counted in omega (arith, counted, few_kept so_far.stand.fed count kept)

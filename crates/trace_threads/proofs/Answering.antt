@@ -2,7 +2,7 @@
 use Rattle.std.proofs.Common.{◌≡◌, ◌<◌, ℕ, List, refl, subst, sym}
 use Rattle.std.specs.Prelude.{◌↔◌, Option, Some, None, MatchOption}
 use Rattle.page_types.specs.declared.calls.Call.{Call}
-use Rattle.page_types.specs.declared.calls.Call.TheVariants.{Map, Unmap, Protect, Fault, Seal, Brk, Remap}
+use Rattle.page_types.specs.declared.calls.Call.TheVariants.{Protect, Fault}
 use Rattle.page_types.specs.declared.calls.Reply.{Reply}
 use Rattle.page_types.specs.declared.sets.Prot.{Prot}
 use Rattle.page_types.specs.Classes.{IsProtect}
@@ -38,100 +38,51 @@ reads_no_area page Whole reads holds = holds
 -- a call that changes no protection holds no area, and none is simple for it
 area_of_other : (A : List Area) (call : Call) (under : Under) → (IsProtect call → ⊥) → FitsUnder A call under
     → HoldsSomeArea under ↔ ((plain_reply call ≡ None) × IsSimple A call)
-area_of_other A (Map addr len prot flags) under other fits = (
-  λ holds. absurd (subst HoldsSomeArea (undecided (plain_reply (Map addr len prot flags)) (under ≡ Whole) under fits holds).1
-      holds),
-  λ h. absurd h.1.1,
-)
-area_of_other A (Unmap addr len) under other fits = (
-  λ holds. absurd (subst HoldsSomeArea (undecided (plain_reply (Unmap addr len)) (under ≡ Whole) under fits holds).1 holds),
-  λ h. absurd h.1.1,
-)
 area_of_other A (Protect addr len prot) under other fits = absurd (other tt)
-area_of_other A (Seal addr len flags) under other fits = (
-  λ holds. absurd (subst HoldsSomeArea (undecided (plain_reply (Seal addr len flags)) (under ≡ Whole) under fits holds).1 holds),
-  λ h. absurd h.1.1,
-)
-area_of_other A (Brk base addr) under other fits = (
-  λ holds. absurd (subst HoldsSomeArea (undecided (plain_reply (Brk base addr)) (under ≡ Whole) under fits holds).1 holds),
-  λ h. absurd h.1.1,
-)
-area_of_other A (Remap addr old new may hint) under other fits = (
-  λ holds. absurd (subst HoldsSomeArea (undecided (plain_reply (Remap addr old new may hint)) (under ≡ Whole) under fits holds).1
-      holds),
-  λ h. absurd h.1.1,
-)
 area_of_other A (Fault addr access) under other fits = (
-  λ holds. absurd (reads_no_area (page_of addr) under
-      (undecided (plain_reply (Fault addr access)) (ReadsPage (page_of addr) under) under fits holds).1 holds),
+  λ holds. absurd (reads_no_area (page_of addr) under (undecided (plain_reply (Fault addr access)) (ReadsPage (page_of addr) under) under fits holds).1 holds),
+  λ h. absurd h.1.1,
+)
+area_of_other A call under other fits = (
+  λ holds. absurd (subst HoldsSomeArea (undecided (plain_reply call) (under ≡ Whole) under fits holds).1 holds),
   λ h. absurd h.1.1,
 )
 
--- the answer of such a call
-pub other_answer : (before : CallerView) (l : Line) (answer : Answer) (after : CallerView) → (IsProtect l.call → ⊥)
-    → IsAnswered before l.line l.call answer after → IsLineAnswer before l answer after
-other_answer before l (Given e) after other is =
-    let num = is.1.numbered in (
-      is.0,
-      record {
-        called = is.1;
-        alone = λ _. record {
-          fits = num.right.fits;
-          area = area_of_other num.state e.call e.under (subst (λ (c : Call). IsProtect c → ⊥) (sym is.1.call_is) other)
-              num.right.fits;
-        };
-      },
-    )
-other_answer before l Spent after other is = is
-
--- its entry
-pub other_entry : (before : CallerView) (l : Line) (e : Entry) (after : CallerView) → (IsProtect l.call → ⊥)
-    → IsAnswered before l.line l.call (Given e) after → IsPlayedAs before l e after
-other_entry before l e after other is = (other_answer before l (Given e) after other is).1
-
-area_of_protect : (A : List Area) (addr len : ℕ) (prot : Prot) (call : Call) (under : Under) → call ≡ Protect addr len prot
-    → FitsUnder A call under → (plain_reply (Protect addr len prot) ≡ None
-    → HoldsSomeArea under ↔ IsSimple A (Protect addr len prot))
+area_of_protect : (A : List Area) (addr len : ℕ) (prot : Prot) {call : Call} (under : Under) → call ≡ Protect addr len prot → FitsUnder A call under
+    → (plain_reply (Protect addr len prot) ≡ None → HoldsSomeArea under ↔ IsSimple A (Protect addr len prot))
     → HoldsSomeArea under ↔ ((plain_reply call ≡ None) × IsSimple A call)
-area_of_protect A addr len prot call under is fits exact = subst (λ (c : Call). HoldsSomeArea under ↔ ((plain_reply c ≡ None) × IsSimple A c)) (sym is) (
+area_of_protect A addr len prot under is fits exact = subst (λ (c : Call). HoldsSomeArea under ↔ ((plain_reply c ≡ None) × IsSimple A c)) (sym is) (
   λ holds. let none = (undecided (plain_reply (Protect addr len prot)) (FitsByState A (Protect addr len prot) under) under
       (subst (λ (c : Call). FitsUnder A c under) is fits) holds).0 in (none, (exact none).0 holds),
   λ h. (exact h.0).1 h.1,
 )
 
 -- the entry of a change of protection
-protect_entry : (before : CallerView) (line addr len : ℕ) (prot : Prot) (e : Entry) (path : Path) (after : CallerView)
-    → IsProtected before line addr len prot e path after
-    → IsPlayedAs before (record { line = line; call = Protect addr len prot }) e after
-protect_entry before line addr len prot e path after p =
+protect_entry : {before : CallerView} {line addr len : ℕ} {prot : Prot} {e : Entry} {path : Path} {after : CallerView}
+    → IsProtected before line addr len prot e path after → IsPlayedAs before (record { line = line; call = Protect addr len prot }) e after
+protect_entry {before} {line} {addr} {len} {prot} {e} {path} {after} p =
     let num = p.called.numbered in
     record {
       called = p.called;
       alone = λ lone. record {
         fits = num.right.fits;
-        area = area_of_protect num.state addr len prot e.call e.under p.called.call_is num.right.fits
+        area = area_of_protect num.state addr len prot e.under p.called.call_is num.right.fits
             (λ none. lone_holds_area before after line addr len prot e path p none lone);
       };
     }
 
 -- the same, of the whole call
-protect_call : (before : CallerView) (line : ℕ) (call : Call) (e : Entry) (path : Path) (after : CallerView)
-    → IsAnswerTo before line call (Way e path) after
+protect_call : {before : CallerView} (line : ℕ) (call : Call) {e : Entry} (path : Path) {after : CallerView} → IsAnswerTo before line call (Way e path) after
     → (0 < before.left) × IsPlayedAs before (record { line = line; call = call }) e after
-protect_call before line (Protect addr len prot) e path after answer = (answer.0, protect_entry before line addr len prot e path after answer.1)
-protect_call before line call e path after answer = absurd answer
+protect_call line (Protect addr len prot) path answer = (answer.0, protect_entry answer.1)
+protect_call line call path answer = absurd answer
 
 -- the answer of a line that changes protection, where it has an entry
 pub protect_answer : (before : CallerView) (l : Line) (e : Entry) (path : Path) (after : CallerView)
     → IsAnswerTo before l.line l.call (Way e path) after → IsLineAnswer before l (Given e) after
-protect_answer before l e path after answer = protect_call before l.line l.call e path after answer
+protect_answer before l e path after answer = protect_call l.line l.call path answer
 
 spent_call : (before : CallerView) (line : ℕ) (call : Call) (after : CallerView) → IsAnswerTo before line call NoneLeft after
     → (before.left ≡ 0) × (after ≡ before)
 spent_call before line (Protect addr len prot) after answer = answer
 spent_call before line call after answer = absurd answer
-
--- the answer of such a line where the caller has no number left
-pub protect_spent : (before : CallerView) (l : Line) (after : CallerView) → IsAnswerTo before l.line l.call NoneLeft after
-    → IsLineAnswer before l Spent after
-protect_spent before l after answer = spent_call before l.line l.call after answer

@@ -1,5 +1,5 @@
 -- From what each worker's caller has, and the history that the closing gives, to the entries being collected.
-use Rattle.std.proofs.Common.{◌≡◌, ℕ, eqb, ◌≤◌, ◌+◌, List, [], ◌∷◌, ◌++◌, length, sym, refl, ap, ◌∙◌, subst, arith, eq-eqb}
+use Rattle.std.proofs.Common.{◌≡◌, ℕ, eqb, ◌≤◌, ◌+◌, List, [], ◌∷◌, ◌++◌, length, sym, refl, ap, ◌∙◌, subst, arith}
 use Rattle.std.proofs.lemmas.List.{length-map}
 use Rattle.std.specs.Prelude.{true, false, cond}
 use Rattle.lock_core.proofs.ByPlace.{below, there}
@@ -12,6 +12,7 @@ use Rattle.area_rows.specs.Callers.{CallerView, IsWhole}
 use Rattle.trace_threads.specs.declared.worker.Line.{Line}
 use Rattle.trace_threads.specs.Workers.{AreEntriesOf, Rise}
 use Rattle.trace_threads.specs.Collected.{OwnEntriesAreCollected, PlaysAreMade, caller_of}
+use Rattle.trace_threads.proofs.Lone.{own_some}
 
 -- numbers that rise from a number on rise from a lower one on
 rise_from : (lo low : ℕ) (es : List Entry) (hi : ℕ) → low ≤ lo → Rise lo es hi → Rise low es hi
@@ -28,17 +29,13 @@ own_rise worker n (e ∷ es) is =
     let first : n ≤ e.number = (let same = is.0 in omega arith) in
     elim (eqb e.worker worker) as (λ b. Rise n (cond b (e ∷ entries_of worker es) (entries_of worker es)) (n + length (e ∷ es))) [
       | true ↦ (first, subst (λ k. Rise k (entries_of worker es) (n + length (e ∷ es))) (sym next) rest)
-      | false ↦
-          rise_from (n + 1) n (entries_of worker es) (n + length (e ∷ es)) (omega arith) rest
+      | false ↦ rise_from (n + 1) n (entries_of worker es) (n + length (e ∷ es)) (omega arith) rest
     ]
 
 -- where no worker has an entry there is none
 no_entry : (es : List Entry) → ((k : ℕ) → entries_of k es ≡ []) → es ≡ []
 no_entry [] none = refl
-no_entry (e ∷ es) none =
-    let here : e ∷ entries_of e.worker es ≡ [] = subst (λ b. cond b (e ∷ entries_of e.worker es) (entries_of e.worker es) ≡ [])
-    (eq-eqb e.worker e.worker refl) (none e.worker) in
-    absurd (let n = ap length here in omega arith)
+no_entry (e ∷ es) none = absurd (own_some e es (none e.worker))
 
 -- the history of a closing is numbered from 0
 numbered : (callers : List CallerView) (entries : List Entry) (areas : List Area) → IsWhole callers entries areas → IsNumberedFrom 0 entries
@@ -48,12 +45,10 @@ numbered (c ∷ cs) entries areas whole = (whole.runs 0 c refl).0
 -- callers that have just the entries of their lines have what the closing collects
 pub collected : OwnEntriesAreCollected
 collected workers callers entries areas made whole =
-    let count = made.count in
-    let all = numbered callers entries areas whole in
+    let count = made.count in let all = numbered callers entries areas whole in
     record {
       lines = λ k ls at.
-          let lt = below workers k ls at in
-          let c = there callers k (omega arith) in
+          let lt = below workers k ls at in let c = there callers k (omega arith) in
           subst (λ es. AreEntriesOf k ls es) (sym (whole.mine k c.0 c.1)) (made.each k ls c.0 at c.1);
       no_other = λ k le. whole.no_other k (omega arith);
       numbered = all;
@@ -64,15 +59,12 @@ collected workers callers entries areas made whole =
 -- workers that had no entry before have, when they have played, just the entries of their lines
 pub made : PlaysAreMade
 made lines before after fresh played =
-    let count = fresh.count in
-    let same = played.count in
+    let count = fresh.count in let same = played.count in
     record {
       count = length-map after caller_of ∙ (same ∙ count);
       each = λ k ls c at_ls at_c.
-          let b = from_map caller_of after k c at_c in
-          let lt = below lines k ls at_ls in
-          let a = there before k (omega arith) in
-          let f = fresh.each k ls a.0 at_ls a.1 in
+          let b = from_map caller_of after k c at_c in let lt = below lines k ls at_ls in
+          let a = there before k (omega arith) in let f = fresh.each k ls a.0 at_ls a.1 in
           let d = (played.each k a.0 b.0 a.1 b.1).played in
           let mine : c.seat.pass.mine ≡ d.entries = ap (λ (x : CallerView). x.seat.pass.mine) (sym b.2) ∙ (d.mine ∙ ap (λ l. l ++ d.entries) f.2) in
           subst (λ es. AreEntriesOf k ls es) (sym mine) (subst (λ (z : ℕ × List Line). AreEntriesOf z.0 z.1 d.entries) (λ i. (f.1 i, f.0 i)) d.theirs);

@@ -26,20 +26,6 @@ use Rattle.trace_threads.proofs.Collecting.{made, collected}
 
 -- ---- one worker after another
 
--- the first caller gets the first list, and the rest is as ready
-pub first_hired : (cs : List CallerView) (lists : List (Vec Line Global)) (c : CallerView) (list : Vec Line Global)
-    → AreReady cs (map vec_items lists) → 0 < length cs → c ≡ get_or cs 0 c → list ≡ get_or lists 0 list
-    → MayPlay c (vec_items list) × AreReady (remove cs 0) (map vec_items (remove lists 0))
-    × (hired cs (map vec_items lists) ≡ record { caller = c; lines = vec_items list } ∷ hired (remove cs 0)
-    (map vec_items (remove lists 0)))
-first_hired [] lists c list ready more is_c is_list = absurd (omega arith)
-first_hired (d ∷ cs) [] c list ready more is_c is_list = absurd ready
-first_hired (d ∷ cs) (other ∷ lists) c list ready more is_c is_list = (
-  subst (λ (z : CallerView × Vec Line Global). MayPlay z.0 (vec_items z.1)) (λ i. (sym is_c i, sym is_list i)) ready.0,
-  ready.1,
-  λ i. record { caller = sym is_c i; lines = vec_items (sym is_list i) } ∷ hired cs (map vec_items lists),
-)
-
 -- there is a list for each caller
 pub as_many : (cs : List CallerView) (lists : List (List Line)) → AreReady cs lists → length lists ≡ length cs
 as_many [] [] ready = refl
@@ -50,8 +36,7 @@ as_many (c ∷ cs) (ls ∷ lists) ready = ap suc (as_many cs lists ready.1)
 -- ---- callers of a new space
 
 ready_by_place : (cs : List CallerView) (lists : List (List Line)) → length cs ≡ length lists
-    → ((k : ℕ) (c : CallerView) (ls : List Line) → get_elem? cs k ≡ some c → get_elem? lists k ≡ some ls → MayPlay c ls)
-    → AreReady cs lists
+    → ((k : ℕ) (c : CallerView) (ls : List Line) → get_elem? cs k ≡ some c → get_elem? lists k ≡ some ls → MayPlay c ls) → AreReady cs lists
 ready_by_place [] [] same each = tt
 ready_by_place [] (ls ∷ lists) same each = absurd (omega arith)
 ready_by_place (c ∷ cs) [] same each = absurd (omega arith)
@@ -63,10 +48,10 @@ all_at P l k a all at = subst P (at_or l k a a at) (all k a (below l k a at))
 
 -- new callers that were opened for as many calls as their lists have lines may be given them, however many lists the
 -- lock has
-pub new_ready : (several : ℕ) (table : TableId) (start : List Area) (calls : List ℕ) (lists : List (List Line)) (cs : List CallerView)
-    → calls ≡ map length lists → length cs ≡ length lists → AreNewCallersIn several table start calls cs
-    → All (λ ls. All (λ l. IsNamedCall l.call) ls) lists → AreReady cs lists
-new_ready several table start calls lists cs is same new named = ready_by_place cs lists same (λ k c ls at_c at_ls.
+pub new_ready : (several : ℕ) (table : TableId) (start : List Area) {calls : List ℕ} (lists : List (List Line)) (cs : List CallerView)
+    → calls ≡ map length lists → length cs ≡ length lists → AreNewCallersIn several table start calls cs → All (λ ls. All (λ l. IsNamedCall l.call) ls) lists
+    → AreReady cs lists
+new_ready several table start lists cs is same new named = ready_by_place cs lists same (λ k c ls at_c at_ls.
     let e = new k c at_c in
     let left : c.left ≡ length ls = ap (λ (x : CallerView). x.left) e
     ∙ (ap (λ l. slice_index l k) is ∙ at_or (map length lists) k (length ls) 0 (at_map length lists k ls at_ls)) in
@@ -94,17 +79,16 @@ length_hired (c ∷ cs) [] same = absurd (omega arith)
 length_hired (c ∷ cs) (ls ∷ lists) same = ap suc (length_hired cs lists (omega arith))
 
 -- workers made of a new space's callers are new workers with these lists of lines
-pub new_workers : (several : ℕ) (table : TableId) (start : List Area) (calls : List ℕ) (lists : List (List Line)) (cs : List CallerView)
-    (workers : List WorkerView) → workers ≡ hired cs lists → length cs ≡ length lists → 0 < length cs
-    → AreNewCallersIn several table start calls cs → AreNewWorkers table start lists workers
-new_workers several table start calls lists cs workers is same some_there new =
+pub new_workers : (several : ℕ) {table : TableId} {start : List Area} (calls : List ℕ) (lists : List (List Line)) (cs : List CallerView)
+    (workers : List WorkerView) → workers ≡ hired cs lists → length cs ≡ length lists → 0 < length cs → AreNewCallersIn several table start calls cs
+    → AreNewWorkers table start lists workers
+new_workers several calls lists cs workers is same some_there new =
     let count : length workers ≡ length lists = ap length is ∙ length_hired cs lists same in
     record {
       count = count;
       any = omega arith;
       each = λ k ls w at_ls at_w.
-          let h = hired_at cs lists k w (subst (λ ws. get_elem? ws k ≡ some w) is at_w) in
-          let e = new k w.caller h.0 in
+          let h = hired_at cs lists k w (subst (λ ws. get_elem? ws k ≡ some w) is at_w) in let e = new k w.caller h.0 in
           record {
             lines = some-injective w.lines ls (sym h.1 ∙ at_ls);
             table_is = ap (λ (x : CallerView). x.seat.table) e;
@@ -116,103 +100,73 @@ new_workers several table start calls lists cs workers is same some_there new =
           };
     }
 
--- the new worker of a place
-pub new_at : (table : TableId) (start : List Area) (lists : List (List Line)) (workers : List WorkerView) (k : ℕ) (w : WorkerView)
-    → AreNewWorkers table start lists workers → get_elem? workers k ≡ some w → (ls : List Line) × IsNewWorker table start k ls w
-new_at table start lists workers k w new at =
-    let lt = below workers k w at in
-    let count = new.count in
-    let ls = there lists k (omega arith) in
-    (ls.0, new.each k ls.0 w ls.1 at)
+-- what is so of new workers
+module _ {table : TableId} {start : List Area} {lists : List (List Line)} {workers : List WorkerView} (new : AreNewWorkers table start lists workers) where
+  -- the new worker of a place
+  pub new_at : {k : ℕ} {w : WorkerView} → get_elem? workers k ≡ some w → (ls : List Line) × IsNewWorker table start k ls w
+  new_at {k} {w} at = let lt = below workers k w at in let count = new.count in let ls = there lists k (omega arith) in (ls.0, new.each k ls.0 w ls.1 at)
 
--- new workers are all of the space's table
-pub of_table : (table : TableId) (start : List Area) (lists : List (List Line)) (workers : List WorkerView)
-    → AreNewWorkers table start lists workers → AreOfTable table workers
-of_table table start lists workers new k w at = (new_at table start lists workers k w new at).1.table_is
+  -- new workers are all of the space's table
+  pub of_table : AreOfTable table workers
+  of_table k w at = (new_at at).1.table_is
 
--- new workers have these lists, are numbered from 0, and have no entry yet
-pub fresh_new : (table : TableId) (start : List Area) (lists : List (List Line)) (workers : List WorkerView)
-    → AreNewWorkers table start lists workers → AreFresh lists workers
-fresh_new table start lists workers new = record {
-  count = new.count;
-  each = λ k ls w at_ls at_w. let n = new.each k ls w at_ls at_w in (n.lines, n.number, n.mine);
-}
+  -- new workers have these lists, are numbered from 0, and have no entry yet
+  pub fresh_new : AreFresh lists workers
+  fresh_new = record { count = new.count; each = λ k ls w at_ls at_w. let n = new.each k ls w at_ls at_w in (n.lines, n.number, n.mine) }
 
 -- ---- when they have played
 
--- what stays of the caller of a new worker's place
-pub before_at : (table : TableId) (start : List Area) (lists : List (List Line)) (before after : List WorkerView) (k : ℕ)
-    (c : CallerView) → AreNewWorkers table start lists before → HavePlayed before after
-    → get_elem? (map caller_of after) k ≡ some c
-    → (c.seat.table ≡ table) × (c.seat.number ≡ k) × (c.seat.held ≡ None) × (c.seat.pass.start ≡ start)
-before_at table start lists before after k c new played at =
-    let b = from_map caller_of after k c at in
-    let lt = below after k b.0 b.1 in
-    let same = played.count in
-    let a = there before k (omega arith) in
-    let n = (new_at table start lists before k a.0 new a.1).1 in
-    let p = (played.each k a.0 b.0 a.1 b.1).played in
-    subst (λ (x : CallerView). (x.seat.table ≡ table) × (x.seat.number ≡ k) × (x.seat.held ≡ None) × (x.seat.pass.start ≡ start))
-    b.2 (p.table ∙ n.table_is, p.number ∙ n.number, p.held ∙ n.held, p.start ∙ n.start_is)
+-- what is so of new workers that have played
+module _ {table : TableId} {start : List Area} {lists : List (List Line)} {before after : List WorkerView} (new : AreNewWorkers table start lists before)
+    (played : HavePlayed before after) where
+  -- what stays of the caller of a new worker's place
+  pub before_at : (k : ℕ) (c : CallerView) → get_elem? (map caller_of after) k ≡ some c
+      → (c.seat.table ≡ table) × (c.seat.number ≡ k) × (c.seat.held ≡ None) × (c.seat.pass.start ≡ start)
+  before_at k c at =
+      let b = from_map caller_of after k c at in let lt = below after k b.0 b.1 in let same = played.count in
+      let a = there before k (omega arith) in let n = (new_at new a.1).1 in
+      let p = (played.each k a.0 b.0 a.1 b.1).played in
+      subst (λ (x : CallerView). (x.seat.table ≡ table) × (x.seat.number ≡ k) × (x.seat.held ≡ None) × (x.seat.pass.start ≡ start))
+      b.2 (p.table ∙ n.table_is, p.number ∙ n.number, p.held ∙ n.held, p.start ∙ n.start_is)
 
--- the callers of new workers that have played may be closed
-pub played_idle : (table : TableId) (start : List Area) (lists : List (List Line)) (before after : List WorkerView)
-    → AreNewWorkers table start lists before → HavePlayed before after → AreIdle table (map caller_of after)
-played_idle table start lists before after new played k c at = let b = before_at table start lists before after k c new played at in (b.0, b.1, b.2)
+  -- the callers of new workers that have played may be closed
+  pub played_idle : AreIdle table (map caller_of after)
+  played_idle k c at = let b = before_at k c at in (b.0, b.1, b.2)
 
--- where one worker alone has entries, each of its calls held what it had to hold
-all_held : (table : TableId) (start : List Area) (lists : List (List Line)) (before after : List WorkerView)
-    (entries : List Entry) (areas : List Area) → AreNewWorkers table start lists before → HavePlayed before after
-    → IsWhole (map caller_of after) entries areas
-    → (worker : ℕ) → IsOnlyWorker worker entries → AllHeld start entries
-all_held table start lists before after entries areas new played whole worker alone =
-    let own = only_own worker entries alone in
-    ⊎_elim
-    (λ lt.
-    let c = there (map caller_of after) worker lt in
-    let b = from_map caller_of after worker c.0 c.1 in
-    let short = below after worker b.0 b.1 in
-    let same = played.count in
-    let a = there before worker (omega arith) in
-    let n = (new_at table start lists before worker a.0 new a.1).1 in
-    let d = (played.each worker a.0 b.0 a.1 b.1).played in
-    let mine : d.entries ≡ entries = ap (λ l. l ++ d.entries) (sym n.mine)
-    ∙ (sym d.mine ∙ (ap (λ (x : CallerView). x.seat.pass.mine) b.2 ∙ (sym (whole.mine worker c.0 c.1) ∙ own))) in
-    let began = (before_at table start lists before after worker c.0 new played c.1).3 in
-    let runs = subst (λ s. Runs 0 s entries areas) began (whole.runs worker c.0 c.1) in (
-      areas,
-      held_chain a.0.lines a.0.caller entries b.0.caller start [] start areas
-          (subst (λ es. Plays a.0.lines a.0.caller es b.0.caller) mine d.plays) n.seen n.start_is (tt, refl) runs.0 runs.1,
-    ))
-    (λ ge.
-    let none : entries ≡ [] = sym own ∙ whole.no_other worker ge in
-    (start, subst (λ es. Chains HeldAndReplies start es start) (sym none) refl))
-    (cases_lt worker (length (map caller_of after)))
+  -- where one worker alone has entries, each of its calls held what it had to hold
+  all_held : (entries : List Entry) (areas : List Area) → IsWhole (map caller_of after) entries areas → (worker : ℕ) → IsOnlyWorker worker entries
+      → AllHeld start entries
+  all_held entries areas whole worker alone =
+      let own = only_own worker entries alone in
+      ⊎_elim (λ lt.
+      let c = there (map caller_of after) worker lt in let b = from_map caller_of after worker c.0 c.1 in
+      let short = below after worker b.0 b.1 in let same = played.count in let a = there before worker (omega arith) in
+      let n = (new_at new a.1).1 in let d = (played.each worker a.0 b.0 a.1 b.1).played in
+      let mine : d.entries ≡ entries = ap (λ l. l ++ d.entries) (sym n.mine)
+      ∙ (sym d.mine ∙ (ap (λ (x : CallerView). x.seat.pass.mine) b.2 ∙ (sym (whole.mine worker c.0 c.1) ∙ own))) in
+      let began = (before_at worker c.0 c.1).3 in
+      let runs = subst (λ s. Runs 0 s entries areas) began (whole.runs worker c.0 c.1) in (
+        areas,
+        held_chain a.0.lines a.0.caller entries b.0.caller start areas (subst (λ es. Plays a.0.lines a.0.caller es b.0.caller) mine d.plays) n.seen n.start_is
+            (tt, refl) runs.0 runs.1,
+      )) (λ ge.
+      let none : entries ≡ [] = sym own ∙ whole.no_other worker ge in
+      (start, subst (λ es. Chains HeldAndReplies start es start) (sym none) refl)) (cases_lt worker (length (map caller_of after)))
 
--- what the closing gives after new workers have played is the trace of their lines
-pub all_played : (table : TableId) (start : List Area) (lists : List (List Line)) (before after : List WorkerView)
-    (entries : List Entry) (areas : List Area) → AreNewWorkers table start lists before → HavePlayed before after
-    → IsWhole (map caller_of after) entries areas → IsPlayed start lists entries areas
-all_played table start lists before after entries areas new played whole =
-    let callers = map caller_of after in
-    let long : length callers ≡ length before = length-map after caller_of ∙ played.count in
-    let more = new.any in
-    let c = there callers 0 (omega arith) in
-    let began = (before_at table start lists before after 0 c.0 new played c.1).3 in
-    record {
-      collected = collected lists callers entries areas (made lists before after (fresh_new table start lists before new) played) whole;
-      runs = subst (λ a. Runs 0 a entries areas) began (whole.runs 0 c.0 c.1);
-      calls = whole.calls;
-      replies = whole.replies;
-      in_order = whole.in_order;
-      named = whole.named;
-      alone = all_held table start lists before after entries areas new played whole;
-    }
+  -- what the closing gives after new workers have played is the trace of their lines
+  pub all_played : {entries : List Entry} {areas : List Area} → IsWhole (map caller_of after) entries areas → IsPlayed start lists entries areas
+  all_played {entries} {areas} whole =
+      let callers = map caller_of after in
+      let long : length callers ≡ length before = length-map after caller_of ∙ played.count in let more = new.any in
+      let c = there callers 0 (omega arith) in let began = (before_at 0 c.0 c.1).3 in
+      record {
+        collected = collected lists callers entries areas (made lists before after (fresh_new new) played) whole;
+        runs = subst (λ a. Runs 0 a entries areas) began (whole.runs 0 c.0 c.1);
+        calls = whole.calls;
+        replies = whole.replies;
+        in_order = whole.in_order;
+        named = whole.named;
+        alone = all_held entries areas whole;
+      }
 
 -- ---- refusals
-
--- why a space wasn't opened is why its trace wasn't played
-pub trace_fault : (lists rows : ℕ) (fault : SpaceFault) → IsSpaceFault lists rows fault → IsTraceFault lists rows fault
-trace_fault lists rows (Callers n) is = is
-trace_fault lists rows (Rows n) is = is
-trace_fault lists rows Memory is = tt

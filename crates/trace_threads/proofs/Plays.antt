@@ -1,12 +1,12 @@
 -- Lines played one after another: the first one, and then the rest.
-use Rattle.std.proofs.Common.{◌≡◌, ℕ, ◌<◌, ◌≤◌, ◌+◌, List, [], ◌∷◌, ◌++◌, get_or, length, sym, refl, ap, ◌∙◌, subst}
-use Rattle.std.proofs.Common.{arith, append-nil, append_assoc, length-append}
+use Rattle.std.proofs.Common.{◌≡◌, ℕ, ◌<◌, ◌+◌, List, [], ◌∷◌, ◌++◌, get_or, length, sym, refl, ap, ◌∙◌, subst, arith, append-nil, append_assoc, length-append}
 use mathlib.Core.Option.{some}
 use lib.ListN.{get_elem?}
 use Rattle.lock_core.proofs.ByPlace.{below, at_or}
 use Rattle.space_model.specs.declared.entries.Entry.{Entry}
 use Rattle.area_rows.specs.History.{StartsWith}
 use Rattle.area_rows.specs.Callers.{CallerView}
+use Rattle.area_protect.proofs.Looking.{begins_on, longer as no_shorter}
 use Rattle.trace_threads.specs.declared.worker.Line.{Line}
 use Rattle.trace_threads.specs.Workers.{WorkerView, AreEntriesOf, Rise, IsPlayedAs, HasPlayed, HasDone, HavePlayed}
 
@@ -29,24 +29,11 @@ played_none_by c = (
   refl,
 )
 
--- the same without its entries
-pub played_none : (c : CallerView) → HasPlayed [] c c
-played_none c = (played_none_by c).0
-
--- who has seen more than more has seen more
-starts_on : (a b c : List Entry) → StartsWith b a → StartsWith c b → StartsWith c a
-starts_on a b c p q = (p.0 ++ q.0, q.1 ∙ (ap (λ l. l ++ q.0) p.1 ∙ append_assoc a p.0 q.0))
-
--- a list is at least as long as one that it begins with
-no_shorter : (a b : List Entry) → StartsWith b a → length a ≤ length b
-no_shorter a b p = let n : length b ≡ length a + length p.0 = ap length p.1 ∙ length-append a p.0 in omega arith
-
 -- a line is played, and then the rest; its entry is in front of the others
-pub played_more_by : (l : Line) (ls : List Line) (a b c : CallerView) (e : Entry) → IsPlayedAs a l e b → (h : HasPlayed ls b c)
+pub played_more_by : {l : Line} (ls : List Line) {a b : CallerView} (c : CallerView) {e : Entry} → IsPlayedAs a l e b → (h : HasPlayed ls b c)
     → (m : HasPlayed (l ∷ ls) a c) × (m.entries ≡ e ∷ h.entries)
-played_more_by l ls a b c e p h =
-    let n = p.called.numbered in
-    let seen_by : StartsWith b.seat.pass.seen n.history = (e ∷ [], n.seen) in
+played_more_by ls {a} {b} c {e} p h =
+    let n = p.called.numbered in let seen_by : StartsWith b.seat.pass.seen n.history = (e ∷ [], n.seen) in
     let longer : length b.seat.pass.seen ≡ length n.history + 1 = ap length n.seen ∙ length-append n.history (e ∷ []) in
     let next : e.number + 1 ≡ length b.seat.pass.seen = (let count = n.counted in omega arith) in
     let first = no_shorter a.seat.pass.seen n.history n.more in (
@@ -59,7 +46,7 @@ played_more_by l ls a b c e p h =
         );
         rise = ((let count = n.counted in omega arith), subst (λ k. Rise k h.entries (length c.seat.pass.seen)) (sym next) h.rise);
         mine = h.mine ∙ (ap (λ m. m ++ h.entries) n.mine ∙ append_assoc a.seat.pass.mine (e ∷ []) h.entries);
-        seen = starts_on a.seat.pass.seen n.history c.seat.pass.seen n.more (starts_on n.history b.seat.pass.seen c.seat.pass.seen seen_by h.seen);
+        seen = begins_on a.seat.pass.seen n.history c.seat.pass.seen n.more (begins_on n.history b.seat.pass.seen c.seat.pass.seen seen_by h.seen);
         left = (let one = p.called.left in let rest = h.left in omega arith);
         start = h.start ∙ n.start;
         table = h.table ∙ n.table;
@@ -69,22 +56,16 @@ played_more_by l ls a b c e p h =
       refl,
     )
 
--- the same without its entries
-pub played_more : (l : Line) (ls : List Line) (a b c : CallerView) (e : Entry) → IsPlayedAs a l e b → HasPlayed ls b c → HasPlayed (l ∷ ls) a c
-played_more l ls a b c e p h = (played_more_by l ls a b c e p h).0
-
 -- what calls did to the elements of a list, each by its place
 pub by_place : {A : Type 0} (R : A → A → Type 0) (old new : List A)
     → ((k : ℕ) (d : A) → k < length old → (a : A) × (b : A) × (a ≡ get_or old k d) × R a b × (b ≡ get_or new k d))
     → (k : ℕ) (a b : A) → get_elem? old k ≡ some a → get_elem? new k ≡ some b → R a b
 by_place {A} R old new each k a b at_a at_b =
-    let e = each k a (below old k a at_a) in
-    let was : e.0 ≡ a = e.2 ∙ at_or old k a a at_a in
-    let now : e.1 ≡ b = e.4 ∙ at_or new k b a at_b in
-    subst (λ (z : A × A). R z.0 z.1) (λ i. (was i, now i)) e.3
+    let e = each k a (below old k a at_a) in let was : e.0 ≡ a = e.2 ∙ at_or old k a a at_a in
+    let now : e.1 ≡ b = e.4 ∙ at_or new k b a at_b in subst (λ (z : A × A). R z.0 z.1) (λ i. (was i, now i)) e.3
 
 -- the workers by place, as their calls left them
 pub have_played : (old new : List WorkerView) → length new ≡ length old
-    → ((k : ℕ) (d : WorkerView) → k < length old → (a : WorkerView) × (b : WorkerView) × (a ≡ get_or old k d) × HasDone a b
-    × (b ≡ get_or new k d)) → HavePlayed old new
+    → ((k : ℕ) (d : WorkerView) → k < length old → (a : WorkerView) × (b : WorkerView) × (a ≡ get_or old k d) × HasDone a b × (b ≡ get_or new k d))
+    → HavePlayed old new
 have_played old new same each = record { count = same; each = by_place HasDone old new each }

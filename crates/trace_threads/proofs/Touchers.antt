@@ -1,7 +1,7 @@
 -- Lines played and pages touched, one after another; workers with their seats; and the pages of all entries from those
 -- of each worker's.
-use Rattle.std.proofs.Common.{◌≡◌, ℕ, zero, suc, ◌+◌, ◌<◌, ◌≤◌, Bool, eqb, List, [], ◌∷◌, ◌++◌, length, map, drop, get_or, sum, sum_by, cond, refl, sym, ap, ◌∙◌, subst, arith, ⊎_elim}
-use Rattle.std.proofs.Common.{append-nil, append_assoc, eq-eqb}
+use Rattle.std.proofs.Common.{◌≡◌, ℕ, zero, suc, ◌+◌, ◌<◌, ◌≤◌, Bool, eqb, List, [], ◌∷◌, ◌++◌, length, map, drop, get_or, sum, sum_by, cond, refl, sym, ap}
+use Rattle.std.proofs.Common.{◌∙◌, subst, arith, ⊎_elim, append-nil, append_assoc, eq-eqb}
 use Rattle.std.proofs.lemmas.Bool.{cases_lt}
 use Rattle.std.proofs.lemmas.List.{drop_more, get_or-drop, length-append, length-drop, length-map}
 use Rattle.std.proofs.lemmas.List.Elements.{Contains-append_left, Contains-append_right, Contains-append_cases}
@@ -28,7 +28,8 @@ use Rattle.trace_threads.specs.declared.worker.Line.{Line}
 use Rattle.trace_threads.specs.Workers.{WorkerView, AreEntriesOf, IsPlayedAs, HasDone, HavePlayed}
 use Rattle.trace_threads.specs.Collected.{IsPlayed, caller_of}
 use Rattle.trace_threads.specs.Hiring.{AreNewWorkers}
-use Rattle.trace_threads.specs.Touching.{ToucherView, AreTouchersOf, HasTouched, HaveTouched, AreTouchedPages, granted_page, granted_pages, page_by, fault_in, fault_count, line_faults}
+use Rattle.trace_threads.specs.Touching.{ToucherView, AreTouchersOf, HasTouched, HaveTouched, AreTouchedPages, granted_page, granted_pages, page_by, fault_in}
+use Rattle.trace_threads.specs.Touching.{fault_count, line_faults}
 use Rattle.trace_threads.specs.Stages.{HasTouchedPage, HasTouchedLines, MaySit, seated, toucher_worker, toucher_seat, toucher_caller, worker_faults}
 use Rattle.trace_threads.proofs.Plays.{played_none_by, played_more_by, by_place}
 use Rattle.trace_threads.proofs.Hirings.{of_table, new_at, played_idle, all_played}
@@ -51,19 +52,13 @@ entry_few e l is = subst (λ c. length (granted_page e) ≤ fault_in c) is (few_
 pub touched_none : (c : CallerView) (s : TouchView) → HasTouchedLines [] c c s s
 touched_none c s =
     let p = played_none_by c in
-    record {
-      played = p.0;
-      table = refl;
-      quota = refl;
-      touched = sym (append-nil s.touched) ∙ ap (λ es. s.touched ++ granted_pages es) (sym p.1);
-    }
+    record { played = p.0; table = refl; quota = refl; touched = sym (append-nil s.touched) ∙ ap (λ es. s.touched ++ granted_pages es) (sym p.1) }
 
 -- a line is played and its page touched, and then the rest
-pub touched_more : (l : Line) (ls : List Line) (a b c : CallerView) (e : Entry) (s t u : TouchView) → IsPlayedAs a l e b
-    → HasTouchedPage e s t → HasTouchedLines ls b c t u → HasTouchedLines (l ∷ ls) a c s u
-touched_more l ls a b c e s t u played one rest =
-    let p = played_more_by l ls a b c e played rest.played in
-    let pages = granted_pages rest.played.entries in
+pub touched_more : {l : Line} {ls : List Line} {a b c : CallerView} {e : Entry} {s t u : TouchView} → IsPlayedAs a l e b → HasTouchedPage e s t
+    → HasTouchedLines ls b c t u → HasTouchedLines (l ∷ ls) a c s u
+touched_more {l} {ls} {c} {e} {s} played one rest =
+    let p = played_more_by ls c played rest.played in let pages = granted_pages rest.played.entries in
     record {
       played = p.0;
       table = rest.table ∙ one.table;
@@ -74,27 +69,25 @@ touched_more l ls a b c e s t u played one rest =
 
 module _ (lines : List Line) (i : ℕ) (lt : i < length lines) where
   -- when a number is used for a line, there are enough for those behind it
-  pub left_on : (left rest : ℕ) → length (drop i lines) ≤ left → rest + 1 ≡ left → length (drop (i + 1) lines) ≤ rest
-  left_on left rest enough used = let a = length-drop i lines in let b = length-drop (i + 1) lines in omega arith
+  pub left_on : {left : ℕ} (rest : ℕ) → length (drop i lines) ≤ left → rest + 1 ≡ left → length (drop (i + 1) lines) ≤ rest
+  left_on rest enough used = let a = length-drop i lines in let b = length-drop (i + 1) lines in omega arith
 
   -- what holds of the lines from one on holds of those behind it
   pub all_on : (P : Line → Type 0) → All P (drop i lines) → All P (drop (i + 1) lines)
   all_on P all k d low =
-      let a = length-drop i lines in
-      let b = length-drop (i + 1) lines in
+      let a = length-drop i lines in let b = length-drop (i + 1) lines in
       let same : i + (k + 1) ≡ i + 1 + k = omega arith in
       subst P (get_or-drop i lines (k + 1) d ∙ (ap (λ n. get_or lines n d) same ∙ sym (get_or-drop (i + 1) lines k d))) (all (k + 1) d (omega arith))
 
   -- when the page of a line's entry was touched, the seat may touch those of the lines behind it
-  pub may_on : (d : Line) (e : Entry) (s t : TouchView) → e.call ≡ (get_or lines i d).call → HasTouchedPage e s t
+  pub may_on : (d : Line) {e : Entry} {s t : TouchView} → e.call ≡ (get_or lines i d).call → HasTouchedPage e s t
       → fault_count (drop i lines) + length s.touched ≤ s.quota → fault_count (drop (i + 1) lines) + length t.touched ≤ t.quota
-  may_on d e s t is one may =
+  may_on d {e} {s} {t} is one may =
       let next = ap fault_count (drop_more lines i d lt) in
       let c = sum_by-cons line_faults (get_or lines i d) (drop (i + 1) lines) in
       let few = entry_few e (get_or lines i d) is in
       let long : length t.touched ≡ length s.touched + length (granted_page e) = ap length one.touched ∙ length-append s.touched (granted_page e) in
-      let quota = one.quota in
-      omega arith
+      let quota = one.quota in omega arith
 
 -- the entries of lines have no more pages than the lines have faults
 pages_within : (worker : ℕ) (ls : List Line) (es : List Entry) → AreEntriesOf worker ls es → length (granted_pages es) ≤ fault_count ls
@@ -102,31 +95,25 @@ pages_within worker [] [] are = omega arith
 pages_within worker [] (e ∷ es) are = absurd are
 pages_within worker (l ∷ ls) [] are = absurd are
 pages_within worker (l ∷ ls) (e ∷ es) are =
-    let one = entry_few e l are.0.call_is in
-    let rest = pages_within worker ls es are.1 in
-    let long = length-append (granted_page e) (granted_pages es) in
-    let c = sum_by-cons line_faults l ls in
-    omega arith
+    let one = entry_few e l are.0.call_is in let rest = pages_within worker ls es are.1 in
+    let long = length-append (granted_page e) (granted_pages es) in let c = sum_by-cons line_faults l ls in omega arith
 
 -- when the lines are played, the seat is within its quota with no line left
-pub stays_within : (ls now left : List Line) (caller after : CallerView) (seat next : TouchView) (w : WorkerView)
-    → record { caller = caller; lines = ls } ≡ w → fault_count w.lines + length seat.touched ≤ seat.quota
-    → HasTouchedLines now caller after seat next → now ≡ ls → left ≡ [] → fault_count left + length next.touched ≤ next.quota
-stays_within ls now left caller after seat next w is_w may h same none =
+pub stays_within : {ls now left : List Line} {caller after : CallerView} {seat next : TouchView} {w : WorkerView} → record { caller = caller; lines = ls } ≡ w
+    → fault_count w.lines + length seat.touched ≤ seat.quota → HasTouchedLines now caller after seat next → now ≡ ls → left ≡ []
+    → fault_count left + length next.touched ≤ next.quota
+stays_within {now} {left} {caller} {seat} {next} {w} is_w may h same none =
     let few = pages_within caller.seat.number now h.played.entries h.played.theirs in
     let lines : fault_count now ≡ fault_count w.lines = ap fault_count same ∙ ap (λ (v : WorkerView). fault_count v.lines) is_w in
     let zero_left : fault_count left ≡ 0 = ap fault_count none in
     let long : length next.touched ≡ length seat.touched + length (granted_pages h.played.entries) = ap length h.touched
-    ∙ length-append seat.touched (granted_pages h.played.entries) in
-    let quota = h.quota in
-    omega arith
+    ∙ length-append seat.touched (granted_pages h.played.entries) in let quota = h.quota in omega arith
 
 -- a worker whose lines were played, and whose seat touched their pages
-pub touch_done : (ls now left : List Line) (caller after : CallerView) (seat next : TouchView) (w : WorkerView) (before : ToucherView)
-    → record { caller = caller; lines = ls } ≡ w → record { worker = w; seat = seat } ≡ before
-    → HasTouchedLines now caller after seat next → now ≡ ls → left ≡ []
-    → HasTouched before (record { worker = record { caller = after; lines = left }; seat = next })
-touch_done ls now left caller after seat next w before is_w is_before h same none =
+pub touch_done : {ls now left : List Line} {caller after : CallerView} {seat next : TouchView} {w : WorkerView} {before : ToucherView}
+    → record { caller = caller; lines = ls } ≡ w → record { worker = w; seat = seat } ≡ before → HasTouchedLines now caller after seat next → now ≡ ls
+    → left ≡ [] → HasTouched before (record { worker = record { caller = after; lines = left }; seat = next })
+touch_done {left} {caller} {after} {seat} {next} is_w is_before h same none =
     let t = subst (λ l. HasTouchedLines l caller after seat next) same h in
     let end : ToucherView = record { worker = record { caller = after; lines = left }; seat = next } in
     subst (λ b. HasTouched b end) is_before (subst (λ v. HasTouched (record { worker = v; seat = seat }) end) is_w (record {
@@ -138,24 +125,11 @@ touch_done ls now left caller after seat next w before is_w is_before h same non
 
 -- the workers by place, as their calls left them
 pub have_touched : (old new : List ToucherView) → length new ≡ length old
-    → ((k : ℕ) (d : ToucherView) → k < length old → (a : ToucherView) × (b : ToucherView) × (a ≡ get_or old k d)
-    × HasTouched a b × (b ≡ get_or new k d)) → HaveTouched old new
+    → ((k : ℕ) (d : ToucherView) → k < length old → (a : ToucherView) × (b : ToucherView) × (a ≡ get_or old k d) × HasTouched a b × (b ≡ get_or new k d))
+    → HaveTouched old new
 have_touched old new same each = record { count = same; each = by_place HasTouched old new each }
 
 -- ---- workers and seats
-
--- the first worker gets the first seat, and the rest may sit as well
-pub first_seated : (ws : List WorkerView) (ss : List TouchView) (w : WorkerView) (s : TouchView) → MaySit ws ss → 0 < length ws
-    → w ≡ get_or ws 0 w → s ≡ get_or ss 0 s
-    → (fault_count w.lines + length s.touched ≤ s.quota) × MaySit (remove ws 0) (remove ss 0)
-    × (seated ws ss ≡ record { worker = w; seat = s } ∷ seated (remove ws 0) (remove ss 0))
-first_seated [] ss w s may more is_w is_s = absurd (omega arith)
-first_seated (v ∷ ws) [] w s may more is_w is_s = absurd may
-first_seated (v ∷ ws) (t ∷ ss) w s may more is_w is_s = (
-  subst (λ (z : WorkerView × TouchView). fault_count z.0.lines + length z.1.touched ≤ z.1.quota) (λ i. (sym is_w i, sym is_s i)) may.0,
-  may.1,
-  λ i. record { worker = sym is_w i; seat = sym is_s i } ∷ seated ws ss,
-)
 
 -- there is a seat for each worker
 pub as_many_seats : (ws : List WorkerView) (ss : List TouchView) → MaySit ws ss → length ss ≡ length ws
@@ -196,13 +170,11 @@ toucher_callers [] = refl
 toucher_callers (t ∷ ts) = ap (λ l. t.worker.caller ∷ l) (toucher_callers ts)
 
 -- workers that have touched have played
-pub touchers_played : (before after : List ToucherView) → HaveTouched before after
-    → HavePlayed (map toucher_worker before) (map toucher_worker after)
-touchers_played before after touched = record {
+pub touchers_played : {before after : List ToucherView} → HaveTouched before after → HavePlayed (map toucher_worker before) (map toucher_worker after)
+touchers_played {before} {after} touched = record {
   count = length-map after toucher_worker ∙ (touched.count ∙ sym (length-map before toucher_worker));
   each = λ k a b at_a at_b.
-      let x = from_map toucher_worker before k a at_a in
-      let y = from_map toucher_worker after k b at_b in
+      let x = from_map toucher_worker before k a at_a in let y = from_map toucher_worker after k b at_b in
       subst (λ (z : WorkerView × WorkerView). HasDone z.0 z.1) (λ i. (x.2 i, y.2 i)) (touched.each k x.0 y.0 x.1 y.1).done;
 }
 
@@ -211,78 +183,50 @@ touchers_played before after touched = record {
 -- no more lines are faults than there are
 pub faults_few : (ls : List Line) → fault_count ls ≤ length ls
 faults_few [] = omega arith
-faults_few (l ∷ ls) =
-    let one : line_faults l ≤ 1 = by l.call in
-    let rest = faults_few ls in
-    let c = sum_by-cons line_faults l ls in
-    omega arith
+faults_few (l ∷ ls) = let one : line_faults l ≤ 1 = by l.call in let rest = faults_few ls in let c = sum_by-cons line_faults l ls in omega arith
   where
     by : (c : Call) → fault_in c ≤ 1
     by (Fault addr access) = omega arith
     by c = omega arith
 
 -- the workers of a new space have the faults of their lists
-pub new_faults : (table : TableId) (start : List Area) (lists : List (List Line)) (workers : List WorkerView)
-    → AreNewWorkers table start lists workers → map fault_count lists ≡ map worker_faults workers
-new_faults table start lists workers new = same_lists (map fault_count lists) (map worker_faults workers)
-    (length-map lists fault_count ∙ (sym new.count ∙ sym (length-map workers worker_faults)))
-    (λ k n at.
-    let w = from_map worker_faults workers k n at in
-    let lt = below workers k w.0 w.1 in
-    let count = new.count in
-    let ls = there lists k (omega arith) in
-    at_map fault_count lists k ls.0 ls.1 ∙ ap some (ap fault_count (sym (new.each k ls.0 w.0 ls.1 w.1).lines) ∙ w.2))
-
--- each list is at most as long as all together
-pub one_below : (xs : List (Vec Line Global)) (total : ℕ) → sum_by vec_len xs ≤ total → All (λ list. vec_len list ≤ total) xs
-one_below [] total le i d lt = absurd (omega arith)
-one_below (x ∷ xs) total le zero d lt = let c = sum_by-cons vec_len x xs in omega arith
-one_below (x ∷ xs) total le (suc i) d lt =
-    one_below xs total (let c = sum_by-cons vec_len x xs in omega arith) i d (omega arith)
+pub new_faults : {table : TableId} {start : List Area} {lists : List (List Line)} {workers : List WorkerView} → AreNewWorkers table start lists workers
+    → map fault_count lists ≡ map worker_faults workers
+new_faults {lists} {workers} new = same_lists (map fault_count lists) (map worker_faults workers)
+    (length-map lists fault_count ∙ (sym new.count ∙ sym (length-map workers worker_faults))) (λ k n at.
+    let w = from_map worker_faults workers k n at in let lt = below workers k w.0 w.1 in let count = new.count in
+    let ls = there lists k (omega arith) in at_map fault_count lists k ls.0 ls.1 ∙ ap some (ap fault_count (sym (new.each k ls.0 w.0 ls.1 w.1).lines) ∙ w.2))
 
 -- the faults of all lists are at most as many as their lines
 pub all_faults : (xs : List (Vec Line Global)) → sum (map fault_count (map vec_items xs)) ≤ sum_by vec_len xs
 all_faults [] = omega arith
 all_faults (x ∷ xs) =
-    let rest = all_faults xs in
-    let one = faults_few x.items in
-    let long = x.ok.0 in
-    let c = sum_by-cons vec_len x xs in
-    let d = sum_by-cons (λ (n : ℕ). n) (fault_count x.items) (map fault_count (map vec_items xs)) in
-    omega arith
+    let rest = all_faults xs in let one = faults_few x.items in let long = x.ok.0 in let c = sum_by-cons vec_len x xs in
+    let d = sum_by-cons (λ (n : ℕ). n) (fault_count x.items) (map fault_count (map vec_items xs)) in omega arith
 
 -- ---- the pages of all entries
 
 -- a page of all entries is one of some worker's
-to_own : (entries : List Entry) (page : ℕ) → Contains (granted_pages entries) page
-    → (k : ℕ) × Contains (granted_pages (entries_of k entries)) page
+to_own : (entries : List Entry) (page : ℕ) → Contains (granted_pages entries) page → (k : ℕ) × Contains (granted_pages (entries_of k entries)) page
 to_own [] page has = absurd (let lt = has.1 in omega arith)
-to_own (e ∷ es) page has = ⊎_elim
-    (λ here. (
-      e.worker,
-      subst (λ b. Contains (granted_pages (cond b (e ∷ entries_of e.worker es) (entries_of e.worker es))) page)
-          (sym (eq-eqb e.worker e.worker refl))
-          (Contains-append_left (granted_page e) (granted_pages (entries_of e.worker es)) page here),
-    ))
-    (λ there. let r = to_own es page there in (r.0, more r.0 (eqb e.worker r.0) r.1))
-    (Contains-append_cases (granted_page e) (granted_pages es) page has)
+to_own (e ∷ es) page has = ⊎_elim (λ here. (
+  e.worker,
+  subst (λ b. Contains (granted_pages (cond b (e ∷ entries_of e.worker es) (entries_of e.worker es))) page) (sym (eq-eqb e.worker e.worker refl))
+      (Contains-append_left (granted_page e) (granted_pages (entries_of e.worker es)) page here),
+)) (λ there. let r = to_own es page there in (r.0, more r.0 (eqb e.worker r.0) r.1)) (Contains-append_cases (granted_page e) (granted_pages es) page has)
   where
-    more : (k : ℕ) (b : Bool) → Contains (granted_pages (entries_of k es)) page
-        → Contains (granted_pages (cond b (e ∷ entries_of k es) (entries_of k es))) page
+    more : (k : ℕ) (b : Bool) → Contains (granted_pages (entries_of k es)) page → Contains (granted_pages (cond b (e ∷ entries_of k es) (entries_of k es))) page
     more k true r = Contains-append_right (granted_page e) (granted_pages (entries_of k es)) page r
     more k false r = r
 
 -- a page of one worker's entries is one of all
-from_own : (entries : List Entry) (k page : ℕ) → Contains (granted_pages (entries_of k entries)) page
-    → Contains (granted_pages entries) page
+from_own : (entries : List Entry) (k page : ℕ) → Contains (granted_pages (entries_of k entries)) page → Contains (granted_pages entries) page
 from_own [] k page has = has
 from_own (e ∷ es) k page has = by (eqb e.worker k) (λ h. from_own es k page h) has
   where
     by : (b : Bool) → (Contains (granted_pages (entries_of k es)) page → Contains (granted_pages es) page)
-        → Contains (granted_pages (cond b (e ∷ entries_of k es) (entries_of k es))) page
-        → Contains (granted_page e ++ granted_pages es) page
-    by true rest h = ⊎_elim
-        (λ here. Contains-append_left (granted_page e) (granted_pages es) page here)
+        → Contains (granted_pages (cond b (e ∷ entries_of k es) (entries_of k es))) page → Contains (granted_page e ++ granted_pages es) page
+    by true rest h = ⊎_elim (λ here. Contains-append_left (granted_page e) (granted_pages es) page here)
         (λ more. Contains-append_right (granted_page e) (granted_pages es) page (rest more))
         (Contains-append_cases (granted_page e) (granted_pages (entries_of k es)) page h)
     by false rest h = Contains-append_right (granted_page e) (granted_pages es) page (rest h)
@@ -299,44 +243,34 @@ from_seat (x ∷ xs) (suc k) page s at has = Contains-append_right x.touched (fl
 to_seat : (seats : List TouchView) (page : ℕ) → Contains (flat_map seat_touched seats) page
     → (k : ℕ) × (s : TouchView) × (get_elem? seats k ≡ some s) × Contains s.touched page
 to_seat [] page has = absurd (let lt = has.1 in omega arith)
-to_seat (x ∷ xs) page has = ⊎_elim
-    (λ here. (0, x, refl, here))
-    (λ rest. let r = to_seat xs page rest in (suc r.0, r.1, r.2, r.3))
+to_seat (x ∷ xs) page has = ⊎_elim (λ here. (0, x, refl, here)) (λ rest. let r = to_seat xs page rest in (suc r.0, r.1, r.2, r.3))
     (Contains-append_cases x.touched (flat_map seat_touched xs) page has)
 
-module _ (before after : List ToucherView) (entries : List Entry) (areas : List Area) (touched : HaveTouched before after)
+module _ {before after : List ToucherView} (entries : List Entry) (areas : List Area) (touched : HaveTouched before after)
     (whole : IsWhole (map toucher_caller after) entries areas)
     (new : (k : ℕ) (t : ToucherView) → get_elem? before k ≡ some t → (t.seat.touched ≡ []) × (t.worker.caller.seat.pass.mine ≡ [])) where
   -- the seat of a place has touched the pages of its worker's entries
   seat_pages : (k : ℕ) (b : ToucherView) → get_elem? after k ≡ some b → b.seat.touched ≡ granted_pages (entries_of k entries)
   seat_pages k b at =
-      let lt = below after k b at in
-      let same = touched.count in
-      let a = there before k (omega arith) in
-      let n = new k a.0 a.1 in
-      let t = touched.each k a.0 b a.1 at in
-      let played = t.done.played in
+      let lt = below after k b at in let same = touched.count in let a = there before k (omega arith) in
+      let n = new k a.0 a.1 in let t = touched.each k a.0 b a.1 at in let played = t.done.played in
       let mine : entries_of k entries ≡ played.entries = whole.mine k b.worker.caller (at_map toucher_caller after k b at)
-      ∙ (played.mine ∙ ap (λ l. l ++ played.entries) n.1) in
-      t.touched ∙ (ap (λ l. l ++ granted_pages played.entries) n.0 ∙ ap granted_pages (sym mine))
+      ∙ (played.mine ∙ ap (λ l. l ++ played.entries) n.1) in t.touched ∙ (ap (λ l. l ++ granted_pages played.entries) n.0 ∙ ap granted_pages (sym mine))
 
   -- what the seats touched together are the pages of the granted faults of all entries
   pub pages_of_all : (page : ℕ) → Contains (flat_map seat_touched (map toucher_seat after)) page ↔ Contains (granted_pages entries) page
   pages_of_all page = (
     λ has.
-        let r = to_seat (map toucher_seat after) page has in
-        let b = from_map toucher_seat after r.0 r.1 r.2 in
+        let r = to_seat (map toucher_seat after) page has in let b = from_map toucher_seat after r.0 r.1 r.2 in
         from_own entries r.0 page (subst (λ l. Contains l page) (ap seat_touched (sym b.2) ∙ seat_pages r.0 b.0 b.1) r.3),
     λ has.
         let r = to_own entries page has in
-        ⊎_elim
-        (λ lt.
+        ⊎_elim (λ lt.
         let b = there after r.0 (let long = length-map after toucher_caller in omega arith) in
         from_seat (map toucher_seat after) r.0 page b.0.seat (at_map toucher_seat after r.0 b.0 b.1)
         (subst (λ l. Contains l page) (sym (seat_pages r.0 b.0 b.1)) r.1))
         (λ ge. let none = subst (λ es. Contains (granted_pages es) page) (whole.no_other r.0 ge) r.1 in
-        absurd (let lt = none.1 in omega arith))
-        (cases_lt r.0 (length (map toucher_caller after))),
+        absurd (let lt = none.1 in omega arith)) (cases_lt r.0 (length (map toucher_caller after))),
   )
 
 -- ---- a whole trace
@@ -350,14 +284,7 @@ pub record Staged (space : TableId) (start : List Area) (lists : List (List Line
 
 module _ {space : TableId} {start : List Area} {lists : List (List Line)} {workers : List WorkerView} {touches : TableId} {quotas : List ℕ}
     {before : List ToucherView} (staged : Staged space start lists workers touches quotas before) where
-  new : AreNewWorkers space start lists workers
-  new = staged.new
-
-  are : quotas ≡ map worker_faults workers
-  are = staged.are
-
-  is : before ≡ seated workers (map (new_seat touches) quotas)
-  is = staged.is
+  open staged use {new, are, is}
 
   seats_count : length (map (new_seat touches) quotas) ≡ length workers
   seats_count = length-map quotas (new_seat touches) ∙ (ap length are ∙ length-map workers worker_faults)
@@ -378,37 +305,29 @@ module _ {space : TableId} {start : List Area} {lists : List (List Line)} {worke
 
   -- all are of the space and of the set
   pub staged_of : AreTouchersOf space touches before
-  staged_of k t at = let s = staged_at k t at in
-      (of_table space start lists workers new k t.worker s.0, ap (λ (x : TouchView). x.table) (sym s.1.2))
+  staged_of k t at = let s = staged_at k t at in (of_table new k t.worker s.0, ap (λ (x : TouchView). x.table) (sym s.1.2))
 
   -- none has touched a page or has an entry yet
   staged_new : (k : ℕ) (t : ToucherView) → get_elem? before k ≡ some t → (t.seat.touched ≡ []) × (t.worker.caller.seat.pass.mine ≡ [])
-  staged_new k t at = let s = staged_at k t at in
-      (ap seat_touched (sym s.1.2), (new_at space start lists workers k t.worker new s.0).1.mine)
+  staged_new k t at = let s = staged_at k t at in (ap seat_touched (sym s.1.2), (new_at new s.0).1.mine)
 
   module _ (after : List ToucherView) (touched : HaveTouched before after) where
     played : HavePlayed workers (map toucher_worker after)
-    played = subst (λ ws. HavePlayed ws (map toucher_worker after)) staged_workers (touchers_played before after touched)
+    played = subst (λ ws. HavePlayed ws (map toucher_worker after)) staged_workers (touchers_played touched)
 
     -- the callers of those that have touched may be closed
     pub staged_idle : AreIdle space (map toucher_caller after)
-    staged_idle = subst (λ cs. AreIdle space cs) (sym (toucher_callers after))
-        (played_idle space start lists workers (map toucher_worker after) new played)
+    staged_idle = subst (λ cs. AreIdle space cs) (sym (toucher_callers after)) (played_idle new played)
 
     -- what the closing then gives is the trace of their lines
-    pub staged_played : (entries : List Entry) (areas : List Area) → IsWhole (map toucher_caller after) entries areas
-        → IsPlayed start lists entries areas
-    staged_played entries areas whole = all_played space start lists workers (map toucher_worker after) entries areas new played
-        (subst (λ cs. IsWhole cs entries areas) (toucher_callers after) whole)
+    pub staged_played : (entries : List Entry) (areas : List Area) → IsWhole (map toucher_caller after) entries areas → IsPlayed start lists entries areas
+    staged_played entries areas whole = all_played new played (subst (λ cs. IsWhole cs entries areas) (toucher_callers after) whole)
 
     -- what stays of the seat of a place: its table, and its quota
     seat_at : (k : ℕ) (s : TouchView) → get_elem? (map toucher_seat after) k ≡ some s → (s.table ≡ touches) × (get_elem? quotas k ≡ some s.quota)
     seat_at k s at =
-        let b = from_map toucher_seat after k s at in
-        let lt = below after k b.0 b.1 in
-        let same = touched.count in
-        let a = there before k (omega arith) in
-        let q = (staged_at k a.0 a.1).1 in
+        let b = from_map toucher_seat after k s at in let lt = below after k b.0 b.1 in let same = touched.count in
+        let a = there before k (omega arith) in let q = (staged_at k a.0 a.1).1 in
         let t = touched.each k a.0 b.0 a.1 b.1 in
         subst (λ (x : TouchView). (x.table ≡ touches) × (get_elem? quotas k ≡ some x.quota)) b.2
         (t.table ∙ ap (λ (x : TouchView). x.table) (sym q.2), q.1 ∙ ap some (ap seat_quota q.2 ∙ sym t.quota))
@@ -427,10 +346,8 @@ module _ {space : TableId} {start : List Area} {lists : List (List Line)} {worke
 
     -- and the pages of the closing are those of the granted faults
     pub staged_pages : (entries : List Entry) (areas : List Area) (pages : List ℕ) → IsWhole (map toucher_caller after) entries areas
-        → IsRising pages → ((p : ℕ) → Contains pages p ↔ Contains (flat_map seat_touched (map toucher_seat after)) p)
-        → AreTouchedPages entries pages
+        → IsRising pages → ((p : ℕ) → Contains pages p ↔ Contains (flat_map seat_touched (map toucher_seat after)) p) → AreTouchedPages entries pages
     staged_pages entries areas pages whole rising same = record {
       rising = rising;
-      all = λ p. let all = pages_of_all before after entries areas touched whole staged_new p in
-          ((λ h. all.0 ((same p).0 h)), (λ h. (same p).1 (all.1 h)));
+      all = λ p. let all = pages_of_all entries areas touched whole staged_new p in ((λ h. all.0 ((same p).0 h)), (λ h. (same p).1 (all.1 h)));
     }

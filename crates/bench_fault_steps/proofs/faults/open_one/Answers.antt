@@ -8,8 +8,4 @@ pub returns : goal.returns
 returns c =
     let some : 0 < length c.in_ok-space.opened.items = search rules in
     let e = c.in_ok-space.ensures.callers 0 c.remove-first.result (at_index _ 0 _ some c.remove-first.ensures.value) in
-    record {
-      table = ap (λ (x : CallerView). x.seat.table) e;
-      free = ap (λ (x : CallerView). x.seat.held) e;
-      left = ap (λ (x : CallerView). x.left) e;
-    }
+    record { table = ap (λ (x : CallerView). x.seat.table) e; free = ap (λ (x : CallerView). x.seat.held) e; left = ap (λ (x : CallerView). x.left) e }

@@ -6,8 +6,4 @@ use Rattle.bench_space.proofs.plans.plan_turns.Given as goal
 
 -- after each plan the caller is of the space, holds all pages, and is at rest
 abbrev pub invariant-turns : goal.invariant-turns
-invariant-turns l = record {
-  table : l.caller.seat.table ≡ l.space.table;
-  held : l.caller.seat.held ≡ Some everything;
-  rest : IsAtRest l.caller.seat.pass;
-}
+invariant-turns l = record { table : l.caller.seat.table ≡ l.space.table; held : l.caller.seat.held ≡ Some everything; rest : IsAtRest l.caller.seat.pass }

@@ -4,7 +4,4 @@ use Rattle.bench_workloads.proofs.areas.area_lines.Given as goal
 
 -- the calls so far have named bits alone, and are no more than were made
 abbrev pub invariant-loop-made : goal.invariant-loop-made
-invariant-loop-made l = record {
-  named : All IsNamedLine l.lines.items;
-  count : vec_len l.lines ≤ l.made;
-}
+invariant-loop-made l = record { named : All IsNamedLine l.lines.items; count : vec_len l.lines ≤ l.made }

@@ -4,8 +4,4 @@ use Rattle.bench_workloads.proofs.loads.lines_by.Given as goal
 
 -- the lines that are left are named, and so are those that were taken, which are no more than asked for
 abbrev pub invariant-all : goal.invariant-all
-invariant-all l = record {
-  rest : All IsNamedLine (drop l.one-index l.made);
-  named : All IsNamedLine l.lines.items;
-  count : vec_len l.lines ≤ l.calls;
-}
+invariant-all l = record { rest : All IsNamedLine (drop l.one-index l.made); named : All IsNamedLine l.lines.items; count : vec_len l.lines ≤ l.calls }

@@ -15,15 +15,12 @@ loop-entry-preserved g c =
     )
 
 -- where the sink failed while room was made, a first part of the log was written
-pub returns-in_err-make_room-clause-failed_prefix :
-    goal.returns-in_err-make_room-clause-failed_prefix
+pub returns-in_err-make_room-clause-failed_prefix : goal.returns-in_err-make_room-clause-failed_prefix
 returns-in_err-make_room-clause-failed_prefix g c =
     let pushed = c.push_entry.ensures.text ∙ ap (λ e. c.loop-entry.buffer ++ entry_line e) c.entry-item.is in
-    on_err _
-    (lines_stop entry_line _ _ _ _ _ _ _ _ c.loop-entry-test.true c.loop-entry.invariant.0 pushed c.in_err-make_room.ensures.failed_prefix)
+    on_err _ (lines_stop entry_line _ _ _ _ _ _ _ _ c.loop-entry-test.true c.loop-entry.invariant.0 pushed c.in_err-make_room.ensures.failed_prefix)
 
 -- where it failed at the last flush, a first part of the log was written
 pub returns-clause-failed_prefix : goal.returns-clause-failed_prefix
-returns-clause-failed_prefix g c =
-    on_err_weaker c.flush.result (AppendsAllBut-flush_failed _
+returns-clause-failed_prefix g c = on_err_weaker c.flush.result (AppendsAllBut-flush_failed _
     (lines_done entry_line _ _ _ _ _ c.loop-entry-test.false c.loop-entry.invariant.0)) c.flush.ensures.failed_prefix

@@ -6,7 +6,5 @@ use Rattle.maps_printer.proofs.log.write_log.Given as goal
 
 -- what holds before each entry; the count of failed calls didn't fall
 abbrev pub invariant-loop-entry : goal.invariant-loop-entry
-invariant-loop-entry g l =
-    AppendsAllBut (g.K.Sink.contents l.fn.out) (g.K.Sink.contents l.out) (log_text (take l.entry-index l.entries)) l.buffer
-    × (length l.buffer + 512 ≤ 16384)
-    × (g.K.Sink.fault_count l.fn.out ≤ g.K.Sink.fault_count l.out)
+invariant-loop-entry g l = AppendsAllBut (g.K.Sink.contents l.fn.out) (g.K.Sink.contents l.out) (log_text (take l.entry-index l.entries)) l.buffer
+    × (length l.buffer + 512 ≤ 16384) × (g.K.Sink.fault_count l.fn.out ≤ g.K.Sink.fault_count l.out)

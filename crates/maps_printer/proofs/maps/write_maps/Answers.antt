@@ -14,14 +14,11 @@ loop-area-preserved g c = (
 )
 
 -- where the sink failed while room was made, a first part of the maps was written
-pub returns-in_err-make_room-clause-failed_prefix :
-    goal.returns-in_err-make_room-clause-failed_prefix
-returns-in_err-make_room-clause-failed_prefix g c =
-    on_err _
+pub returns-in_err-make_room-clause-failed_prefix : goal.returns-in_err-make_room-clause-failed_prefix
+returns-in_err-make_room-clause-failed_prefix g c = on_err _
     (lines_stop area_line _ _ _ _ _ _ _ _ c.loop-area-test.true c.loop-area.invariant.0 c.push_area.ensures.text c.in_err-make_room.ensures.failed_prefix)
 
 -- where it failed at the last flush, a first part of the maps was written
 pub returns-clause-failed_prefix : goal.returns-clause-failed_prefix
-returns-clause-failed_prefix g c =
-    on_err_weaker c.flush.result (AppendsAllBut-flush_failed _
+returns-clause-failed_prefix g c = on_err_weaker c.flush.result (AppendsAllBut-flush_failed _
     (lines_done area_line _ _ _ _ _ c.loop-area-test.false c.loop-area.invariant.0)) c.flush.ensures.failed_prefix

@@ -11,8 +11,7 @@ words-preserved c =
     let i = c.words.invariant in
     let lt = below (slots_items c.args.closed.now.words) c.words.i c.word-word.result c.word-word.ensures in
     let is : get_or (slots_items c.args.closed.now.words) c.words.i 0 ≡ c.word-word.result = at_or
-    (slots_items c.args.closed.now.words) c.words.i c.word-word.result 0 c.word-word.ensures in
-    elim c.if-word-ne0.branch [
+    (slots_items c.args.closed.now.words) c.words.i c.word-word.result 0 c.word-word.ensures in elim c.if-word-ne0.branch [
       | then-word-ne0 w ↦ record {
         within = search rules;
         short = search rules;

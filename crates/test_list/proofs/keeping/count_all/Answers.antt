@@ -14,7 +14,4 @@ returns g c =
     let idle : AreIdleHands c.args.list.now.table c.for_each_mut.new.s =
     hands_back c.args.list.now.table c.args.hands.now c.for_each_mut.new.s (search rules) c.requires.order
     (λ k d lt. let r = c.for_each_mut.ensures k d lt in (r.1.argument.now, r.1.after_call.now, r.1.argument_is, r.1.call.0, r.1.call.1, r.1.left)) in
-    record {
-      order = λ k h at. let i = idle k h at in (i.0, i.1);
-      idle = idle;
-    }
+    record { order = λ k h at. let i = idle k h at in (i.0, i.1); idle = idle }

@@ -4,10 +4,7 @@ use Rattle.test_list.proofs.keeping.line_up.Given as goal
 
 -- the number is that of a hand or one above all, and the hands are in order
 abbrev pub invariant-hands : goal.invariant-hands
-invariant-hands l = record {
-  below : l.number ≤ length l.hands;
-  order : AreInOrder l.list.table l.hands;
-}
+invariant-hands l = record { below : l.number ≤ length l.hands; order : AreInOrder l.list.table l.hands }
 
 -- the number falls
 abbrev pub decreases-hands : goal.decreases-hands

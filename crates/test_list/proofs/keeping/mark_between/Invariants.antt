@@ -4,10 +4,7 @@ use Rattle.test_list.proofs.keeping.mark_between.Given as goal
 
 -- at most sixteen places are left, and the hands are in order
 abbrev pub invariant-places : goal.invariant-places
-invariant-places l = record {
-  below : l.place ≤ 16;
-  order : AreInOrder l.list.table l.hands;
-}
+invariant-places l = record { below : l.place ≤ 16; order : AreInOrder l.list.table l.hands }
 
 -- the places that are left grow fewer
 abbrev pub decreases-places : goal.decreases-places

@@ -4,8 +4,7 @@ use Rattle.test_list.proofs.rows.is_move_by.Goals as goal
 -- the hand at the place is of the list
 pub is_move-requires : goal.is_move-requires
 is_move-requires c = record {
-  table = table_at c.args.list.now.table c.args.hands.now c.args.number c.index-hands-number.result
-      c.requires.order c.requires.there;
+  table = table_at c.args.list.now.table c.args.hands.now c.args.number c.index-hands-number.result c.requires.order c.requires.there;
 }
 
 -- that hand alone changed, and kept its list and number

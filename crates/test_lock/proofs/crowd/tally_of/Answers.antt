@@ -23,6 +23,5 @@ returns g c =
           ∙ (tally_left c.in-Ok.table.table c.args.word c.args.turns c.as_mut_slice.result.now c.add_all.new.seats _
           c.in-Ok-close.words.items (let z = c.requires.seats.0 in omega (arith, all)) same begun c.add_all.ensures.added
           (subst (λ (l : List (SeatState Brought)). IsTallied (replicate c.in-Ok.table.seats None) c.in-Ok-close.words.items
-          (map pass_in l)) back c.in-Ok-close.ensures.guard)
-          ∙ ap (λ (n : ℕ). (c.args.word + n * c.args.turns) % 2 ^ 64) all));
+          (map pass_in l)) back c.in-Ok-close.ensures.guard) ∙ ap (λ (n : ℕ). (c.args.word + n * c.args.turns) % 2 ^ 64) all));
     }

@@ -8,15 +8,13 @@ use Rattle.test_lock.proofs.regions.three_in.Goals as goal
 pub returns-clause-first : goal.returns-clause-first
 returns-clause-first c =
     let e = first_new_in _ (list_count c.args.table.now.cut) (λ _. tt) c.args.seats.items c.remove-first.result (omega (arith, c.requires.three))
-    c.requires.new c.remove-first.ensures.value in
-    (ap (λ (s : SeatState _). s.table) e, ap (λ (s : SeatState _). s.held) e)
+    c.requires.new c.remove-first.ensures.value in (ap (λ (s : SeatState _). s.table) e, ap (λ (s : SeatState _). s.held) e)
 
 -- the second seat is the new one of number 1
 pub returns-clause-second : goal.returns-clause-second
 returns-clause-second c =
     let e = second_in _ (list_count c.args.table.now.cut) (λ _. tt) c.args.seats.items _ c.remove-second.result (omega (arith, c.requires.three)) c.requires.new
-    c.remove-first.ensures.items c.remove-second.ensures.value in
-    (ap (λ (s : SeatState _). s.table) e, ap (λ (s : SeatState _). s.held) e)
+    c.remove-first.ensures.items c.remove-second.ensures.value in (ap (λ (s : SeatState _). s.table) e, ap (λ (s : SeatState _). s.held) e)
 
 -- the third seat is the new one of number 2
 pub returns-clause-third : goal.returns-clause-third

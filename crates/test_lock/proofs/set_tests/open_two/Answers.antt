@@ -8,5 +8,4 @@ next_set-p-requires g c = record { idle = new_are_idle _ _ _ c.in-Ok.ensures.sea
 
 -- the seats of both sets are those of the new table, in order
 pub returns-clause-all : goal.returns-clause-all
-returns-clause-all g c =
-    (c.in-Ok.ensures.shape.0, both_idle _ _ _ _ _ _ _ c.in-Ok.ensures.seats.1 c.next_set-p.ensures.first c.next_set-q.ensures.first)
+returns-clause-all g c = (c.in-Ok.ensures.shape.0, both_idle _ _ _ _ _ _ _ c.in-Ok.ensures.seats.1 c.next_set-p.ensures.first c.next_set-q.ensures.first)

@@ -8,48 +8,39 @@ use Rattle.test_worker.proofs.beside.open_beside.Goals as goal
 -- the first caller has a number for each of its lines
 pub new-requires-clause-left : goal.new-requires-clause-left
 new-requires-clause-left c =
-    let t = c.three_callers-one in
-    let calls = c.len.result ∷ c.len-2.result ∷ 0 ∷ [] in
+    let t = c.three_callers-one in let calls = c.len.result ∷ c.len-2.result ∷ 0 ∷ [] in
     let new = subst (λ (cs : List CallerView). AreNewCallers c.in-Ok-open.space.table c.args.start.now calls cs) t.ensures.callers
     c.in-Ok-open.ensures.callers in
     let n = (two_new c.in-Ok-open.space.table c.args.start.now c.len.result c.len-2.result 0 t.result.0 t.result.1 t.result.2 new).0 in
-    let long = c.len.ensures in
-    omega arith
+    let long = c.len.ensures in omega arith
 
 -- the first caller holds nothing
 pub new-requires-clause-free : goal.new-requires-clause-free
 new-requires-clause-free c =
-    let t = c.three_callers-one in
-    let calls = c.len.result ∷ c.len-2.result ∷ 0 ∷ [] in
+    let t = c.three_callers-one in let calls = c.len.result ∷ c.len-2.result ∷ 0 ∷ [] in
     let new = subst (λ (cs : List CallerView). AreNewCallers c.in-Ok-open.space.table c.args.start.now calls cs) t.ensures.callers
-    c.in-Ok-open.ensures.callers in
-    (two_new c.in-Ok-open.space.table c.args.start.now c.len.result c.len-2.result 0 t.result.0 t.result.1 t.result.2 new).2
+    c.in-Ok-open.ensures.callers in (two_new c.in-Ok-open.space.table c.args.start.now c.len.result c.len-2.result 0 t.result.0 t.result.1 t.result.2 new).2
 
 -- the second caller has a number for each of its lines
 pub new-requires-in-Ok-open-clause-left : goal.new-requires-in-Ok-open-clause-left
 new-requires-in-Ok-open-clause-left c =
-    let t = c.three_callers-one in
-    let calls = c.len.result ∷ c.len-2.result ∷ 0 ∷ [] in
+    let t = c.three_callers-one in let calls = c.len.result ∷ c.len-2.result ∷ 0 ∷ [] in
     let new = subst (λ (cs : List CallerView). AreNewCallers c.in-Ok-open.space.table c.args.start.now calls cs) t.ensures.callers
     c.in-Ok-open.ensures.callers in
     let n = (two_new c.in-Ok-open.space.table c.args.start.now c.len.result c.len-2.result 0 t.result.0 t.result.1 t.result.2 new).1 in
-    let long = c.len-2.ensures in
-    omega arith
+    let long = c.len-2.ensures in omega arith
 
 -- the second caller holds nothing
 pub new-requires-in-Ok-open-clause-free : goal.new-requires-in-Ok-open-clause-free
 new-requires-in-Ok-open-clause-free c =
-    let t = c.three_callers-one in
-    let calls = c.len.result ∷ c.len-2.result ∷ 0 ∷ [] in
+    let t = c.three_callers-one in let calls = c.len.result ∷ c.len-2.result ∷ 0 ∷ [] in
     let new = subst (λ (cs : List CallerView). AreNewCallers c.in-Ok-open.space.table c.args.start.now calls cs) t.ensures.callers
-    c.in-Ok-open.ensures.callers in
-    (two_new c.in-Ok-open.space.table c.args.start.now c.len.result c.len-2.result 0 t.result.0 t.result.1 t.result.2 new).3
+    c.in-Ok-open.ensures.callers in (two_new c.in-Ok-open.space.table c.args.start.now c.len.result c.len-2.result 0 t.result.0 t.result.1 t.result.2 new).3
 
 -- the two workers are new ones of the space, with their lines
 pub returns-in-Ok-open-clause-workers : goal.returns-in-Ok-open-clause-workers
 returns-in-Ok-open-clause-workers c =
-    let t = c.three_callers-one in
-    let calls = c.len.result ∷ c.len-2.result ∷ 0 ∷ [] in
+    let t = c.three_callers-one in let calls = c.len.result ∷ c.len-2.result ∷ 0 ∷ [] in
     let new = subst (λ (cs : List CallerView). AreNewCallers c.in-Ok-open.space.table c.args.start.now calls cs) t.ensures.callers
     c.in-Ok-open.ensures.callers in
     let first : WorkerView = record { caller = t.result.0; lines = c.args.first.items } in
@@ -66,8 +57,6 @@ returns-in-Ok-open-clause-workers c =
 -- the third caller is a new one of the space
 pub returns-in-Ok-open-clause-third : goal.returns-in-Ok-open-clause-third
 returns-in-Ok-open-clause-third c =
-    let t = c.three_callers-one in
-    let calls = c.len.result ∷ c.len-2.result ∷ 0 ∷ [] in
+    let t = c.three_callers-one in let calls = c.len.result ∷ c.len-2.result ∷ 0 ∷ [] in
     let new = subst (λ (cs : List CallerView). AreNewCallers c.in-Ok-open.space.table c.args.start.now calls cs) t.ensures.callers
-    c.in-Ok-open.ensures.callers in
-    third_new c.in-Ok-open.space.table c.args.start.now calls t.result.0 t.result.1 t.result.2 new
+    c.in-Ok-open.ensures.callers in third_new c.in-Ok-open.space.table c.args.start.now calls t.result.0 t.result.1 t.result.2 new

@@ -22,20 +22,18 @@ of_pieces-requires-clause-in_order c = rw c.deref.ensures.value (opens_in_order 
 
 -- an opening with too many rows ends the run by its count
 pub returns-then-rows-gt-ROWS-clause-stopped : goal.returns-then-rows-gt-ROWS-clause-stopped
-returns-then-rows-gt-ROWS-clause-stopped c =
-    inr (inr (inr (record {
-      head = head_of c.args.opening c.args.bytes.now _ _ _ _ c.in_ok-opened.ensures.opens;
-      limits = c.in_ok-keep_limits.ensures.kept;
-      start = c.in-Ok.space;
-      kinds = rw c.deref.ensures.value at c.in-Ok.ensures;
-      many_rows = omega (arith, c.rows-rows.ensures);
-      is = ap (Above Rows) c.rows-rows.ensures;
-    })))
+returns-then-rows-gt-ROWS-clause-stopped c = inr (inr (inr (record {
+  head = head_of c.args.opening c.args.bytes.now _ _ _ _ c.in_ok-opened.ensures.opens;
+  limits = c.in_ok-keep_limits.ensures.kept;
+  start = c.in-Ok.space;
+  kinds = rw c.deref.ensures.value at c.in-Ok.ensures;
+  many_rows = omega (arith, c.rows-rows.ensures);
+  is = ap (Above Rows) c.rows-rows.ensures;
+})))
 
 -- the verdict on the lines behind the opening is that on the input
 pub returns-clause-judged : goal.returns-clause-judged
-returns-clause-judged c =
-    input_verdict c.args.opening c.args.bytes.now _ _ _ _ _ c.in-Ok.space c.in-Ok-check.verdict c.in_ok-opened.ensures.opens
+returns-clause-judged c = input_verdict c.args.opening c.args.bytes.now _ _ _ _ _ c.in-Ok.space c.in-Ok-check.verdict c.in_ok-opened.ensures.opens
     (omega (arith, c.in_ok-opened.ensures.numbered)) c.in_ok-keep_limits.ensures.kept (rw c.deref.ensures.value at c.in-Ok.ensures)
     (omega (arith, c.rows-rows.ensures)) c.in-Ok-check.ensures.found
 

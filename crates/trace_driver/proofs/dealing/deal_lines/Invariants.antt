@@ -6,8 +6,5 @@ use Rattle.trace_driver.proofs.dealing.deal_lines.Given as goal
 
 -- the lines so far are dealt out
 abbrev pub invariant-lines : goal.invariant-lines
-invariant-lines l =
-    (map vec_items l.all.items ≡ dealt l.threads (take l.line-index l.lines))
-    × (vec_len l.all ≡ l.threads)
-    × All (λ own. vec_len own ≤ l.line-index) l.all.items
-    × All (λ own. All (λ line. IsNamedCall line.call) own) (map vec_items l.all.items)
+invariant-lines l = (map vec_items l.all.items ≡ dealt l.threads (take l.line-index l.lines)) × (vec_len l.all ≡ l.threads)
+    × All (λ own. vec_len own ≤ l.line-index) l.all.items × All (λ own. All (λ line. IsNamedCall line.call) own) (map vec_items l.all.items)

@@ -8,8 +8,7 @@ use Rattle.trace_driver.proofs.dealing.no_lines.Goals as goal
 -- one worker more has an empty list
 pub workers-preserved : goal.workers-preserved
 workers-preserved c =
-    let i = c.workers.invariant in
-    let p = c.push_reserved.ensures.items in
+    let i = c.workers.invariant in let p = c.push_reserved.ensures.items in
     let more = ap (map vec_items) p ∙ map-append vec_items c.workers.all.items (c.new.result ∷ [])
     ∙ ap (λ (l : List Turn). map vec_items c.workers.all.items ++ l ∷ []) c.new.ensures.items in (
       none_more c.workers.counter _ _ i.0 more,

@@ -7,8 +7,5 @@ use Rattle.trace_driver.proofs.load.deal_made.Given as goal
 
 -- the lines so far are dealt out
 abbrev pub invariant-made : goal.invariant-made
-invariant-made l =
-    (map vec_items l.all.items ≡ dealt l.threads (map line_of (take l.line-index l.made)))
-    × (vec_len l.all ≡ l.threads)
-    × All (λ own. vec_len own ≤ l.line-index) l.all.items
-    × All (λ own. All (λ line. IsNamedCall line.call) own) (map vec_items l.all.items)
+invariant-made l = (map vec_items l.all.items ≡ dealt l.threads (map line_of (take l.line-index l.made))) × (vec_len l.all ≡ l.threads)
+    × All (λ own. vec_len own ≤ l.line-index) l.all.items × All (λ own. All (λ line. IsNamedCall line.call) own) (map vec_items l.all.items)

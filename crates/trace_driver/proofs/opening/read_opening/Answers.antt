@@ -7,8 +7,7 @@ use Rattle.trace_driver.proofs.opening.read_opening.Goals as goal
 pub returns-then-is_empty-clause-opens : goal.returns-then-is_empty-clause-opens
 returns-then-is_empty-clause-opens c =
     let left = rw c.in-Some.ensures.line at c.maps.invariant.0 in
-    let none = nil c.in-Some.line.now (sym c.is_empty.ensures ∙ c.if-is_empty.true) in
-    rw (c.if-not-has_maps.false) (maps_empty _ _ _ _ _ _ (rw none at left))
+    let none = nil c.in-Some.line.now (sym c.is_empty.ensures ∙ c.if-is_empty.true) in rw (c.if-not-has_maps.false) (maps_empty _ _ _ _ _ _ (rw none at left))
 
 -- a line that is no maps line, or comes too early, ends the run
 pub returns-in_err-item-clause-stopped : goal.returns-in_err-item-clause-stopped
@@ -24,8 +23,7 @@ take-requires-clause-fits c = (spells_fit _ _ c.in_ok-item.ensures.next.spells).
 -- a maps line is taken, and what was read grows by it
 pub maps-preserved : goal.maps-preserved
 maps-preserved c =
-    let left = rw c.in-Some.ensures.line at c.maps.invariant.0 in
-    let taken = c.in_ok-end.ensures in
+    let left = rw c.in-Some.ensures.line at c.maps.invariant.0 in let taken = c.in_ok-end.ensures in
     let more = maps_next _ _ _ _ _ _ _ _ _ _ left c.in_ok-item.ensures.next taken.areas taken.past in (
       rw (taken.next, taken.end) more,
       omega (arith, taken.next, c.in-Some.ensures.shorter),
@@ -36,6 +34,4 @@ maps-preserved c =
 
 -- the end of the text ends the opening
 pub returns-clause-opens : goal.returns-clause-opens
-returns-clause-opens c =
-    let none = c.in_default.ensures.none.0 refl in
-    rw (none, c.if-not-has_maps.false) (maps_over _ _ _ _ _ (rw none at c.maps.invariant.0))
+returns-clause-opens c = let none = c.in_default.ensures.none.0 refl in rw (none, c.if-not-has_maps.false) (maps_over _ _ _ _ _ (rw none at c.maps.invariant.0))

@@ -7,5 +7,4 @@ use Rattle.trace_driver.proofs.play.play_lists.Goals as goal
 -- what the workers of the dealt lines have played is what is said of the lines
 pub returns-in-Ok : goal.returns-in-Ok
 returns-in-Ok g c = λ lines is. played c.args.threads _ lines _ _
-    (subst (λ (l : List (List Turn)). WerePlayed c.args.opening.now l c.in-Ok.closed.entries c.in-Ok.closed.areas) is
-    c.in-Ok.ensures.played)
+    (subst (λ (l : List (List Turn)). WerePlayed c.args.opening.now l c.in-Ok.closed.entries c.in-Ok.closed.areas) is c.in-Ok.ensures.played)

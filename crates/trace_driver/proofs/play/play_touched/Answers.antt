@@ -12,13 +12,11 @@ play_touched_trace-requires-clause-total g c =
 
 -- what the workers of the dealt lines have played is what is said of the lines
 pub returns-in-Ok-clause-played : goal.returns-in-Ok-clause-played
-returns-in-Ok-clause-played g c =
-    played c.args.threads _ c.args.lines.now _ _
+returns-in-Ok-clause-played g c = played c.args.threads _ c.args.lines.now _ _
     (subst (λ (l : List (List Turn)). WerePlayed c.args.opening.now l c.in-Ok.closed.entries c.in-Ok.closed.areas) c.in_ok-lists.ensures.dealt
     c.in-Ok.ensures.played)
 
 -- the pages that were touched are those of granted faults
 pub returns-in-Ok-clause-touched : goal.returns-in-Ok-clause-touched
-returns-in-Ok-clause-touched g c =
-    counts _ _ _ c.in-Ok.ensures.touched (omega (arith, c.len.ensures, c.in-Ok.pages.ok.0))
+returns-in-Ok-clause-touched g c = counts _ _ _ c.in-Ok.ensures.touched (omega (arith, c.len.ensures, c.in-Ok.pages.ok.0))
     (omega (arith, c.len.ensures, c.in-Ok.pages.ok.0, c.in-Ok.ensures.few))

@@ -10,5 +10,4 @@ returns-clause-complete g c = λ bytes known.
 
 -- the log that was printed is good
 pub returns-clause-logs_are_good : goal.returns-clause-logs_are_good
-returns-clause-logs_are_good g c =
-    logs_good _ _ _ _ _ _ c.report-status.ensures.one c.report-status.ensures.out c.carried_logs_are_good.ensures
+returns-clause-logs_are_good g c = logs_good _ _ _ _ _ _ c.report-status.ensures.one c.report-status.ensures.out c.carried_logs_are_good.ensures

@@ -18,17 +18,16 @@ of_pieces-requires-clause-in_order c = rw c.deref.ensures.value (opens_in_order 
 
 -- an opening with too many rows ends the run by its count
 pub returns-then-rows-gt-ROWS-clause-stopped : goal.returns-then-rows-gt-ROWS-clause-stopped
-returns-then-rows-gt-ROWS-clause-stopped c =
-    inr (inr (inr (record {
-      head = head_of c.args.options.opening c.args.bytes.now _ _ _ _ c.in_ok-opening.ensures.opens;
-      lines = c.in_ok-trace.trace.lines.items;
-      passed = c.in_ok-trace.trace.skipped;
-      reads = c.in_ok-trace.ensures.read;
-      start = c.in-Ok.space;
-      kinds = rw c.deref.ensures.value at c.in-Ok.ensures;
-      many_rows = omega (arith, c.rows-rows.ensures);
-      is = ap (Above Rows) c.rows-rows.ensures;
-    })))
+returns-then-rows-gt-ROWS-clause-stopped c = inr (inr (inr (record {
+  head = head_of c.args.options.opening c.args.bytes.now _ _ _ _ c.in_ok-opening.ensures.opens;
+  lines = c.in_ok-trace.trace.lines.items;
+  passed = c.in_ok-trace.trace.skipped;
+  reads = c.in_ok-trace.ensures.read;
+  start = c.in-Ok.space;
+  kinds = rw c.deref.ensures.value at c.in-Ok.ensures;
+  many_rows = omega (arith, c.rows-rows.ensures);
+  is = ap (Above Rows) c.rows-rows.ensures;
+})))
 
 -- the opening, its areas and the lines behind it are the script
 pub returns-clause-script : goal.returns-clause-script

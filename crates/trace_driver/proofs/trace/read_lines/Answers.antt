@@ -42,9 +42,7 @@ lines-preserved c =
 
 -- lines passed over and halves that are left are together few enough for 32 bits
 pub overflow_add-result : goal.overflow_add-result
-overflow_add-result c =
-    let so_far = c.lines.invariant.0 in
-    omega (arith, left_few _ _ _ _ _ _ so_far (c.end-left.ensures so_far.stand.fed so_far.stands.fed))
+overflow_add-result c = let so_far = c.lines.invariant.0 in omega (arith, left_few _ _ _ _ _ _ so_far (c.end-left.ensures so_far.stand.fed so_far.stands.fed))
 
 -- where no line is left the whole trace is read
 pub returns-clause-read : goal.returns-clause-read
@@ -57,5 +55,4 @@ returns-clause-read c =
 -- lines passed over and halves that are left are together at most three for each byte
 pub returns-clause-counted : goal.returns-clause-counted
 returns-clause-counted c =
-    let so_far = c.lines.invariant.0 in
-    omega (arith, left_few _ _ _ _ _ _ so_far (c.end-left.ensures so_far.stand.fed so_far.stands.fed))
+    let so_far = c.lines.invariant.0 in omega (arith, left_few _ _ _ _ _ _ so_far (c.end-left.ensures so_far.stand.fed so_far.stands.fed))

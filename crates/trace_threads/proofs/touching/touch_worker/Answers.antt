@@ -6,10 +6,10 @@ use Rattle.trace_threads.proofs.touching.touch_worker.Goals as goal
 pub invariant_of-toucher : goal.invariant_of-toucher
 invariant_of-toucher g c =
     let same : c.as_slice.result.now ≡ c.worker.inside.lines.items = search rules in
-    stays_within _ _ _ _ _ _ _ _ c.worker.view_is c.toucher.invariant c.touch_lines.ensures same c.clear.ensures.items
+    stays_within c.worker.view_is c.toucher.invariant c.touch_lines.ensures same c.clear.ensures.items
 
 -- the worker has played its lines, and its seat touched their pages
 pub returns : goal.returns
 returns g c =
     let same : c.as_slice.result.now ≡ c.worker.inside.lines.items = search rules in
-    touch_done _ _ _ _ _ _ _ _ _ c.worker.view_is c.toucher.view_is c.touch_lines.ensures same c.clear.ensures.items
+    touch_done c.worker.view_is c.toucher.view_is c.touch_lines.ensures same c.clear.ensures.items

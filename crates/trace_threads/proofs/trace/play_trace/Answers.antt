@@ -11,7 +11,7 @@ use Rattle.trace_threads.proofs.trace.play_trace.Goals as goal
 pub play_all-requires-after_bounds : goal.play_all-requires-after_bounds
 play_all-requires-after_bounds g c κs within =
     let is : c.as_mut_slice.result.now ≡ c.in-Ok.workers.items = search rules in
-    subst (λ (ws : List WorkerView). AreOfTable c.in-Ok.space.table ws) (sym is) (of_table _ _ _ c.in-Ok.workers.items c.in-Ok.ensures.workers)
+    subst (λ (ws : List WorkerView). AreOfTable c.in-Ok.space.table ws) (sym is) (of_table c.in-Ok.ensures.workers)
 
 -- the callers that are dismissed may be closed
 pub close-requires-clause-idle : goal.close-requires-clause-idle
@@ -21,8 +21,7 @@ close-requires-clause-idle g c =
     let back = take_at workers (drop (length workers) c.in-Ok.workers.items) c.in-Ok.workers.len (let n = played.count in
     omega (arith, n, c.in-Ok.workers.ok.0)) in
     let callers : c.dismiss.result.items ≡ map caller_of workers = c.dismiss.ensures ∙ ap (map caller_of) back in
-    subst (λ (cs : List CallerView). AreIdle c.in-Ok.space.table cs) (sym callers)
-    (played_idle _ _ _ c.in-Ok.workers.items c.play_all.new.workers c.in-Ok.ensures.workers played)
+    subst (λ (cs : List CallerView). AreIdle c.in-Ok.space.table cs) (sym callers) (played_idle c.in-Ok.ensures.workers played)
 
 -- what the closing gives is the trace of these lines
 pub returns-in-Ok-close-clause-played : goal.returns-in-Ok-close-clause-played
@@ -33,5 +32,4 @@ returns-in-Ok-close-clause-played g c =
     omega (arith, n, c.in-Ok.workers.ok.0)) in
     let callers : c.dismiss.result.items ≡ map caller_of workers = c.dismiss.ensures ∙ ap (map caller_of) back in
     let closed = c.in-Ok-close.closed in
-    all_played _ _ _ c.in-Ok.workers.items c.play_all.new.workers closed.entries closed.areas c.in-Ok.ensures.workers played
-    (subst (λ (cs : List CallerView). IsWhole cs closed.entries closed.areas) callers c.in-Ok-close.ensures.whole)
+    all_played c.in-Ok.ensures.workers played (subst (λ (cs : List CallerView). IsWhole cs closed.entries closed.areas) callers c.in-Ok-close.ensures.whole)

@@ -8,8 +8,7 @@ returns-then-self-clause-taken c front stands = stands_over front c.args.line.no
 
 -- the first line behind the log is taken
 pub returns-then-not-begins_log-clause-taken : goal.returns-then-not-begins_log-clause-taken
-returns-then-not-begins_log-clause-taken c front stands =
-    stands_ended front c.args.line.now c.args.self.now _ stands
+returns-then-not-begins_log-clause-taken c front stands = stands_ended front c.args.line.now c.args.self.now _ stands
     (λ begins. let yes = c.begins_log.ensures.1 begins in absurd (cc (yes, c.if-not-begins_log.true))) c.if-line-gt-LINE_LIMIT.false refl
 
 -- a line of the log that is one too many ends the run

@@ -12,8 +12,7 @@ returns-in-Some-clause-seen c = λ seen h. indexed_found c.args.self.now seen c.
 
 -- a new one has as its index how many were seen
 pub returns-clause-index : goal.returns-clause-index
-returns-clause-index c = λ seen h. c.in_ok-index.ensures.index ∙ h.next
-    ∙ index_new seen c.args.pid (sym (h.places c.args.pid) ∙ sym c.in_default.ensures.value)
+returns-clause-index c = λ seen h. c.in_ok-index.ensures.index ∙ h.next ∙ index_new seen c.args.pid (sym (h.places c.args.pid) ∙ sym c.in_default.ensures.value)
 
 -- and is seen with it
 pub returns-clause-seen : goal.returns-clause-seen

@@ -8,9 +8,7 @@ use Rattle.trace_driver.proofs.trace.TraceReader.take.Goals as goal
 -- an answer passes over two lines at most
 pub on_base-told-requires : goal.on_base-told-requires
 on_base-told-requires c =
-    let b = c.requires.before in
-    let few = answers_few b.0.fed c.args.text.now c.in-Ok.fed (c.in-Ok.ensures.answer b.0.fed b.1.fed) in
-    omega (arith, few)
+    let b = c.requires.before in let few = answers_few b.0.fed c.args.text.now c.in-Ok.fed (c.in-Ok.ensures.answer b.0.fed b.1.fed) in omega (arith, few)
 
 -- so does what becomes of a line
 pub add-requires-clause-skips : goal.add-requires-clause-skips
@@ -28,14 +26,12 @@ add-requires-clause-named c =
 
 -- the reader that was fed the text and added what became of it took it
 pub returns-in-Ok-clause-takes : goal.returns-in-Ok-clause-takes
-returns-in-Ok-clause-takes c =
-    takes_on c.add.result c.args.text.now c.args.number c.args.self.now c.add.new.self c.feed.new.self c.in-Ok.fed
+returns-in-Ok-clause-takes c = takes_on c.add.result c.args.text.now c.args.number c.args.self.now c.add.new.self c.feed.new.self c.in-Ok.fed
     c.base_behind-base.result c.on_base-told.result (omega (arith, c.if-text-gt-LINE_LIMIT.false)) c.base_behind-base.ensures c.on_base-told.ensures
     c.in-Ok.ensures.answer c.in-Ok.ensures.next c.add.ensures.joiner c.add.ensures.base c.add.ensures.lines c.add.ensures.seen
     c.add.ensures.len c.add.ensures.few c.add.ensures.skipped
 
 -- where it couldn't be added the text ends the run
 pub returns-in-Ok-clause-stopped : goal.returns-in-Ok-clause-stopped
-returns-in-Ok-clause-stopped c =
-    stops_on c.add.result c.args.text.now c.args.number c.args.self.now c.in-Ok.fed c.base_behind-base.result c.on_base-told.result
+returns-in-Ok-clause-stopped c = stops_on c.add.result c.args.text.now c.args.number c.args.self.now c.in-Ok.fed c.base_behind-base.result c.on_base-told.result
     (omega (arith, c.if-text-gt-LINE_LIMIT.false)) c.base_behind-base.ensures c.on_base-told.ensures c.in-Ok.ensures.answer c.add.ensures.full
