@@ -4,47 +4,60 @@
    its part) or random; of 100 turns 100, 60 or 0 are readers'; between two turns a thread makes 0 to 2,047 empty turns.
 
        arrbench MILLISECONDS [anyway]       how long a round is
+       arrbench MILLISECONDS waits          the range lock and the mutex on 4 threads alone, whose waits long rounds show
+       arrbench MILLISECONDS full|random    one list of the range lock on 4 threads alone, for a profile
 
    It writes a line for each peer and load, separated by tabs: the kind of range, readers in 100, threads, the peer's
    name, million turns in a second (the middle one of three rounds), the least share of a thread in hundredths of an even
-   one (of three rounds), the longest single wait in microseconds (of three rounds). It ends with status 1 where a peer
-   didn't exclude. Where other work disturbs the machine it ends with status 75, at once or behind all lines if it is to
-   go on anyway; rounds of 1 ms, to try the peers, are measured whatever disturbs them. */
+   one (of three rounds), the longest single wait in microseconds (of three rounds) and the mean one. It ends with status
+   1 where a peer didn't exclude. Where other work disturbs the machine it ends with status 75, at once, or behind all
+   lines with a second word; rounds of 1 ms, to try the peers, are measured whatever disturbs them. */
 #include "rounds.h"
 
 #include <string.h>
 
 static const peer *const peers[] = { &range_list,  &range_regions,  &one_mutex,    &one_rwlock, &striped, &rwlocks_16,
                                      &rwlocks_256, &tree_shared, &tree_exclusive, &record_locks, &no_lock };
-enum { PEERS = sizeof peers / sizeof *peers, SLOTS = 256, BETWEEN = 2048, DISTURBED = 75 };
+enum { PEERS = sizeof peers / sizeof *peers, WAITERS = 3, SLOTS = 256, BETWEEN = 2048, DISTURBED = 75 };
 
 static const char *const kinds[] = { [FULL] = "full", [DISJOINT] = "disjoint", [RANDOM] = "random" };
 static const unsigned counts[] = { 1, 2, 4, 16 }, readers[] = { 100, 60, 0 };
 
-static void measure_one(draw draw, unsigned in_100, unsigned threads, long long nanoseconds) {
+static void measure_one(unsigned count, draw draw, unsigned in_100, unsigned threads, long long nanoseconds) {
     load load = { .threads = threads, .slots = SLOTS, .draw = draw, .readers = in_100, .between = BETWEEN,
                   .regions = threads, .waits = true };
     outcome outcomes[PEERS];
-    measure(peers, PEERS, &load, nanoseconds, outcomes);
-    for (int p = 0; p < PEERS; p++)
-        printf("%s\t%u\t%u\t%s\t%.3f\t%.0f\t%.0f\n", kinds[draw], in_100, threads, peers[p]->name,
-               outcomes[p].rate / 1e6, outcomes[p].least_share, outcomes[p].longest_wait / 1e3);
+    measure(peers, count, &load, nanoseconds, outcomes);
+    for (unsigned p = 0; p < count; p++)
+        printf("%s\t%u\t%u\t%s\t%.3f\t%.0f\t%.0f\t%.1f\n", kinds[draw], in_100, threads, peers[p]->name,
+               outcomes[p].rate / 1e6, outcomes[p].least_share, outcomes[p].longest_wait / 1e3, outcomes[p].mean_wait / 1e3);
 }
 
 int main(int count, char **words) {
     long long nanoseconds = count >= 2 ? atoll(words[1]) * 1000000 : 0;
     bool anyway = count == 3 && strcmp(words[2], "anyway") == 0, disturbed = false;
-    if (nanoseconds <= 0 || count > 2 + anyway) {
-        fprintf(stderr, "usage: arrbench MILLISECONDS [anyway]\n");
+    bool waits = count == 3 && strcmp(words[2], "waits") == 0;
+    bool full = count == 3 && strcmp(words[2], kinds[FULL]) == 0, drawn = count == 3 && strcmp(words[2], kinds[RANDOM]) == 0;
+    if (nanoseconds <= 0 || count > 2 + (anyway || waits || full || drawn)) {
+        fprintf(stderr, "usage: arrbench MILLISECONDS [anyway|waits|full|random]\n");
         return 2;
     }
+    if (full || drawn) {
+        measure_one(1, full ? FULL : RANDOM, 60, 4, nanoseconds);
+        return 0;
+    }
     bool looks = nanoseconds > 1000000;
+    if (waits) {
+        measure_one(WAITERS, FULL, 60, 4, nanoseconds);
+        measure_one(WAITERS, RANDOM, 60, 4, nanoseconds);
+        return looks && is_disturbed() ? DISTURBED : 0;
+    }
     for (unsigned c = 0; c < sizeof counts / sizeof *counts; c++) {
         if (looks && is_disturbed()) disturbed = true;
         if (disturbed && !anyway) return DISTURBED;
         for (draw draw = FULL; draw <= RANDOM; draw++)
             for (unsigned r = 0; r < sizeof readers / sizeof *readers; r++)
-                measure_one(draw, readers[r], counts[c], nanoseconds);
+                measure_one(PEERS, draw, readers[r], counts[c], nanoseconds);
     }
     return disturbed || (looks && is_disturbed()) ? DISTURBED : 0;
 }

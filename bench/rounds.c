@@ -11,7 +11,7 @@
 typedef struct worker {
     _Alignas(64) pthread_t thread;
     unsigned number;
-    uint64_t random, turns, additions, longest;
+    uint64_t random, turns, additions, waited, longest;
     bool differed;
 } worker;
 
@@ -129,6 +129,7 @@ static void *take_turns(void *argument) {
         which->take(me->number, lo, hi, writer);
         if (of.waits) {
             uint64_t waited = __rdtsc() - asked;
+            me->waited += waited;
             if (waited > me->longest) me->longest = waited;
         }
         use(me, lo, hi, writer);
@@ -163,11 +164,12 @@ static outcome run_round(long long nanoseconds) {
     begun = true;
     sleep_for(nanoseconds);
     ended = true;
-    uint64_t turns = 0, additions = 0, longest = 0, fewest = UINT64_MAX;
+    uint64_t turns = 0, additions = 0, waited = 0, longest = 0, fewest = UINT64_MAX;
     bool differed = false;
     for (unsigned i = 0; i < of.threads; i++) {
         pthread_join(workers[i].thread, NULL);
         turns += workers[i].turns, additions += workers[i].additions, differed |= workers[i].differed;
+        waited += workers[i].waited;
         if (workers[i].turns < fewest) fewest = workers[i].turns;
         if (workers[i].longest > longest) longest = workers[i].longest;
     }
@@ -175,7 +177,7 @@ static outcome run_round(long long nanoseconds) {
     which->close();
     look_for_losses(differed, additions);
     return (outcome){ (double)turns * 1e9 / took, 100.0 * (double)fewest * of.threads / (double)(turns ? turns : 1),
-                      (double)longest / ticks_each() };
+                      (double)waited / (double)(turns ? turns : 1) / ticks_each(), (double)longest / ticks_each() };
 }
 
 static int compare(const void *a, const void *b) {
@@ -192,12 +194,14 @@ void measure(const peer *const peers[], unsigned count, const load *load, long l
             outcome one = run_round(nanoseconds);
             rates[p][round] = one.rate;
             if (round == 0) outcomes[p] = one;
+            else outcomes[p].mean_wait += one.mean_wait;
             if (one.least_share < outcomes[p].least_share) outcomes[p].least_share = one.least_share;
             if (one.longest_wait > outcomes[p].longest_wait) outcomes[p].longest_wait = one.longest_wait;
         }
     for (unsigned p = 0; p < count; p++) {
         qsort(rates[p], ROUNDS, sizeof(double), compare);
         outcomes[p].rate = rates[p][ROUNDS / 2];
+        outcomes[p].mean_wait /= ROUNDS;
     }
 }
 

@@ -24,12 +24,13 @@ typedef struct load {
 typedef struct outcome {
     double rate;          /* turns of all threads in a second */
     double least_share;   /* the turns of the thread that made fewest, in hundredths of an even share */
-    double longest_wait;  /* nanoseconds that a single take lasted; 0 where waits aren't timed */
+    double mean_wait;     /* nanoseconds that a take lasted in the mean; 0 where waits aren't timed */
+    double longest_wait;  /* nanoseconds that a single take lasted at most; 0 likewise */
 } outcome;
 
-/* One round of each peer after the other, and that three times: for each the middle rate, the least share and the
-   longest wait. Ends the program where a peer that is to exclude didn't: where an addition to a slot was lost, or a
-   reader of slots that are always changed together saw them differ. */
+/* One round of each peer after the other, and that three times: for each the middle rate, the least share, the mean of
+   the mean waits and the longest wait. Ends the program where a peer that is to exclude didn't: where an addition to a
+   slot was lost, or a reader of slots that are always changed together saw them differ. */
 void measure(const peer *const peers[], unsigned count, const load *load, long long nanoseconds, outcome outcomes[]);
 
 /* How many turns of work take a nanosecond. */

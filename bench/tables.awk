@@ -1,6 +1,7 @@
 # Makes Markdown of what arrbench or when_it_pays wrote, whose lines are separated by tabs.
 #
 #     awk -F '\t' -v of=arrbench -f tables.awk FILE        a table for each kind of range, and one of shares and waits
+#     awk -F '\t' -v of=waits -f tables.awk FILE           the mean and the longest wait of long rounds
 #     awk -F '\t' -v of=when_it_pays -f tables.awk FILE    from which work on the range lock is ahead of whom
 
 function seen(list, name,    i) {
@@ -17,9 +18,9 @@ function time_of(ns) { return ns < 1000 ? ns " ns" : ns / 1000 " µs" }
 
 function wait_of(us) { return us < 1000 ? sprintf("%.2f", us / 1000) : us < 10000 ? sprintf("%.1f", us / 1000) : sprintf("%.0f", us / 1000) }
 
-of == "arrbench" {
+of == "arrbench" || of == "waits" {
     seen("kinds", $1); seen("readers", $2); seen("threads", $3); seen("peers", $4)
-    rate[$1, $2, $3, $4] = $5; share[$1, $2, $3, $4] = $6; wait[$1, $2, $3, $4] = $7
+    rate[$1, $2, $3, $4] = $5; share[$1, $2, $3, $4] = $6; wait[$1, $2, $3, $4] = $7; mean[$1, $2, $3, $4] = $8
 }
 
 of == "when_it_pays" {
@@ -68,6 +69,19 @@ function print_arrbench(    k, t, p, head, line, cells) {
             shares("full", 16, item["peers", p]) shares("random", 16, item["peers", p]))
 }
 
+# The rate and the waits of a load in long rounds.
+function waited(kind, peer) {
+    return " " number(rate[kind, 60, 4, peer]) " | " sprintf("%.1f", mean[kind, 60, 4, peer]) " | " wait_of(wait[kind, 60, 4, peer]) " |"
+}
+
+function print_waits(    p) {
+    print "Three long rounds on 4 threads, 60 readers in 100: million turns a second, the mean wait in microseconds with the"
+    print "call itself, and the longest in milliseconds:\n"
+    print "| | full: turns | mean wait | longest | random: turns | mean wait | longest |"
+    print "|---|---|---|---|---|---|---|"
+    for (p = 1; p <= count["peers"]; p++) row(item["peers", p], waited("full", item["peers", p]) waited("random", item["peers", p]))
+}
+
 # The least work from which on one peer is ahead of another by 2 in 100 or more, at that and each longer work.
 function ahead(mode, threads, mine, other,    w) {
     w = count["works"]
@@ -90,5 +104,6 @@ function print_when_it_pays(    m, t, p, line) {
 
 END {
     if (of == "arrbench") print_arrbench()
+    else if (of == "waits") print_waits()
     else print_when_it_pays()
 }
