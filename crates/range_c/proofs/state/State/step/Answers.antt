@@ -8,22 +8,22 @@ use Rattle.range_c.proofs.state.State.step.Goals.{in-Ok, in-Err}
 -- every load is allowed, at whatever the seat holds and knows
 pub load_as_uncounted-requires-clause-allowed : goal.load_as_uncounted-requires-clause-allowed
 load_as_uncounted-requires-clause-allowed c =
-    may_step c.self.inside.seat.number c.self.inside.seat.held c.self.inside.seat.pass (loads c.args.i)
+    may_step c.self.inside.seat.number c.self.inside.seat.held c.self.inside.seat.pass (loads _)
 
 -- so is every store
 pub store_as_uncounted-requires-clause-allowed : goal.store_as_uncounted-requires-clause-allowed
 store_as_uncounted-requires-clause-allowed c =
-    may_step c.self.inside.seat.number c.self.inside.seat.held c.self.inside.seat.pass (stores c.args.i c.in-Store.value)
+    may_step c.self.inside.seat.number c.self.inside.seat.held c.self.inside.seat.pass (stores _ _)
 
 -- so is every addition
 pub add_as_uncounted-requires-clause-allowed : goal.add_as_uncounted-requires-clause-allowed
 add_as_uncounted-requires-clause-allowed c =
-    may_step c.self.inside.seat.number c.self.inside.seat.held c.self.inside.seat.pass (adds c.args.i c.in-Add.by)
+    may_step c.self.inside.seat.number c.self.inside.seat.held c.self.inside.seat.pass (adds _ _)
 
 -- so is every exchange
 pub exchange_as_uncounted-requires-clause-allowed : goal.exchange_as_uncounted-requires-clause-allowed
 exchange_as_uncounted-requires-clause-allowed c =
-    may_step c.self.inside.seat.number c.self.inside.seat.held c.self.inside.seat.pass (exchanges c.args.i c.in-Exchange.expected c.in-Exchange.new)
+    may_step c.self.inside.seat.number c.self.inside.seat.held c.self.inside.seat.pass (exchanges _ _ _)
 
 -- what an exchange is told as is what it came to
 pub returns-after-exchange_as_uncounted : goal.returns-after-exchange_as_uncounted
