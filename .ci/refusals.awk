@@ -35,7 +35,8 @@ function place_of(crate, text, file, goal, line) {
         file = file " " function_at("crates/" crate "/" file, line) goal
         return text ~ /proved that (what |the `?invariant)/ ? file : "! beside clauses: " file
     }
-    if (sub(/^[^`]*: error: `/, "", goal) == 0) return "! " file
+    # The answer itself, or the first one on which others rest.
+    if (sub(/^[^`]*: error: ([0-9]+ declarations that depend on )?`/, "", goal) == 0) return "! " file
     sub(/`.*/, "", goal)
     return "! an answer that no longer fits: " file " " goal
 }
