@@ -6,7 +6,6 @@ pub mod OneList
 pub mod PutRows
 pub mod Splices
 pub mod RowChanges
-pub mod RowPatches
 pub mod PlanLeft
 pub mod Loading
 pub mod Comes

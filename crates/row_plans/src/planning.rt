@@ -10,7 +10,7 @@ ghost use Rattle.page_types.specs.Named.{IsNamedOption};
 ghost use Rattle.space_model.specs.Starts.{same_option};
 ghost use Rattle.space_model.specs.Effect.{painted, patched, AreRising};
 ghost use Rattle.space_model.specs.Cutting.{last_end};
-ghost use Rattle.space_model.specs.Judges.{IsNamedPaint, AreNamedPaints, patches_of};
+ghost use Rattle.space_model.specs.Judges.{IsNamedPaint, AreNamedPaints, second_of, patches_of};
 ghost use Rattle.row_plans.specs.RowLists.{rows_start, ShowFrom, IsBareGap};
 ghost use Rattle.row_plans.specs.RowWords.{row_kind};
 ghost use Rattle.row_plans.specs.Plans.{spliced, IsPlaceOf};
@@ -249,6 +249,51 @@ fn put_to<R: Rows>(
     now
 }
 
+/// Appends the pages between two patches and those of the second one, if there is one. The old rows were gone through
+/// up to the end of the first patch; it goes through them up to the end of the last one.
+fn put_second<R: Rows>(
+    rows: &mut Vec<u64>,
+    old: &R,
+    hand: &mut R::Hand,
+    from: u64,
+    second: Option<Patch>,
+    come: Come<R::Place>,
+) -> Come<R::Place>
+    requires may { R.may_load old.now hand.old }
+    requires paints { AreNamedPaints (second_of second) }
+    requires rising { AreRising from (second_of second) }
+    requires come { IsCome (R.words old.now hand.old) (R.number old.now hand.old) from come }
+    requires room { length rows.old.items + length (R.words old.now hand.old) + 2 * length (second_of second)
+        ≤ come_to (R.number old.now hand.old) come + vec_capacity rows.old }
+    requires gaps { All IsBareGap rows.old.items }
+    ensures come { IsCome (R.words old.now hand.old) (R.number old.now hand.old) (last_end from (second_of second)) result }
+    ensures at { result.at ≡ come.at }
+    ensures few { length rows.new.items + come.gone ≤ length rows.old.items + result.gone + 2 * length (second_of second) }
+    ensures room { vec_capacity rows.old ≤ vec_capacity rows.new }
+    ensures gaps { All IsBareGap rows.new.items }
+    ensures shows { (begin : ℕ) (kinds others : ℕ → Option Kind) → ShowFrom 0 (R.words old.now hand.old) kinds
+        → ((p : ℕ) → from ≤ p → others p ≡ patched (second_of second) kinds p)
+        → ShowTo begin rows.old.items from others → ShowTo begin rows.new.items (last_end from (second_of second)) others }
+    ensures loaded { R.loaded old.now hand.old hand.new }
+    ensures steps { R.steps old.now hand.new + 6 * come.gone ≤ R.steps old.now hand.old + 6 * result.gone }
+{
+    let Some(patch) = second else {
+        return come;
+    };
+    let between = Stretch {
+        from,
+        to: patch.lo,
+        paint: None,
+    };
+    let next = put_to(rows, old, hand, between, come);
+    let own = Stretch {
+        from: patch.lo,
+        to: patch.hi,
+        paint: Some(patch.paint),
+    };
+    put_to(rows, old, hand, own, next)
+}
+
 /// Ends the rows that come, behind a page up to which the old rows were gone through. What is left of the last of these
 /// is put as it was, and the row behind goes where it is of the kind of the last row that comes. It gives how many go.
 fn join_on<R: Rows>(
@@ -286,6 +331,16 @@ fn join_on<R: Rows>(
     come.gone
 }
 
+/// The page behind the last one that a change paints.
+fn end_of(change: Change) -> u64
+    ensures { result ≡ last_end 0 (patches_of change) }
+{
+    match change.second {
+        None => change.first.hi,
+        Some(second) => second.hi,
+    }
+}
+
 /// The splice that a change makes of the rows: which go, and which come in their place.
 pub(crate) fn plan_change<R: Rows>(
     old: &R,
@@ -317,28 +372,10 @@ pub(crate) fn plan_change<R: Rows>(
         paint: Some(first.paint),
     };
     let next = put_to(rows, old, hand, own, begun);
-    match change.second {
-        None => Cut {
-            at: begun.at,
-            gone: join_on(rows, old, hand, first.hi, next),
-        },
-        Some(second) => {
-            let between = Stretch {
-                from: first.hi,
-                to: second.lo,
-                paint: None,
-            };
-            let again = put_to(rows, old, hand, between, next);
-            let other = Stretch {
-                from: second.lo,
-                to: second.hi,
-                paint: Some(second.paint),
-            };
-            let last = put_to(rows, old, hand, other, again);
-            Cut {
-                at: begun.at,
-                gone: join_on(rows, old, hand, second.hi, last),
-            }
-        }
+    let last = put_second(rows, old, hand, first.hi, change.second, next);
+    let to = end_of(change);
+    Cut {
+        at: begun.at,
+        gone: join_on(rows, old, hand, to, last),
     }
 }

@@ -15,16 +15,17 @@ use Rattle.row_plans.proofs.planning.join_on.Given.{Over}
 use Rattle.row_plans.proofs.planning.join_on.Goals.{After-put_part, After-read_row-kind}
 use Rattle.row_plans.proofs.planning.join_on.Goals as goal
 
--- what is left of the last row before is put as it was
+-- what is left of the last row before is put as it was, up to where the row behind starts
 part : (g : Over) (c : After-put_part g) (from : ℕ) (kinds others : ℕ → Option Kind) → ShowFrom 0 (g.R.Rows.words c.args.old.now c.args.hand.now) kinds
     → ((p : ℕ) → c.args.to ≤ p → p < LIMIT → others p ≡ kinds p) → ShowTo from c.args.rows.now.items c.args.to others
-    → ShowTo from c.put_part.new.rows.items c.args.come.end others
+    → ShowTo from c.put_part.new.rows.items (rows_start (drop (come_to (g.R.Rows.number c.args.old.now c.args.hand.now) c.args.come)
+    (g.R.Rows.words c.args.old.now c.args.hand.now))) others
 part g c from kinds others show kept before =
     let words = g.R.Rows.words c.args.old.now c.args.hand.now in let number = g.R.Rows.number c.args.old.now c.args.hand.now in
     let come = c.requires.come in let end = come.end in let ahead = come.before.ahead in
     let limit = start_low words (come_to number c.args.come) kinds show in
-    c.put_part.ensures.shows from others (omega arith)
-    (λ p low high. kept p low (omega arith) ∙ come_kind words number kinds c.args.to c.args.come show come p low high) before
+    subst (λ (x : ℕ). ShowTo from c.put_part.new.rows.items x others) end (c.put_part.ensures.shows from others (omega arith)
+    (λ p low high. kept p low (omega arith) ∙ come_kind words number kinds c.args.to c.args.come show come p low high) before)
 
 -- there is a row behind, and its kind is loaded
 behind : (g : Over) (c : After-read_row-kind g) → let words = g.R.Rows.words c.args.old.now c.args.hand.now in
@@ -68,14 +69,13 @@ pub returns-then-ends_with-clause-shows : goal.returns-then-ends_with-clause-sho
 returns-then-ends_with-clause-shows g c = λ from kinds others show kept before.
     let h = goal.at.returns-then-ends_with-clause-shows g c in let words = g.R.Rows.words c.args.old.now c.args.hand.now in
     let number = g.R.Rows.number c.args.old.now c.args.hand.now in let next = come_to number c.args.come in let come = c.requires.come in
-    let ahead = come.before.ahead in let end = come.end in
-    let limit = start_low words next kinds show in
+    let ahead = come.before.ahead in
     let row = behind g h.After-read_row-kind in let kind = c.read_row-kind.result.1 in
     let same_kind : ends_with c.put_part.new.rows.items kind ≡ true = search rules in
     let r = row_pages words kinds next show row.0 refl row.1 refl in
     let begins = r.begins in let some = r.some in let low_end = r.low in
     subst (λ (n : ℕ). ShowTo from c.put_part.new.rows.items (rows_start (drop n words)) others) (further _ number c.args.come)
-    (last_longer from c.put_part.new.rows.items c.args.come.end (rows_start (drop (next + 1) words)) kind others c.read_row-kind.ensures.named
+    (last_longer from c.put_part.new.rows.items (rows_start (drop next words)) (rows_start (drop (next + 1) words)) kind others c.read_row-kind.ensures.named
     same_kind (omega arith) (λ p low high. kept p (omega arith) (omega arith) ∙ r.all p (omega arith) high)
     (part g h.After-put_part from kinds others show kept before))
 
@@ -91,9 +91,7 @@ returns-then-ends_with-clause-differs g c =
 
 -- where the row behind stays, the rows that come end before it
 pub returns-else-ends_with-clause-shows : goal.returns-else-ends_with-clause-shows
-returns-else-ends_with-clause-shows g c = λ from kinds others show kept before.
-    subst (λ (x : ℕ). ShowTo from c.put_part.new.rows.items x others) c.requires.come.end
-    (part g (goal.at.returns-else-ends_with-clause-shows g c).After-put_part from kinds others show kept before)
+returns-else-ends_with-clause-shows g c = part g (goal.at.returns-else-ends_with-clause-shows g c).After-put_part
 
 -- it is of another kind
 pub returns-else-ends_with-clause-differs : goal.returns-else-ends_with-clause-differs
@@ -104,6 +102,4 @@ returns-else-ends_with-clause-differs g c =
 
 -- where there is no row behind, they end at LIMIT
 pub returns-in_default-clause-shows : goal.returns-in_default-clause-shows
-returns-in_default-clause-shows g c = λ from kinds others show kept before.
-    subst (λ (x : ℕ). ShowTo from c.put_part.new.rows.items x others) c.requires.come.end
-    (part g (goal.at.returns-in_default-clause-shows g c).After-put_part from kinds others show kept before)
+returns-in_default-clause-shows g c = part g (goal.at.returns-in_default-clause-shows g c).After-put_part
