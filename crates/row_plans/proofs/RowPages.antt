@@ -59,10 +59,10 @@ ends_all (w ∷ rest) zero le = absurd (omega arith)
 ends_all (w ∷ rest) (suc i) le = ends_all rest i (omega arith)
 
 -- one row more has no such page
-pub none_more : (rows : List ℕ) (kinds : ℕ → Option Kind) (sort : Sort) (lo i start end : ℕ) (kind : Option Kind)
+pub none_more : {rows : List ℕ} {kinds : ℕ → Option Kind} {i start end : ℕ} {kind : Option Kind} (sort : Sort) (lo : ℕ)
     → RowPages rows kinds i start end kind → is_sort sort kind ≡ false
     → NoneOf kinds sort lo (rows_start (drop i rows)) → NoneOf kinds sort lo (rows_start (drop (i + 1) rows))
-none_more rows kinds sort lo i start end kind r other none page from high =
+none_more {start = start} sort lo r other none page from high =
     let b = r.begins in let e = r.ends in
     elim (cases_lt page start) [
       | inl lt ↦ none page from (omega arith)
@@ -70,10 +70,10 @@ none_more rows kinds sort lo i start end kind r other none page from high =
     ]
 
 -- or it has the lowest one, and the search ends there or at `hi`
-pub end_here : (rows : List ℕ) (kinds : ℕ → Option Kind) (sort : Sort) (lo hi i start end page result : ℕ) (kind : Option Kind)
+pub end_here : {rows : List ℕ} {kinds : ℕ → Option Kind} {i start end : ℕ} {kind : Option Kind} (sort : Sort) (lo hi page result : ℕ)
     → RowPages rows kinds i start end kind → lo ≤ hi → lo < end → is_sort sort kind ≡ true
     → NoneOf kinds sort lo (rows_start (drop i rows)) → page ≡ max start lo → result ≡ min page hi → IsEnd kinds sort lo hi result
-end_here rows kinds sort lo hi i start end page result kind r ordered some such none is low =
+end_here {kinds = kinds} {start = start} sort lo hi page result r ordered some such none is low =
     let b = r.begins in let s = r.some in
     record {
       from = omega arith;
@@ -89,8 +89,8 @@ pub none_yet : (kinds : ℕ → Option Kind) (sort : Sort) (lo start : ℕ) → 
 none_yet kinds sort lo start le page from high = absurd (omega arith)
 
 -- where no page up to `hi` is of the sort, the search ends at `hi`
-pub end_passed : (kinds : ℕ → Option Kind) (sort : Sort) (lo hi at : ℕ) → lo ≤ hi → hi ≤ at → NoneOf kinds sort lo at → IsEnd kinds sort lo hi hi
-end_passed kinds sort lo hi at ordered past none = record {
+pub end_passed : (kinds : ℕ → Option Kind) (sort : Sort) (lo hi at : ℕ) → lo ≤ hi → NoneOf kinds sort lo at → hi ≤ at → IsEnd kinds sort lo hi hi
+end_passed kinds sort lo hi at ordered none past = record {
   from = ordered;
   within = omega arith;
   such = λ l. absurd (omega arith);
@@ -119,19 +119,24 @@ pub row_before : (rows : List ℕ) (kinds : ℕ → Option Kind) (i : ℕ) {star
     → i < length rows → start ≡ row_start (get_or rows i 0) → kind ≡ row_kind (get_or rows i 0) → 0 < start → kinds (start - 1) ≢ kind
 row_before rows kinds i show lt s k = rw (s, k) (row_before_by rows kinds i show lt)
 
+-- a search for the highest place has come down to a row: the page before it is of another kind, and no place ends behind it
+pub record HasCome (rows : List ℕ) (kinds : ℕ → Option Kind) (i window pages start end : ℕ) (kind : Option Kind) : Type 0 where
+  pub row : RowPages rows kinds i start end kind
+  pub before : 0 < start → kinds (start - 1) ≢ kind
+  pub ended : NoneEndsAbove kinds window pages end
+
 -- a place that ends in a row lies in it, and the row is free: where none fits in the row and the window each place ends
 -- before it, and otherwise the row's end, or the window's, has the highest one
-module _ (kinds : ℕ → Option Kind) (window pages start end top : ℕ) (kind : Option Kind) (all : (p : ℕ) → start ≤ p → p < end
-    → kinds p ≡ kind) (before : 0 < start → kinds (start - 1) ≢ kind) (some : 0 < pages) (grows : start < end)
-    (clipped : top ≡ min end window) (ended : NoneEndsAbove kinds window pages end) where
+module _ {rows : List ℕ} {kinds : ℕ → Option Kind} {i window pages start end top : ℕ} {kind : Option Kind}
+    (come : HasCome rows kinds i window pages start end kind) (some : 0 < pages) (clipped : top ≡ min end window) where
   in_the_row : (s : ℕ) → s + pages ≤ end → ¬ (s + pages ≤ start) → FitsAt kinds window pages s → (kind ≡ None) × (start ≤ s)
   in_the_row s fits new f =
       let last : kinds (s + pages - 1) ≡ None = f.free (s + pages - 1) (omega arith) (omega arith) in
-      let own : kinds (s + pages - 1) ≡ kind = all (s + pages - 1) (omega arith) (omega arith) in
+      let own : kinds (s + pages - 1) ≡ kind = come.row.all (s + pages - 1) (omega arith) (omega arith) in
       let free : kind ≡ None = sym own ∙ last in (
         free,
         elim (cases_lt s start) [
-          | inl lt ↦ absurd (before (omega arith) (f.free (start - 1) (omega arith) (omega arith) ∙ sym free))
+          | inl lt ↦ absurd (come.before (omega arith) (f.free (start - 1) (omega arith) (omega arith) ∙ sym free))
           | inr ge ↦ ge
         ],
       )
@@ -139,7 +144,7 @@ module _ (kinds : ℕ → Option Kind) (window pages start end top : ℕ) (kind 
   -- where so many pages don't fit into a row, no place ends above the row's start
   pub ends_before : (kind ≡ None → max start LOWEST + pages ≤ top → ⊥) → NoneEndsAbove kinds window pages start
   ends_before no_fit s f =
-      let e : s + pages ≤ end = ended s f in
+      let e : s + pages ≤ end = come.ended s f in
       elim (cases_lt start (s + pages)) [
         | inl lt ↦ let i = in_the_row s e (omega arith) f in let l = f.low in let h = f.high in let g = i.1 in absurd (no_fit i.0 (omega arith))
         | inr ge ↦ ge
@@ -153,9 +158,9 @@ module _ (kinds : ℕ → Option Kind) (window pages start end top : ℕ) (kind 
             record {
               low = omega arith;
               high = omega arith;
-              free = λ p above below. all p (omega arith) (omega arith) ∙ free;
+              free = λ p above below. come.row.all p (omega arith) (omega arith) ∙ free;
             };
-        highest = λ s f. let e : s + pages ≤ end = ended s f in let h = f.high in omega arith;
+        highest = λ s f. let e : s + pages ≤ end = come.ended s f in let h = f.high in omega arith;
       }
 
 -- past the first row there is no place

@@ -14,8 +14,9 @@ use Rattle.space_model.specs.Judges.{Makes, IsNamedPaint}
 use Rattle.space_model.specs.Places.{FitsAt}
 use Rattle.space_model.specs.Starts.{same_option}
 use Rattle.page_types.specs.Named.{IsNamedOption}
+use Rattle.row_plans.specs.declared.plan.Planned.{Planned}
 use Rattle.row_plans.specs.declared.planning.Come.{Come}
-use Rattle.row_plans.specs.Plans.{PlanShows, IsPlaceOf}
+use Rattle.row_plans.specs.Plans.{PlanShows, IsPlaceOf, spliced}
 use Rattle.row_plans.specs.RowWords.{row_start, row_kind, row_word}
 use Rattle.row_plans.specs.RowLists.{DiffersFrom, rows_start}
 
@@ -89,3 +90,9 @@ pub record IsMade (change : Change) (reply : Reply) (count : ℕ) (plan : List �
   pub made : Makes state change reply left
   pub counted : count ≡ row_count left
   pub shows : PlanShows plan (kind_at left)
+
+-- a plan leaves the rows as they are, where places tell the numbers of rows
+pub record IsUnchanged {P : Type 0} (rows : List ℕ) (number : P → ℕ) (plan : Planned P) (more : List ℕ) : Type 0 where
+  pub at : number plan.cut.at < length rows
+  pub counted : plan.rows ≡ length rows
+  pub same : spliced number rows plan.cut more ≡ rows

@@ -12,7 +12,7 @@ ghost use Rattle.space_model.specs.Cutting.{last_end};
 ghost use Rattle.space_model.specs.Judges.{IsNamedChange, patches_of};
 ghost use Rattle.row_plans.specs.RowLists.{areas_from};
 ghost use Rattle.row_plans.specs.Plans.{spliced, IsPlan, ChangesPages, LeavesRows};
-ghost use Rattle.row_plans.specs.Planning.{IsMade};
+ghost use Rattle.row_plans.specs.Planning.{IsMade, IsUnchanged};
 ghost use Rattle.row_plans.specs.Loads.{TakesLoads, change_loads};
 
 use crate::places::RowPages;
@@ -33,19 +33,22 @@ pub struct Planned<P> {
 }
 
 /// The plan of a call that changes nothing: no row goes, and none comes.
-fn unchanged<P>(first: P, count: u32, reply: Reply, new: &mut Vec<u64>) -> Planned<P>
+fn unchanged<R: Rows>(old: &R, reply: Reply, new: &mut Vec<u64>) -> Planned<R::Place>
     ensures reply { result.reply ≡ reply }
-    ensures rows { result.rows ≡ count }
-    ensures at { result.cut.at ≡ first }
     ensures gone { result.cut.gone ≡ 0 }
     ensures none { new.new.items ≡ [] }
+    ensures few { length new.new.items ≡ 0 }
+    ensures same { (hand : R.Hand) → R.may_load old.now hand → IsUnchanged (R.words old.now hand) (R.number old.now hand) result new.new.items }
     ensures room { vec_capacity new.old ≤ vec_capacity new.new }
 {
     new.clear();
     Planned {
         reply,
-        rows: count,
-        cut: Cut { at: first, gone: 0 },
+        rows: old.count(),
+        cut: Cut {
+            at: old.first(),
+            gone: 0,
+        },
     }
 }
 
@@ -75,7 +78,7 @@ fn changed<R: Rows>(
     let cut = plan_change(old, hand, change, new);
     let rows = count - cut.gone + new.len() as u32;
     if rows as usize > ROWS {
-        return unchanged(old.first(), count, full_reply(change.full, rows), new);
+        return unchanged(old, full_reply(change.full, rows), new);
     }
     Planned {
         reply: change.reply,
@@ -111,12 +114,12 @@ pub fn plan_rows<R: Rows>(
     ensures loads { TakesLoads (R.words old.now hand.old) call.now (R.steps old.now hand.old) (R.steps old.now hand.new) }
 {
     if let Some(reply) = plain(call) {
-        return unchanged(old.first(), old.count(), reply, new);
+        return unchanged(old, reply, new);
     }
     let pages = RowPages { rows: old };
     match judge(&pages, hand, call) {
-        Judged::Refused(why) => unchanged(old.first(), old.count(), Reply::Refused(why), new),
-        Judged::Keeps(reply) => unchanged(old.first(), old.count(), reply, new),
+        Judged::Refused(why) => unchanged(old, Reply::Refused(why), new),
+        Judged::Keeps(reply) => unchanged(old, reply, new),
         Judged::Changes(change) => changed(old, hand, change, new),
     }
 }

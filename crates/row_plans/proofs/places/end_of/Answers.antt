@@ -5,7 +5,7 @@ use Rattle.space_model.specs.Sorts.{NoneOf}
 use Rattle.row_plans.specs.RowWords.{row_start, row_kind}
 use Rattle.row_plans.specs.RowLists.{rows_start, areas_from}
 use Rattle.row_plans.specs.Plans.{IsPlaceOf}
-use Rattle.row_plans.specs.Loads.{rows_between, between_within}
+use Rattle.row_plans.specs.Loads.{rows_between, search_loads, between_within}
 use Rattle.row_plans.proofs.RowsBetween.{more_up}
 use Rattle.row_plans.proofs.RowPages.{RowPages, row_pages, next_start, none_yet, none_more, end_here, end_passed}
 use Rattle.row_plans.proofs.Loading.{HasLoaded, loads_first, loads_on, as_before}
@@ -58,35 +58,23 @@ row g c =
 -- where it is of the sort, the first page is the lowest one
 pub returns-then-is_sort-clause-end : goal.returns-then-is_sort-clause-end
 returns-then-is_sort-clause-end g c =
-    let h = (goal.at.returns-then-is_sort-clause-end g c).After-read_row-kind in let words = g.R.Rows.words c.args.rows.now c.args.hand.now in
-    let found = c.find-row.ensures in let from = found.from in let until = found.until in let ordered = c.requires.ordered in
-    end_here words (kind_at (areas_from words)) c.args.sort c.args.lo c.args.hi (g.R.Rows.number c.args.rows.now c.args.hand.now c.find-row.result.at)
-    (row_start c.find-row.result.word) c.find-row.result.end c.args.lo c.args.lo c.read_row-kind.result.1 (first g h) ordered until (search rules)
-    (first_none g h) (omega arith) (omega arith)
+    let h = (goal.at.returns-then-is_sort-clause-end g c).After-read_row-kind in let from = c.find-row.ensures.from in
+    end_here _ _ _ c.args.lo _ (first g h) c.requires.ordered c.find-row.ensures.until (search rules) (first_none g h) (omega arith) (omega arith)
 
 -- where it isn't, and ends at `hi` or behind it, the search ends there
 pub returns-then-row-hi-clause-end : goal.returns-then-row-hi-clause-end
 returns-then-row-hi-clause-end g c =
-    let h = (goal.at.returns-then-row-hi-clause-end g c).After-read_row-kind in let words = g.R.Rows.words c.args.rows.now c.args.hand.now in
-    let kinds = kind_at (areas_from words) in
-    let at = g.R.Rows.number c.args.rows.now c.args.hand.now c.find-row.result.at in let r = first g h in let over = c.if-row-hi.true in
-    let ends = r.ends in
-    end_passed kinds c.args.sort c.args.lo c.args.hi (rows_start (drop (at + 1) words)) c.requires.ordered (omega arith)
-    (none_more words kinds c.args.sort c.args.lo at (row_start c.find-row.result.word) c.find-row.result.end c.read_row-kind.result.1 r (search rules)
-    (first_none g h))
+    let h = (goal.at.returns-then-row-hi-clause-end g c).After-read_row-kind in let over = c.if-row-hi.true in let ends = (first g h).ends in
+    end_passed _ _ _ _ _ c.requires.ordered (none_more c.args.sort c.args.lo (first g h) (search rules) (first_none g h)) (omega arith)
 
 -- otherwise none lies before the row behind, which starts behind the first page
 pub rows-init : goal.rows-init
 rows-init g c =
-    let h = (goal.at.rows-init g c).After-read_row-kind in let words = g.R.Rows.words c.args.rows.now c.args.hand.now in
-    let kinds = kind_at (areas_from words) in
-    let at = g.R.Rows.number c.args.rows.now c.args.hand.now c.find-row.result.at in let found = c.find-row.ensures in
+    let h = (goal.at.rows-init g c).After-read_row-kind in let found = c.find-row.ensures in
     record {
       loaded = found.loaded;
       there = found.there;
-      none =
-          none_more words kinds c.args.sort c.args.lo at (row_start c.find-row.result.word) c.find-row.result.end c.read_row-kind.result.1 (first g h)
-          (search rules) (first_none g h);
+      none = none_more c.args.sort c.args.lo (first g h) (search rules) (first_none g h);
       reach = subst (λ (x : ℕ). c.args.lo < x) found.end found.until;
       few = let loads = found.steps in omega arith;
     }
@@ -114,12 +102,23 @@ loads_here g c =
     let next = c.next.ensures.steps in let load = c.load.ensures.steps in
     omega arith
 
+-- so no more than those of a search up to a page behind which it starts
+loads_to : (g : Over) (c : After-read_row-start g) (end : ℕ)
+    → min c.args.hi (rows_start (drop (g.R.Rows.number c.args.rows.now c.args.hand.now c.in-Some.next) (g.R.Rows.words c.args.rows.now c.args.hand.now))) ≤ end
+    → g.R.Rows.steps c.args.rows.now c.load.new.hand ≤ g.R.Rows.steps c.args.rows.now c.args.hand.now
+    + search_loads (g.R.Rows.words c.args.rows.now c.args.hand.now) c.args.lo end
+loads_to g c end high =
+    let words = g.R.Rows.words c.args.rows.now c.args.hand.now in let all = loads_here g c in
+    let start = rows_start (drop (g.R.Rows.number c.args.rows.now c.args.hand.now c.in-Some.next) words) in
+    let within = between_within words c.args.lo (min c.args.hi start) c.args.lo end (omega arith) high in
+    omega arith
+
 -- where it starts at `hi` or behind it, the search ends there
 pub returns-then-start-hi-clause-end : goal.returns-then-start-hi-clause-end
 returns-then-start-hi-clause-end g c =
-    let h = (goal.at.returns-then-start-hi-clause-end g c).After-read_row-start in let words = g.R.Rows.words c.args.rows.now c.args.hand.now in
-    let i = g.R.Rows.number c.args.rows.now c.args.hand.now c.in-Some.next in let begins = (row g h).2.begins in let over = c.if-start-hi.true in
-    end_passed (kind_at (areas_from words)) c.args.sort c.args.lo c.args.hi (rows_start (drop i words)) c.requires.ordered (omega arith) (none_here g h).0
+    let h = (goal.at.returns-then-start-hi-clause-end g c).After-read_row-start in
+    let begins = (row g h).2.begins in let over = c.if-start-hi.true in
+    end_passed _ _ _ _ _ c.requires.ordered (none_here g h).0 (omega arith)
 
 -- by loads that are one
 pub returns-then-start-hi-clause-loaded : goal.returns-then-start-hi-clause-loaded
@@ -128,20 +127,14 @@ returns-then-start-hi-clause-loaded g c = (row g (goal.at.returns-then-start-hi-
 -- no row more starts before `hi`
 pub returns-then-start-hi-clause-steps : goal.returns-then-start-hi-clause-steps
 returns-then-start-hi-clause-steps g c =
-    let words = g.R.Rows.words c.args.rows.now c.args.hand.now in
-    let start = rows_start (drop (g.R.Rows.number c.args.rows.now c.args.hand.now c.in-Some.next) words) in
-    let all = loads_here g (goal.at.returns-then-start-hi-clause-steps g c).After-read_row-start in
-    let within = between_within words c.args.lo (min c.args.hi start) c.args.lo c.args.hi (omega arith) (omega arith) in
-    omega arith
+    loads_to g (goal.at.returns-then-start-hi-clause-steps g c).After-read_row-start c.args.hi (omega arith)
 
 -- where it is of the sort, its first page is the lowest one
 pub returns-then-is_sort-2-clause-end : goal.returns-then-is_sort-2-clause-end
 returns-then-is_sort-2-clause-end g c =
-    let h = (goal.at.returns-then-is_sort-2-clause-end g c).After-read_row-start in let words = g.R.Rows.words c.args.rows.now c.args.hand.now in
-    let i = g.R.Rows.number c.args.rows.now c.args.hand.now c.in-Some.next in let start = c.read_row-start.result.0 in let r = (row g h).2 in
+    let h = (goal.at.returns-then-is_sort-2-clause-end g c).After-read_row-start in let r = (row g h).2 in
     let begins = r.begins in let some = r.some in let reach = (none_here g h).1 in let below = c.if-start-hi.false in
-    end_here words (kind_at (areas_from words)) c.args.sort c.args.lo c.args.hi i start (rows_start (drop (i + 1) words)) start start
-    c.read_row-start.result.1 r c.requires.ordered (omega arith) (search rules) (none_here g h).0 (omega arith) (omega arith)
+    end_here _ _ _ c.read_row-start.result.0 _ r c.requires.ordered (omega arith) (search rules) (none_here g h).0 (omega arith) (omega arith)
 
 -- by loads that are one
 pub returns-then-is_sort-2-clause-loaded : goal.returns-then-is_sort-2-clause-loaded
@@ -150,11 +143,8 @@ returns-then-is_sort-2-clause-loaded g c = (row g (goal.at.returns-then-is_sort-
 -- no row more starts before it
 pub returns-then-is_sort-2-clause-steps : goal.returns-then-is_sort-2-clause-steps
 returns-then-is_sort-2-clause-steps g c =
-    let h = (goal.at.returns-then-is_sort-2-clause-steps g c).After-read_row-start in let words = g.R.Rows.words c.args.rows.now c.args.hand.now in
-    let start = rows_start (drop (g.R.Rows.number c.args.rows.now c.args.hand.now c.in-Some.next) words) in
-    let begins = (row g h).2.begins in let all = loads_here g h in
-    let within = between_within words c.args.lo (min c.args.hi start) c.args.lo c.read_row-start.result.0 (omega arith) (omega arith) in
-    omega arith
+    let h = (goal.at.returns-then-is_sort-2-clause-steps g c).After-read_row-start in let begins = (row g h).2.begins in
+    loads_to g h c.read_row-start.result.0 (omega arith)
 
 -- where it isn't, none lies before the row behind it
 pub rows-preserved : goal.rows-preserved
@@ -167,9 +157,7 @@ rows-preserved g c =
     record {
       loaded = r.3.loaded;
       there = r.1;
-      none =
-          none_more words kinds c.args.sort c.args.lo i c.read_row-start.result.0 (rows_start (drop (i + 1) words)) c.read_row-start.result.1 r.2
-          (search rules) (none_here g h).0;
+      none = none_more c.args.sort c.args.lo r.2 (search rules) (none_here g h).0;
       reach = omega arith;
       few =
           let begins = r.2.begins in let some = r.2.some in let below = c.if-start-hi.false in let all = loads_here g h in

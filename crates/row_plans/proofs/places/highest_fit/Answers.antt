@@ -1,32 +1,31 @@
-use Rattle.std.proofs.Common.{rules, ℕ, ◌≡◌, ◌<◌, ◌≢◌, ◌-◌, ◌+◌, drop, ap, sym, ◌∙◌, arith}
-use Rattle.std.specs.Prelude.{Option, IsTrue, IsFalse, slice_index}
-use Rattle.page_types.specs.declared.calls.Kind.{Kind}
+use Rattle.std.proofs.Common.{rules, ◌≡◌, ◌<◌, ◌-◌, ◌+◌, drop, ap, sym, ◌∙◌, arith}
+use Rattle.std.specs.Prelude.{IsTrue, IsFalse, slice_index}
 use Rattle.space_model.specs.Areas.{kind_at}
 use Rattle.row_plans.specs.RowWords.{row_start, row_kind}
-use Rattle.row_plans.specs.RowLists.{rows_start, ShowFrom, areas_from}
+use Rattle.row_plans.specs.RowLists.{rows_start, areas_from}
 use Rattle.row_plans.specs.Loads.{between_within}
-use Rattle.row_plans.proofs.RowPages.{RowPages, row_pages, row_before, rows_apart, not_first, ends_before, ends_here, no_place}
+use Rattle.row_plans.proofs.RowPages.{HasCome, row_pages, row_before, rows_apart, not_first, ends_before, ends_here, no_place}
 use Rattle.row_plans.proofs.RowsBetween.{more_down}
 use Rattle.row_plans.proofs.Loading.{loads_first, loads_on, as_before, as_behind}
 use Rattle.row_plans.proofs.places.highest_fit.Given.{Over}
 use Rattle.row_plans.proofs.places.highest_fit.Goals.{After-read_row-start}
 use Rattle.row_plans.proofs.places.highest_fit.Goals as goal
 
--- the pages of the row that was loaded, and that the page before it is of another kind
+-- the search has come down to the row that was loaded
 row : (g : Over) (c : After-read_row-start g) → let words = g.R.Rows.words c.args.rows.now c.args.hand.now in
-    let kinds = kind_at (areas_from words) in let start = c.read_row-start.result.0 in let kind = c.read_row-start.result.1 in
-    RowPages words kinds (g.R.Rows.number c.args.rows.now c.args.hand.now c.rows.at) start c.rows.end kind × (0 < start → kinds (start - 1) ≢ kind)
+    HasCome words (kind_at (areas_from words)) (g.R.Rows.number c.args.rows.now c.args.hand.now c.rows.at) c.args.window c.args.pages
+    c.read_row-start.result.0 c.rows.end c.read_row-start.result.1
 row g c =
-    let rows = c.args.rows.now in let hand = c.args.hand.now in let words = g.R.Rows.words rows hand in
-    let kinds : ℕ → Option Kind = kind_at (areas_from words) in
-    let show : ShowFrom 0 words kinds = (g.R.Rows.are_rows rows hand c.requires.may).show in
-    let inv = c.rows.invariant in
-    let i : ℕ = g.R.Rows.number rows hand c.rows.at in
+    let rows = c.args.rows.now in let hand = c.args.hand.now in let words = g.R.Rows.words rows hand in let inv = c.rows.invariant in
+    let kinds = kind_at (areas_from words) in let show = (g.R.Rows.are_rows rows hand c.requires.may).show in
+    let i = g.R.Rows.number rows hand c.rows.at in
     let start_is = c.read_row-start.ensures.start ∙ ap row_start inv.word_is in
-    let kind_is = c.read_row-start.ensures.kind ∙ ap row_kind inv.word_is in (
-      row_pages words kinds i show inv.there start_is kind_is inv.end_is,
-      row_before words kinds i show inv.there start_is kind_is,
-    )
+    let kind_is = c.read_row-start.ensures.kind ∙ ap row_kind inv.word_is in
+    record {
+      row = row_pages words kinds i show inv.there start_is kind_is inv.end_is;
+      before = row_before words kinds i show inv.there start_is kind_is;
+      ended = inv.ended;
+    }
 
 -- in a window of no page there is no place
 pub returns-then-window-eq0-clause-fit : goal.returns-then-window-eq0-clause-fit
@@ -50,7 +49,7 @@ rows-init g c =
 -- the row that was loaded starts at or below LIMIT
 pub fits_in-requires-clause-start : goal.fits_in-requires-clause-start
 fits_in-requires-clause-start g c =
-    let r = (row g (goal.at.fits_in-requires-clause-start g c).After-read_row-start).0 in let s = r.some in let l = r.low in omega arith
+    let r = (row g (goal.at.fits_in-requires-clause-start g c).After-read_row-start).row in let s = r.some in let l = r.low in omega arith
 
 -- where the pages fit into the row, the place at its end, or at the window's, is the highest
 pub returns-then-fits_in-clause-fit : goal.returns-then-fits_in-clause-fit
@@ -58,8 +57,7 @@ returns-then-fits_in-clause-fit g c =
     let r = row g (goal.at.returns-then-fits_in-clause-fit g c).After-read_row-start in
     let yes_fit : IsTrue c.fits_in.result = search rules in
     let fit = c.fits_in.ensures.fit yes_fit in
-    ends_here (kind_at (areas_from (g.R.Rows.words c.args.rows.now c.args.hand.now))) c.args.window c.args.pages c.read_row-start.result.0
-    c.rows.end c.min-top.result c.read_row-start.result.1 r.0.all r.1 c.requires.some r.0.some c.min-top.ensures c.rows.invariant.ended fit.0 fit.1
+    ends_here r c.requires.some c.min-top.ensures fit.0 fit.1
 
 -- the rows that were passed start behind that place
 pub returns-then-fits_in-clause-steps : goal.returns-then-fits_in-clause-steps
@@ -76,10 +74,8 @@ returns-then-start-eq0-clause-fit g c =
     let r = row g (goal.at.returns-then-start-eq0-clause-fit g c).After-read_row-start in
     let not_fit : IsFalse c.fits_in.result = search rules in
     let none : c.read_row-start.result.0 ≡ 0 = search rules in
-    let kinds : ℕ → Option Kind = kind_at (areas_from (g.R.Rows.words c.args.rows.now c.args.hand.now)) in
-    no_place kinds c.args.window c.args.pages c.read_row-start.result.0 c.requires.some none
-    (ends_before kinds c.args.window c.args.pages c.read_row-start.result.0 c.rows.end c.min-top.result c.read_row-start.result.1 r.0.all r.1
-    c.requires.some r.0.some c.min-top.ensures c.rows.invariant.ended (c.fits_in.ensures.no_fit not_fit))
+    no_place (kind_at (areas_from (g.R.Rows.words c.args.rows.now c.args.hand.now))) c.args.window c.args.pages c.read_row-start.result.0
+    c.requires.some none (ends_before r c.requires.some c.min-top.ensures (c.fits_in.ensures.no_fit not_fit))
 
 -- and the rows that were passed start behind page 0
 pub returns-then-start-eq0-clause-steps : goal.returns-then-start-eq0-clause-steps
@@ -96,7 +92,7 @@ previous-at-requires-clause-less g c =
     let some : 0 < c.read_row-start.result.0 = omega arith in
     as_behind (λ l n. 0 < n c.rows.at) (loads_first g.R.Rows _ _ _ c.requires.may c.rows.invariant.loaded)
     (not_first words (kind_at (areas_from words)) (g.R.Rows.number rows hand c.rows.at) c.read_row-start.result.0
-    (g.R.Rows.are_rows rows hand c.requires.may).show r.0.begins some)
+    (g.R.Rows.are_rows rows hand c.requires.may).show r.row.begins some)
 
 -- where they don't fit, no place ends above the row's start
 pub rows-preserved : goal.rows-preserved
@@ -115,16 +111,14 @@ rows-preserved g c =
       loaded = (loads_on _ then c.load-word.ensures.loaded).loaded;
       there = omega arith;
       word_is = word;
-      end_is = sym r.0.begins ∙ ap (λ n. rows_start (drop n words)) (sym at);
-      ended =
-          ends_before (kind_at (areas_from words)) c.args.window c.args.pages c.read_row-start.result.0 c.rows.end c.min-top.result
-          c.read_row-start.result.1 r.0.all r.1 c.requires.some r.0.some c.min-top.ensures inv.ended (c.fits_in.ensures.no_fit not_fit);
+      end_is = sym r.row.begins ∙ ap (λ n. rows_start (drop n words)) (sym at);
+      ended = ends_before r c.requires.some c.min-top.ensures (c.fits_in.ensures.no_fit not_fit);
       low =
           let own = ap row_start word in let now_low = inv.low in let here = ap row_start inv.word_is in
           let apart = rows_apart words (kind_at (areas_from words)) (number c.previous-at.result) (number c.rows.at) show (omega arith) inv.there in
           omega arith;
       few =
-          let later = c.if-start-eq0.false in let up = r.0.some in let now_low = inv.low in let before = inv.few in
+          let later = c.if-start-eq0.false in let up = r.row.some in let now_low = inv.low in let before = inv.few in
           let previous = c.previous-at.ensures.steps in let load = c.load-word.ensures.steps in
           let more = more_down words (number c.rows.at) c.read_row-start.result.0 c.rows.end c.args.window inv.there
           (start ∙ ap row_start inv.word_is) (omega arith) up (omega arith) in

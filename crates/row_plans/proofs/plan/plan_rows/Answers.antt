@@ -11,41 +11,30 @@ use Rattle.row_plans.specs.Plans.{spliced}
 use Rattle.row_plans.specs.Planning.{IsMade}
 use Rattle.row_plans.specs.Loads.{change_loads}
 use Rattle.row_plans.specs.Loads.TakesLoads.{by_arguments, by_pages}
-use Rattle.row_plans.proofs.PlanLeft.{areas_named, change_made, change_refused, as_they_were, plan_plain, plan_refused, plan_kept, plan_made}
+use Rattle.row_plans.proofs.PlanLeft.{areas_named, change_made, change_refused, plan_plain, plan_refused, plan_kept, plan_made}
 use Rattle.row_plans.proofs.Loading.{loads_first, as_before}
 use Rattle.row_plans.proofs.plan.plan_rows.Goals as goal
 
 -- what the arguments decide is the plan
 pub returns-in-Some-clause-plan : goal.returns-in-Some-clause-plan
 returns-in-Some-clause-plan g c =
-    let old = c.args.old.now in let hand = c.args.hand.now in let words = g.R.Rows.words old hand in let number = g.R.Rows.number old hand in
-    let none = c.unchanged.ensures in
-    let as_before = as_they_were number words c.unchanged.new.new.items c.unchanged.result.cut
-    (ap number none.at ∙ c.first.ensures hand c.requires.may) none.gone none.none in
-    let decided : plain_reply c.args.call.now ≡ Some c.unchanged.result.reply = sym c.in-Some.ensures ∙ ap (λ r. Some r) (sym none.reply) in
-    plan_plain c.args.call.now (g.R.Rows.are_rows old hand c.requires.may) as_before (none.rows ∙ c.count.ensures hand c.requires.may) decided
+    let same = c.unchanged.ensures.same c.args.hand.now c.requires.may in
+    let decided : plain_reply c.args.call.now ≡ Some c.unchanged.result.reply = sym c.in-Some.ensures ∙ ap (λ r. Some r) (sym c.unchanged.ensures.reply) in
+    plan_plain c.args.call.now (g.R.Rows.are_rows c.args.old.now c.args.hand.now c.requires.may) same.same same.counted decided
 
 -- what the rows refuse is the plan
 pub returns-in-Refused-clause-plan : goal.returns-in-Refused-clause-plan
 returns-in-Refused-clause-plan g c =
-    let old = c.args.old.now in let hand = c.args.hand.now in let words = g.R.Rows.words old hand in let number = g.R.Rows.number old hand in
-    let none = c.unchanged-in-Refused.ensures in
-    let as_before = as_they_were number words c.unchanged-in-Refused.new.new.items c.unchanged-in-Refused.result.cut
-    (ap number none.at ∙ c.first-in-Refused.ensures hand c.requires.may) none.gone none.none in
-    let undecided : plain_reply c.args.call.now ≡ None = search rules in
-    plan_refused c.args.call.now (g.R.Rows.are_rows old hand c.requires.may) as_before
-    (none.rows ∙ c.count-in-Refused.ensures hand c.requires.may) c.in-Refused.why undecided c.in-Refused.ensures.judged none.reply
+    let same = c.unchanged-in-Refused.ensures.same c.args.hand.now c.requires.may in
+    plan_refused c.args.call.now (g.R.Rows.are_rows c.args.old.now c.args.hand.now c.requires.may) same.same same.counted c.in-Refused.why
+    (search rules) c.in-Refused.ensures.judged c.unchanged-in-Refused.ensures.reply
 
 -- so is a reply alone, with the rows as they are
 pub returns-in-Keeps-clause-plan : goal.returns-in-Keeps-clause-plan
 returns-in-Keeps-clause-plan g c =
-    let old = c.args.old.now in let hand = c.args.hand.now in let words = g.R.Rows.words old hand in let number = g.R.Rows.number old hand in
-    let none = c.unchanged-in-Keeps.ensures in
-    let as_before = as_they_were number words c.unchanged-in-Keeps.new.new.items c.unchanged-in-Keeps.result.cut
-    (ap number none.at ∙ c.first-in-Keeps.ensures hand c.requires.may) none.gone none.none in
-    let undecided : plain_reply c.args.call.now ≡ None = search rules in
-    plan_kept c.args.call.now (g.R.Rows.are_rows old hand c.requires.may) as_before
-    (none.rows ∙ c.count-in-Keeps.ensures hand c.requires.may) c.in-Keeps.reply undecided c.in-Keeps.ensures.judged none.reply
+    let same = c.unchanged-in-Keeps.ensures.same c.args.hand.now c.requires.may in
+    plan_kept c.args.call.now (g.R.Rows.are_rows c.args.old.now c.args.hand.now c.requires.may) same.same same.counted c.in-Keeps.reply
+    (search rules) c.in-Keeps.ensures.judged c.unchanged-in-Keeps.ensures.reply
 
 -- the looks leave the rows as they were, so there is room for what comes
 pub changed-requires-clause-room : goal.changed-requires-clause-room
@@ -70,18 +59,6 @@ returns-in-Changes-clause-plan g c =
     (as_before (λ l n. IsMade c.in-Changes.change c.changed.result.reply c.changed.result.rows
     (spliced n l c.changed.result.cut c.changed.new.new.items) (areas_from l))
     (loads_first g.R.Rows _ _ _ c.requires.may c.in-Changes.ensures.looked) c.changed.ensures.made)
-
--- where no row goes, none comes
-pub returns-in-Some-clause-few : goal.returns-in-Some-clause-few
-returns-in-Some-clause-few g c = let none = ap (λ (l : List ℕ). length l) c.unchanged.ensures.none in omega arith
-
--- where no row goes, none comes
-pub returns-in-Refused-clause-few : goal.returns-in-Refused-clause-few
-returns-in-Refused-clause-few g c = let none = ap (λ (l : List ℕ). length l) c.unchanged-in-Refused.ensures.none in omega arith
-
--- where no row goes, none comes
-pub returns-in-Keeps-clause-few : goal.returns-in-Keeps-clause-few
-returns-in-Keeps-clause-few g c = let none = ap (λ (l : List ℕ). length l) c.unchanged-in-Keeps.ensures.none in omega arith
 
 -- a change has two patches at most, so at most SPARE rows more come than go
 pub returns-in-Changes-clause-few : goal.returns-in-Changes-clause-few
