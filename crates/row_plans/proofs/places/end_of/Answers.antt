@@ -18,18 +18,16 @@ first : (g : Over) (c : After-read_row-kind g) → let words = g.R.Rows.words c.
     let at = g.R.Rows.number c.args.rows.now c.args.hand.now c.find-row.result.at in
     RowPages words (kind_at (areas_from words)) at (row_start c.find-row.result.word) c.find-row.result.end c.read_row-kind.result.1
 first g c =
-    let rows = c.args.rows.now in let hand = c.args.hand.now in let words = g.R.Rows.words rows hand in let found = c.find-row.ensures in
-    let at = g.R.Rows.number rows hand c.find-row.result.at in
-    row_pages words (kind_at (areas_from words)) at (g.R.Rows.are_rows rows hand c.requires.may).show found.there (ap row_start found.word)
+    let found = c.find-row.ensures in
+    row_pages _ _ _ (g.R.Rows.are_rows c.args.rows.now c.args.hand.now c.requires.may).show found.there (ap row_start found.word)
     (c.read_row-kind.ensures.kind ∙ ap row_kind found.word) found.end
 
 -- no page lies before it
 first_none : (g : Over) (c : After-read_row-kind g) → let words = g.R.Rows.words c.args.rows.now c.args.hand.now in
     NoneOf (kind_at (areas_from words)) c.args.sort c.args.lo (rows_start (drop (g.R.Rows.number c.args.rows.now c.args.hand.now c.find-row.result.at) words))
 first_none g c =
-    let words = g.R.Rows.words c.args.rows.now c.args.hand.now in let at = g.R.Rows.number c.args.rows.now c.args.hand.now c.find-row.result.at in
     let begins = (first g c).begins in let from = c.find-row.ensures.from in
-    none_yet (kind_at (areas_from words)) c.args.sort c.args.lo (rows_start (drop at words)) (omega arith)
+    none_yet (kind_at (areas_from (g.R.Rows.words c.args.rows.now c.args.hand.now))) c.args.sort c.args.lo _ (omega arith)
 
 -- a row behind it is there, and these are its pages
 row : (g : Over) (c : After-read_row-start g) → let words = g.R.Rows.words c.args.rows.now c.args.hand.now in

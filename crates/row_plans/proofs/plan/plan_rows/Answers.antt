@@ -2,7 +2,6 @@ use Rattle.std.proofs.Common.{rules, ◌≡◌, ◌≤◌, ◌+◌, ◌∙◌, l
 use Rattle.std.specs.Prelude.{None, Some, List, ℕ}
 use Rattle.page_types.specs.PlainReply.{plain_reply}
 use Rattle.space_model.specs.declared.judged.Judged.TheVariants.{Refused, Keeps, Changes}
-use Rattle.space_model.specs.Areas.{kind_at}
 use Rattle.space_model.specs.Cutting.{last_end}
 use Rattle.space_model.specs.Judges.{patches_of}
 use Rattle.space_model.proofs.Stepping.{patches_few, judged-named}
@@ -39,7 +38,6 @@ returns-in-Keeps-clause-plan g c =
 -- the looks leave the rows as they were, so there is room for what comes
 pub changed-requires-clause-room : goal.changed-requires-clause-room
 changed-requires-clause-room g c =
-    let old = c.args.old.now in let hand = c.args.hand.now in let words = g.R.Rows.words old hand in
     let wide = ap (λ (l : List ℕ). length l) (loads_first g.R.Rows _ _ _ c.requires.may c.in-Changes.ensures.looked).same in
     let two = patches_few c.in-Changes.change in
     let room = c.requires.room in
@@ -48,8 +46,7 @@ changed-requires-clause-room g c =
 -- a change has named bits alone
 pub changed-requires-clause-named : goal.changed-requires-clause-named
 changed-requires-clause-named g c =
-    let words = g.R.Rows.words c.args.old.now c.args.hand.now in
-    judged-named (areas_from words) c.args.call.now c.in-Changes.change (areas_named words) c.requires.named c.in-Changes.ensures.judged
+    judged-named _ c.args.call.now c.in-Changes.change (areas_named (g.R.Rows.words c.args.old.now c.args.hand.now)) c.requires.named c.in-Changes.ensures.judged
 
 -- and is the plan, as it is made after the looks
 pub returns-in-Changes-clause-plan : goal.returns-in-Changes-clause-plan
@@ -63,7 +60,6 @@ returns-in-Changes-clause-plan g c =
 -- a change has two patches at most, so at most SPARE rows more come than go
 pub returns-in-Changes-clause-few : goal.returns-in-Changes-clause-few
 returns-in-Changes-clause-few g c =
-    let words = g.R.Rows.words c.args.old.now c.args.hand.now in
     let two = patches_few c.in-Changes.change in
     let few = c.changed.ensures.few in
     omega arith
@@ -72,14 +68,12 @@ returns-in-Changes-clause-few g c =
 pub returns-in-Changes-clause-changes : goal.returns-in-Changes-clause-changes
 returns-in-Changes-clause-changes g c =
     let undecided : plain_reply c.args.call.now ≡ None = search rules in
-    change_made (areas_from (g.R.Rows.words c.args.old.now c.args.hand.now)) c.args.call.now c.in-Changes.change c.changed.result.reply
-    c.changed.result.cut c.changed.new.new.items undecided c.in-Changes.ensures.judged c.changed.ensures.changes
+    change_made _ c.args.call.now c.in-Changes.change c.changed.result.reply c.changed.result.cut c.changed.new.new.items undecided c.in-Changes.ensures.judged c.changed.ensures.changes
 
 -- a refused change leaves them
 pub returns-in-Changes-clause-refused : goal.returns-in-Changes-clause-refused
 returns-in-Changes-clause-refused g c =
-    change_refused (kind_at (areas_from (g.R.Rows.words c.args.old.now c.args.hand.now))) c.args.call.now c.in-Changes.change c.changed.result.reply
-    c.changed.result.cut c.changed.new.new.items c.in-Changes.ensures.judged c.changed.ensures.changes
+    change_refused _ c.args.call.now c.in-Changes.change c.changed.result.reply c.changed.result.cut c.changed.new.new.items c.in-Changes.ensures.judged c.changed.ensures.changes
 
 -- a call that its arguments decide takes no load
 pub returns-in-Some-clause-loads : goal.returns-in-Some-clause-loads

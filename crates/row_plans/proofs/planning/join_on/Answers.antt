@@ -86,8 +86,7 @@ returns-then-ends_with-clause-differs g c =
     let row = behind g (goal.at.returns-then-ends_with-clause-differs g c).After-read_row-kind in
     let same_kind : ends_with c.put_part.new.rows.items c.read_row-kind.result.1 ≡ true = search rules in
     subst (λ (n : ℕ). GoesOn c.put_part.new.rows.items (drop n words)) (further _ number c.args.come)
-    (next_stays c.put_part.new.rows.items words (come_to number c.args.come) (kind_at (areas_from words)) c.read_row-kind.result.1
-    (g.R.Rows.are_rows c.args.old.now c.args.hand.now c.requires.may).show row.0 row.1 same_kind)
+    (next_stays c.put_part.new.rows.items _ _ _ _ (g.R.Rows.are_rows c.args.old.now c.args.hand.now c.requires.may).show row.0 row.1 same_kind)
 
 -- where the row behind stays, the rows that come end before it
 pub returns-else-ends_with-clause-shows : goal.returns-else-ends_with-clause-shows
@@ -98,7 +97,7 @@ pub returns-else-ends_with-clause-differs : goal.returns-else-ends_with-clause-d
 returns-else-ends_with-clause-differs g c =
     let other : ends_with c.put_part.new.rows.items c.read_row-kind.result.1 ≡ false = search rules in
     row_stays c.put_part.new.rows.items (g.R.Rows.words c.args.old.now c.args.hand.now) (come_to (g.R.Rows.number c.args.old.now c.args.hand.now) c.args.come)
-    c.read_row-kind.result.1 (behind g (goal.at.returns-else-ends_with-clause-differs g c).After-read_row-kind).1 other
+    _ (behind g (goal.at.returns-else-ends_with-clause-differs g c).After-read_row-kind).1 other
 
 -- where there is no row behind, they end at LIMIT
 pub returns-in_default-clause-shows : goal.returns-in_default-clause-shows

@@ -4,12 +4,11 @@ use Rattle.std.specs.Prelude.{All, Option}
 use Rattle.page_types.specs.declared.TheConstants.{LIMIT}
 use Rattle.page_types.specs.declared.calls.Kind.{Kind}
 use Rattle.space_model.specs.Effect.{patched}
-use Rattle.space_model.specs.Areas.{kind_at}
 use Rattle.space_model.specs.Cutting.{last_end}
 use Rattle.space_model.specs.Judges.{second_of, patches_of}
 use Rattle.space_model.proofs.Changing.{rising_end, patched-before, patched-behind, patched-inside, patched-next}
-use Rattle.row_plans.specs.RowLists.{rows_start, ShowFrom, IsBareGap, areas_from}
-use Rattle.row_plans.specs.Planning.{ShowTo, StartBefore, IsCome, GoesOn, come_to}
+use Rattle.row_plans.specs.RowLists.{rows_start, ShowFrom, IsBareGap}
+use Rattle.row_plans.specs.Planning.{ShowTo, StartBefore, IsCome, GoesOn}
 use Rattle.row_plans.proofs.RowsBetween.{come_between}
 use Rattle.row_plans.proofs.Loading.{HasLoaded, loads_first, loads_on, as_before, as_behind}
 use Rattle.row_plans.proofs.RowChanges.{take_few, splice_gaps, begun_shows, made_shows}
@@ -56,10 +55,8 @@ put_to-next-requires-clause-room g c =
 -- the row before is one of the old ones
 pub put_to-next-requires-clause-gaps : goal.put_to-next-requires-clause-gaps
 put_to-next-requires-clause-gaps g c =
-    let words = g.R.Rows.words c.args.old.now c.args.hand.now in let at = g.R.Rows.number c.args.old.now c.args.hand.now c.begin-begun.result.at in
     subst (All IsBareGap) (sym c.begin-begun.ensures.items)
-    (All-take IsBareGap c.begin-begun.result.gone (drop at words)
-    (All-drop IsBareGap at words (g.R.Rows.are_rows c.args.old.now c.args.hand.now c.requires.may).gaps))
+    (All-take IsBareGap _ _ (All-drop IsBareGap _ _ (g.R.Rows.are_rows c.args.old.now c.args.hand.now c.requires.may).gaps))
 
 -- the hand may load again
 pub put_second-last-requires-clause-may : goal.put_second-last-requires-clause-may
@@ -128,10 +125,7 @@ returns-clause-there g c =
 
 -- all gaps are bare
 pub returns-clause-gaps : goal.returns-clause-gaps
-returns-clause-gaps g c =
-    let words = g.R.Rows.words c.args.old.now c.args.hand.now in let at = g.R.Rows.number c.args.old.now c.args.hand.now c.begin-begun.result.at in
-    splice_gaps words c.join_on.new.rows.items at (at + c.join_on.result)
-    (g.R.Rows.are_rows c.args.old.now c.args.hand.now c.requires.may).gaps c.join_on.ensures.gaps
+returns-clause-gaps g c = splice_gaps _ _ _ _ (g.R.Rows.are_rows c.args.old.now c.args.hand.now c.requires.may).gaps c.join_on.ensures.gaps
 
 -- the row before the first patch, its pages, those up to the end of the last one, and what is behind it
 pub returns-clause-shows : goal.returns-clause-shows
@@ -181,11 +175,8 @@ returns-clause-loaded g c = (loads_on _ (last g (goal.at.returns-clause-loaded g
 -- six loads for each row up to the end of the last patch, and those for the rows on both sides
 pub returns-clause-steps : goal.returns-clause-steps
 returns-clause-steps g c =
-    let words = g.R.Rows.words c.args.old.now c.args.hand.now in let number = g.R.Rows.number c.args.old.now c.args.hand.now in
-    let first_come = c.begin-begun.result in let come = c.put_second-last.result in
     let gone = gone_through g (goal.at.returns-clause-steps g c).After-put_second-last in
-    let run = come_between words (kind_at (areas_from words)) c.args.change.first.lo (last_end 0 (patches_of c.args.change)) (come_to number first_come)
-    (come_to number come) (number first_come.at) (g.R.Rows.are_rows c.args.old.now c.args.hand.now c.requires.may).show
-    c.begin-begun.ensures.come.before gone.before c.begin-begun.ensures.before in
-    let at = ap number (c.put_second-last.ensures.at ∙ c.put_to-next.ensures.at) in let before = c.begin-begun.ensures.before in
+    let run = come_between _ _ _ _ _ _ _ (g.R.Rows.are_rows c.args.old.now c.args.hand.now c.requires.may).show c.begin-begun.ensures.come.before
+    gone.before c.begin-begun.ensures.before in
+    let at = ap (g.R.Rows.number c.args.old.now c.args.hand.now) (c.put_second-last.ensures.at ∙ c.put_to-next.ensures.at) in let before = c.begin-begun.ensures.before in
     omega (arith, c.begin-begun.ensures.steps, c.put_to-next.ensures.steps, c.put_second-last.ensures.steps, c.join_on.ensures.steps)
