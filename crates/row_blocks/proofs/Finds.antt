@@ -45,6 +45,12 @@ halves_on start now size width less h more half = record {
       subst (λ (n : ℕ). less ≤ 2 ^ n) e (omega arith);
 }
 
+-- the same where the number of steps after it has a name
+pub halves_to : (start now size width less : ℕ) {next : ℕ} → HasHalved start now size width → next ≡ now + 1 → 1 < width → less ≤ width - width / 2
+    → HasHalved start next size less
+halves_to start now size width less h is more half =
+    subst (λ (n : ℕ). HasHalved start n size less) (sym is) (halves_on start now size width less h more half)
+
 module _ {nb : ℕ} {words : List ℕ} (i : ℕ) (laid : IsLaidOut nb words) (there : i < blocks_of nb words) where
   -- where the next row starts
   pub end_there : (j end behind : ℕ) → j ≤ rows_of nb words i → ((k : ℕ) → k < length (rows_in nb words) → row_start (slice_index (rows_in nb words) k) ≤ LIMIT)

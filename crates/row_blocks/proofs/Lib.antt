@@ -1,3 +1,4 @@
+pub mod Steps
 pub mod Pieces
 pub mod Slots
 pub mod Puts

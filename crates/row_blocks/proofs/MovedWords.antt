@@ -38,9 +38,11 @@ pushes_on {one} {two} {three} {at} {to} {carried} ordered wide p stands laid =
     }
 
 -- and the one that is carried is laid
-pub pushes_end : {one two three : List ℕ} {at end word carried : ℕ} → at ≤ end → end < length one → IsPushing one two at end word carried
+pub pushes_end : {one two three : List ℕ} {at to end word carried : ℕ} → at ≤ end → end < length one → to ≡ end → IsPushing one two at to word carried
     → three ≡ slice_set two end carried → IsPushed one three at end word
-pushes_end ordered wide p laid = let q = pushes_on ordered wide p refl laid in grind arith
+pushes_end {one} {two} {three} {at} {to} {end} {word} {carried} ordered wide is p laid =
+    let all : IsPushing one two at end word carried = subst (λ (n : ℕ). IsPushing one two at n word carried) is p in
+    let q = pushes_on ordered wide all refl laid in grind arith
 
 -- nothing is copied yet
 pub copies_none : {one : List ℕ} {from to : ℕ} → IsCopied one one from to 0

@@ -5,7 +5,7 @@ use Rattle.std.specs.Prelude.{All}
 use Rattle.std.specs.List.{splice}
 use Rattle.std.proofs.Math.Seq.{set-append_seam}
 use Rattle.std.proofs.lemmas.List.{append_assoc, length-append, length-take-le, length-drop, take_at, drop_at, drop-drop, drop_more, take_more}
-use Rattle.std.proofs.lemmas.List.{take-append-le, take-append-drop}
+use Rattle.std.proofs.lemmas.List.{take-append-le, take-append-drop, take_all}
 use Rattle.std.proofs.lemmas.List.Elements.{All-append, All-take, All-drop}
 
 -- how long a splice is
@@ -69,3 +69,9 @@ lays_on R more r k there some =
     let last : take (k + 1) more ≡ take k more ++ (w ∷ []) = take_more more k 0 some in
     ap (λ (l : List ℕ). set l (r + k) w) whole ∙ (laid ∙ (append_assoc (take r R) (take k more) (w ∷ drop (r + (k + 1)) R)
     ∙ ap (λ (l : List ℕ). take r R ++ l) (sym (append_assoc (take k more) (w ∷ []) (drop (r + (k + 1)) R)) ∙ (λ j. sym last j ++ drop (r + (k + 1)) R))))
+
+-- where all of the rows have come that were to come, so has the list of them
+pub all_come : (rows more : List ℕ) (from end last k : ℕ) {now : List ℕ} → k ≡ length more → end ≡ last → now ≡ splice rows from end (take k more)
+    → now ≡ splice rows from last more
+all_come rows more from end last k all same come =
+    come ∙ (ap (λ n. splice rows from n (take k more)) same ∙ ap (splice rows from last) (take_all k more (omega arith)))

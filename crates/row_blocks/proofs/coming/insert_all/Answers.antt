@@ -1,10 +1,9 @@
 use Rattle.std.proofs.Common.{ℕ, [], ◌∷◌, ◌≡◌, ◌+◌, length, take, refl, sym, ap, subst, ◌∙◌, arith}
 use Rattle.std.specs.Prelude.{slice_index}
-use Rattle.std.specs.List.{splice}
-use Rattle.std.proofs.lemmas.List.{take_all}
 use Rattle.std.proofs.lemmas.List.Elements.{All-get_or, All-nil, All-cons}
 use Rattle.row_blocks.specs.Blocks.{blocks_of, rows_in, rank}
-use Rattle.row_blocks.proofs.RowSplices.{splice_none}
+use Rattle.row_blocks.proofs.Steps.{steps_none, steps_more}
+use Rattle.row_blocks.proofs.RowSplices.{splice_none, all_come}
 use Rattle.row_blocks.proofs.Counts.{count_next, count_up}
 use Rattle.row_blocks.proofs.Comings.{comes_on}
 use Rattle.row_blocks.proofs.Cuts.{count_told}
@@ -23,16 +22,14 @@ rows-init g c = record {
   others = λ i lt differ. refl;
   all = c.requires.rows;
   high = omega arith;
-  may = c.requires.may;
-  rows = λ w r. r;
-  kept = g.W.Loads.no_step c.args.words.now c.args.hand.now;
+  stepped = steps_none _ _ _ c.requires.may;
   steps = omega arith;
 }
 
 -- the row that comes is a row
 pub insert-requires-clause-row : goal.insert-requires-clause-row
 insert-requires-clause-row g c =
-    c.rows.invariant.rows (slice_index c.args.more.now c.rows.k)
+    c.rows.invariant.stepped.rows (slice_index c.args.more.now c.rows.k)
     (All-get_or (g.W.Loads.is_row c.args.words.now c.args.hand.now) c.args.more.now c.rows.k 0 (omega arith) c.requires.new)
 
 -- one more has come
@@ -62,22 +59,14 @@ rows-preserved g c =
       grown = omega arith;
       others = λ j less differ. call.others j less differ ∙ inv.others j less differ;
       all = all_written P (g.W.Loads.is_row ws c.insert.new.hand) (rows_in nb two) (w ∷ []) _ _ call.rows call.spliced inv.all
-          (All-cons P w [] (inv.rows w is) (All-nil P));
+          (All-cons P w [] (inv.stepped.rows w is) (All-nil P));
       high = omega arith;
-      may = call.may;
-      rows = λ x p. call.rows x (inv.rows x p);
-      kept = g.W.Loads.steps_on _ _ _ _ inv.kept call.kept;
+      stepped = steps_more _ inv.stepped call.may call.rows call.kept;
       steps = omega arith;
     }
 
 -- all have come
 pub returns-clause-spliced : goal.returns-clause-spliced
 returns-clause-spliced g c =
-    let nb = c.args.blocks in
-    let one = g.W.Loads.words c.args.words.now c.args.hand.now in
-    let two = g.W.Loads.words c.args.words.now c.rows.hand in
-    let r : ℕ = rank nb one c.args.at.block c.args.at.place in
-    let more = c.args.more.now in
-    let all : c.rows.k ≡ length more = omega arith in
-    subst (λ (n : ℕ). rows_in nb two ≡ splice (rows_in nb one) r r (take n more)) all c.rows.invariant.spliced
-    ∙ ap (splice (rows_in nb one) r r) (take_all (length more) more (omega arith))
+    let rows = rows_in c.args.blocks (g.W.Loads.words c.args.words.now c.args.hand.now) in
+    all_come rows c.args.more.now _ _ _ c.rows.k (omega arith) refl c.rows.invariant.spliced

@@ -1,6 +1,7 @@
 use Rattle.std.proofs.Common.{ℕ, ◌≡◌, ◌≢◌, ◌+◌, ◌-◌, ◌*◌, ◌<◌, ◌≤◌, All, take, length}
 use Rattle.std.specs.List.{splice}
 use Rattle.row_blocks.specs.Blocks.{IsLaidOut, blocks_of, rows_of, rows_in, rank, told}
+use Rattle.row_blocks.proofs.Steps.{HasStepped}
 use Rattle.row_blocks.proofs.coming.insert_all.Given as goal
 
 -- so many rows have come
@@ -18,9 +19,7 @@ invariant-rows g l = record {
       → told l.blocks (g.W.Loads.words l.words l.hand) i ≡ told l.blocks (g.W.Loads.words l.words l.initial.hand) i;
   all : All (g.W.Loads.is_row l.words l.hand) (rows_in l.blocks (g.W.Loads.words l.words l.hand));
   high : l.k ≤ length l.more;
-  may : g.W.Loads.may_store l.words l.hand;
-  rows : (w : ℕ) → g.W.Loads.is_row l.words l.initial.hand w → g.W.Loads.is_row l.words l.hand w;
-  kept : g.W.Loads.kept l.words l.initial.hand l.hand;
+  stepped : HasStepped g.W.Loads l.words l.initial.hand l.hand;
   steps : g.W.Loads.steps l.words l.hand ≤ g.W.Loads.steps l.words l.initial.hand + 260 * l.k;
 }
 

@@ -1,5 +1,6 @@
 use Rattle.std.proofs.Common.{ℕ, ◌<◌, List, sym, ap, subst, ◌∙◌, arith}
 use Rattle.row_blocks.specs.Blocks.{blocks_of, rows_of}
+use Rattle.row_blocks.proofs.Steps.{steps_more}
 use Rattle.row_blocks.proofs.Counts.{count_next, block_there}
 use Rattle.row_blocks.proofs.Cuts.{head_gone}
 use Rattle.row_blocks.proofs.cutting.cut_blocks.Given.{Over}
@@ -27,7 +28,7 @@ returns-then-left-body-clause-spliced g c =
     (c.body_of-body.ensures.words ∙ c.whole.invariant.words) c.delete.ensures.spliced c.delete.ensures.others c.whole.invariant.left
 
 pub returns-then-left-body-clause-kept : goal.returns-then-left-body-clause-kept
-returns-then-left-body-clause-kept g c = g.W.Loads.steps_on _ _ _ _ (g.W.Loads.steps_on _ _ _ _ c.whole.invariant.kept c.body_of-body.ensures.kept)
+returns-then-left-body-clause-kept g c = g.W.Loads.steps_on _ _ _ _ (g.W.Loads.steps_on _ _ _ _ c.whole.invariant.stepped.kept c.body_of-body.ensures.kept)
     c.delete.ensures.kept
 
 -- the rows of one block more are to go
@@ -43,8 +44,6 @@ whole-preserved g c =
       from = omega arith;
       there = omega arith;
       left = omega arith;
-      may = c.body_of-body.ensures.may;
-      rows = λ w r. c.body_of-body.ensures.stay w (inv.rows w r);
-      kept = g.W.Loads.steps_on _ _ _ _ inv.kept c.body_of-body.ensures.kept;
+      stepped = steps_more _ inv.stepped c.body_of-body.ensures.may c.body_of-body.ensures.stay c.body_of-body.ensures.kept;
       steps = omega arith;
     }

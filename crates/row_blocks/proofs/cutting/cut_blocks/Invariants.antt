@@ -1,5 +1,6 @@
 use Rattle.std.proofs.Common.{ℕ, ◌≡◌, ◌+◌, ◌≤◌}
 use Rattle.row_blocks.specs.Blocks.{blocks_of, count_to}
+use Rattle.row_blocks.proofs.Steps.{HasStepped}
 use Rattle.row_blocks.proofs.cutting.cut_blocks.Given as goal
 
 -- whole blocks were passed, and the rows that are left to go are behind them
@@ -10,9 +11,7 @@ invariant-whole g l = record {
   there : l.end ≤ blocks_of l.blocks (g.W.Loads.words l.words l.initial.hand);
   left : count_to l.blocks (g.W.Loads.words l.words l.initial.hand) l.end + l.left
       ≡ count_to l.blocks (g.W.Loads.words l.words l.initial.hand) l.first + l.gone;
-  may : g.W.Loads.may_store l.words l.hand;
-  rows : (w : ℕ) → g.W.Loads.is_row l.words l.initial.hand w → g.W.Loads.is_row l.words l.hand w;
-  kept : g.W.Loads.kept l.words l.initial.hand l.hand;
+  stepped : HasStepped g.W.Loads l.words l.initial.hand l.hand;
   steps : g.W.Loads.steps l.words l.hand + l.first ≡ g.W.Loads.steps l.words l.initial.hand + l.end;
 }
 

@@ -10,34 +10,38 @@ use Rattle.row_blocks.proofs.finding.find.Given.{Over}
 use Rattle.row_blocks.proofs.finding.find.Goals.{After-halve-found}
 use Rattle.row_blocks.proofs.finding.find.Goals as goal
 
+-- the words before, which are the words after
+abbrev words : (g : Over) (c : After-halve-found g) → List ℕ
+words g c = g.W.Loads.words c.args.words.now c.args.hand.now
+
 -- the head that was found, among the words of before
-head : (g : Over) (c : After-halve-found g) → IsLast (g.W.Loads.words c.args.words.now c.args.hand.now) 0
-    (blocks_of c.args.blocks (g.W.Loads.words c.args.words.now c.args.hand.now)) c.args.page c.halve-heads.result.place c.halve-heads.result.word
+head : (g : Over) (c : After-halve-found g) → IsLast (words g c) 0
+    (blocks_of c.args.blocks (words g c)) c.args.page c.halve-heads.result.place c.halve-heads.result.word
     c.halve-heads.result.end
 head g c =
     let to = c.halve-heads.result in
     coe 0 1 (j. IsLast (c.load-used.ensures.words j) 0 (c.load-used.ensures.word j) c.args.page to.place to.word to.end) c.halve-heads.ensures.found
 
 -- nothing was stored meanwhile
-same : (g : Over) (c : After-halve-found g) → g.W.Loads.words c.args.words.now c.body_of-body.new.hand ≡ g.W.Loads.words c.args.words.now c.args.hand.now
+same : (g : Over) (c : After-halve-found g) → g.W.Loads.words c.args.words.now c.body_of-body.new.hand ≡ words g c
 same g c = c.body_of-body.ensures.words ∙ (c.halve-heads.ensures.words ∙ c.load-used.ensures.words)
 
 -- where the body of the block stands
 at : (g : Over) (c : After-halve-found g) → c.body_of-body.result.at
-    ≡ body_at c.args.blocks (g.W.Loads.words c.args.words.now c.args.hand.now) c.halve-heads.result.place
+    ≡ body_at c.args.blocks (words g c) c.halve-heads.result.place
 at g c = c.body_of-body.ensures.at
     ∙ ap (λ (l : List ℕ). body_at c.args.blocks l c.halve-heads.result.place) (c.halve-heads.ensures.words ∙ c.load-used.ensures.words)
 
 -- and how many rows it has
 rows : (g : Over) (c : After-halve-found g) → c.body_of-body.result.rows
-    ≡ rows_of c.args.blocks (g.W.Loads.words c.args.words.now c.args.hand.now) c.halve-heads.result.place
+    ≡ rows_of c.args.blocks (words g c) c.halve-heads.result.place
 rows g c = c.body_of-body.ensures.rows
     ∙ ap (λ (l : List ℕ). rows_of c.args.blocks l c.halve-heads.result.place) (c.halve-heads.ensures.words ∙ c.load-used.ensures.words)
 
 -- the row that was found in its block
-row : (g : Over) (c : After-halve-found g) → IsLast (g.W.Loads.words c.args.words.now c.args.hand.now)
-    (body_at c.args.blocks (g.W.Loads.words c.args.words.now c.args.hand.now) c.halve-heads.result.place - 1)
-    (rows_of c.args.blocks (g.W.Loads.words c.args.words.now c.args.hand.now) c.halve-heads.result.place + 1) c.args.page
+row : (g : Over) (c : After-halve-found g) → IsLast (words g c)
+    (body_at c.args.blocks (words g c) c.halve-heads.result.place - 1)
+    (rows_of c.args.blocks (words g c) c.halve-heads.result.place + 1) c.args.page
     c.halve-found.result.place c.halve-found.result.word c.halve-found.result.end
 row g c =
     let to = c.halve-found.result in
@@ -47,10 +51,10 @@ row g c =
 end_is : (g : Over) (c : After-halve-found g)
     → (c.halve-found.result.place + 1 ≡ c.body_of-body.result.rows + 1 → c.halve-found.result.end ≡ c.halve-heads.result.end)
     → min c.halve-found.result.end LIMIT
-    ≡ rows_start (drop (rank c.args.blocks (g.W.Loads.words c.args.words.now c.args.hand.now) c.halve-heads.result.place c.halve-found.result.place + 1)
-    (rows_in c.args.blocks (g.W.Loads.words c.args.words.now c.args.hand.now)))
+    ≡ rows_start (drop (rank c.args.blocks (words g c) c.halve-heads.result.place c.halve-found.result.place + 1)
+    (rows_in c.args.blocks (words g c)))
 end_is g c last =
-    let one = g.W.Loads.words c.args.words.now c.args.hand.now in
+    let one = words g c in
     let i : ℕ = c.halve-heads.result.place in
     let h = head g c in
     let r = row g c in
@@ -87,12 +91,12 @@ pub returns-then-found-gt0-clause-from : goal.returns-then-found-gt0-clause-from
 returns-then-found-gt0-clause-from g c = let r = row g (goal.at.returns-then-found-gt0-clause-from g c).After-halve-found in r.before c.if-found-gt0.true
 
 -- so many steps are made up to the body
-steps_to : (g : Over) (c : After-halve-found g) → (m : ℕ) → blocks_of c.args.blocks (g.W.Loads.words c.args.words.now c.args.hand.now) ≤ 2 ^ m
+steps_to : (g : Over) (c : After-halve-found g) → (m : ℕ) → blocks_of c.args.blocks (words g c) ≤ 2 ^ m
     → g.W.Loads.steps c.args.words.now c.body_of-body.new.hand ≤ g.W.Loads.steps c.args.words.now c.args.hand.now + (m + 2)
 steps_to g c m le = let two = c.halve-heads.ensures.steps m (omega arith) in omega arith
 
 -- any body takes seven
-steps_all : (g : Over) (c : After-halve-found g) → (m : ℕ) → blocks_of c.args.blocks (g.W.Loads.words c.args.words.now c.args.hand.now) ≤ 2 ^ m
+steps_all : (g : Over) (c : After-halve-found g) → (m : ℕ) → blocks_of c.args.blocks (words g c) ≤ 2 ^ m
     → g.W.Loads.steps c.args.words.now c.halve-found.new.hand ≤ g.W.Loads.steps c.args.words.now c.args.hand.now + (m + 9)
 steps_all g c m le =
     let to = steps_to g c m le in
@@ -102,10 +106,10 @@ steps_all g c m le =
 
 -- the first one, which has fewer rows, takes one less
 steps_first : (g : Over) (c : After-halve-found g) → 0 ≡ c.halve-heads.result.place → (m : ℕ)
-    → blocks_of c.args.blocks (g.W.Loads.words c.args.words.now c.args.hand.now) ≤ 2 ^ m
+    → blocks_of c.args.blocks (words g c) ≤ 2 ^ m
     → g.W.Loads.steps c.args.words.now c.halve-found.new.hand ≤ g.W.Loads.steps c.args.words.now c.args.hand.now + (m + 8)
 steps_first g c first m le =
-    let one = g.W.Loads.words c.args.words.now c.args.hand.now in
+    let one = words g c in
     let short : rows_of c.args.blocks one c.halve-heads.result.place < 64 = subst (λ (i : ℕ). rows_of c.args.blocks one i < 64) first c.requires.short in
     let to = steps_to g c m le in
     let count = rows g c in
@@ -113,7 +117,7 @@ steps_first g c first m le =
     omega arith
 
 -- and the most blocks take eleven
-eleven : (g : Over) (c : After-halve-found g) → blocks_of c.args.blocks (g.W.Loads.words c.args.words.now c.args.hand.now) ≤ 2 ^ 11
+eleven : (g : Over) (c : After-halve-found g) → blocks_of c.args.blocks (words g c) ≤ 2 ^ 11
 eleven g c = omega arith
 
 -- the steps to a row of a body

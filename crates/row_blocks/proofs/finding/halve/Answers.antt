@@ -1,6 +1,9 @@
 use Rattle.std.proofs.Common.{ℕ, ◌≡◌, ◌+◌, ◌-◌, ◌/◌, List, refl, sym, ap, subst, ◌∙◌, arith}
 use Rattle.std.specs.Prelude.{slice_index}
-use Rattle.row_blocks.proofs.Finds.{HasHalved, halves_none, halves_on}
+use Rattle.row_blocks.proofs.Finds.{HasHalved, halves_none, halves_to}
+use Rattle.row_blocks.proofs.Steps.{HasStepped, steps_none, steps_more}
+use Rattle.row_blocks.proofs.finding.halve.Given.{Over}
+use Rattle.row_blocks.proofs.finding.halve.Goals.{After-load-read}
 use Rattle.row_blocks.proofs.finding.halve.Goals as goal
 
 -- all places are left
@@ -17,58 +20,54 @@ halve-init g c =
       next = λ l. absurd (omega arith);
       last = λ e. refl;
       same = refl;
-      may = c.requires.may;
-      rows = λ w r. r;
-      kept = g.W.Loads.no_step c.args.words.now c.args.hand.now;
+      stepped = steps_none _ _ _ c.requires.may;
       steps = subst (HasHalved start start c.args.size) all (halves_none start c.args.size);
     }
 
--- the middle word starts at or before the page
+-- the middle word, among the words of before
+middle : (g : Over) (c : After-load-read g) → let words = g.W.Loads.words c.args.words.now in
+    (c.load-read.result ≡ slice_index (words c.args.hand.now) (c.args.from + (c.halve.low + (c.halve.high - c.halve.low) / 2)))
+    × (words c.load-read.new.hand ≡ words c.args.hand.now) × HasStepped g.W.Loads c.args.words.now c.args.hand.now c.load-read.new.hand
+middle g c =
+    let inv = c.halve.invariant in let load = c.load-read.ensures in
+    let at : ℕ = c.args.from + (c.halve.low + (c.halve.high - c.halve.low) / 2) in (
+      load.word ∙ ap (λ (l : List ℕ). slice_index l at) inv.same,
+      load.words ∙ inv.same,
+      steps_more _ inv.stepped load.may load.rows load.kept,
+    )
+
+-- it starts at or before the page
 pub halve-preserved-then-read-page : goal.halve-preserved-then-read-page
 halve-preserved-then-read-page g c =
-    let ws = c.args.words.now in
-    let inv = c.halve.invariant in
-    let load = c.load-read.ensures in
-    let size : ℕ = c.halve.high - c.halve.low in
-    let at : ℕ = c.args.from + (c.halve.low + size / 2) in
+    let inv = c.halve.invariant in let read = middle g (goal.at.halve-preserved-then-read-page g c).After-load-read in
     record {
       ordered = omega arith;
       there = inv.there;
-      word = λ l. load.word ∙ ap (λ (l : List ℕ). slice_index l at) inv.same;
+      word = λ l. read.0;
       from = λ l. omega arith;
       end = inv.end;
       next = inv.next;
       last = inv.last;
-      same = load.words ∙ inv.same;
-      may = load.may;
-      rows = λ w r. load.rows w (inv.rows w r);
-      kept = g.W.Loads.steps_on _ _ _ _ inv.kept load.kept;
-      steps = subst (λ (n : ℕ). HasHalved (g.W.Loads.steps ws c.args.hand.now) n c.args.size (c.halve.high - (c.halve.low + size / 2))) (sym load.step)
-          (halves_on _ _ _ size _ inv.steps (omega arith) (omega arith));
+      same = read.1;
+      stepped = read.2;
+      steps = halves_to _ _ _ (c.halve.high - c.halve.low) _ inv.steps c.load-read.ensures.step (omega arith) (omega arith);
     }
 
 -- or behind it
 pub halve-preserved : goal.halve-preserved
 halve-preserved g c =
-    let ws = c.args.words.now in
-    let inv = c.halve.invariant in
-    let load = c.load-read.ensures in
-    let size : ℕ = c.halve.high - c.halve.low in
-    let at : ℕ = c.args.from + (c.halve.low + size / 2) in
+    let inv = c.halve.invariant in let read = middle g (goal.at.halve-preserved g c).After-load-read in
     record {
       ordered = omega arith;
       there = omega arith;
       word = inv.word;
       from = inv.from;
       end = omega arith;
-      next = λ l. ap (λ (x : ℕ). x / 64) (load.word ∙ ap (λ (l : List ℕ). slice_index l at) inv.same);
+      next = λ l. ap (λ (x : ℕ). x / 64) read.0;
       last = λ e. absurd (omega arith);
-      same = load.words ∙ inv.same;
-      may = load.may;
-      rows = λ w r. load.rows w (inv.rows w r);
-      kept = g.W.Loads.steps_on _ _ _ _ inv.kept load.kept;
-      steps = subst (λ (n : ℕ). HasHalved (g.W.Loads.steps ws c.args.hand.now) n c.args.size (c.halve.low + size / 2 - c.halve.low)) (sym load.step)
-          (halves_on _ _ _ size _ inv.steps (omega arith) (omega arith));
+      same = read.1;
+      stepped = read.2;
+      steps = halves_to _ _ _ (c.halve.high - c.halve.low) _ inv.steps c.load-read.ensures.step (omega arith) (omega arith);
     }
 
 -- one place is left

@@ -2,6 +2,7 @@ use Rattle.std.proofs.Common.{ℕ, ◌≡◌, ◌+◌, ◌-◌, ◌<◌, ◌≤�
 use Rattle.std.specs.Prelude.{slice_index}
 use Rattle.row_plans.specs.RowWords.{row_start}
 use Rattle.row_blocks.proofs.Finds.{HasHalved}
+use Rattle.row_blocks.proofs.Steps.{HasStepped}
 use Rattle.row_blocks.proofs.finding.halve.Given as goal
 
 -- the lower word starts at or before the page, and the upper one behind it
@@ -15,9 +16,7 @@ invariant-halve g l = record {
   next : l.high < l.size → l.behind ≡ row_start (slice_index (g.W.Loads.words l.words l.initial.hand) (l.from + l.high));
   last : l.high ≡ l.size → l.behind ≡ l.end;
   same : g.W.Loads.words l.words l.hand ≡ g.W.Loads.words l.words l.initial.hand;
-  may : g.W.Loads.may_store l.words l.hand;
-  rows : (w : ℕ) → g.W.Loads.is_row l.words l.initial.hand w → g.W.Loads.is_row l.words l.hand w;
-  kept : g.W.Loads.kept l.words l.initial.hand l.hand;
+  stepped : HasStepped g.W.Loads l.words l.initial.hand l.hand;
   steps : HasHalved (g.W.Loads.steps l.words l.initial.hand) (g.W.Loads.steps l.words l.hand) l.size (l.high - l.low);
 }
 

@@ -1,9 +1,9 @@
 use Rattle.std.proofs.Common.{ℕ, ◌≡◌, ◌+◌, ◌<◌, List, length, take, refl, ap, subst, ◌∙◌, arith, rules}
 use Rattle.std.specs.Prelude.{slice_index}
-use Rattle.std.specs.List.{splice}
-use Rattle.std.proofs.lemmas.List.{take_all}
 use Rattle.std.proofs.lemmas.List.Elements.{All-get_or}
 use Rattle.row_blocks.specs.Blocks.{rows_in, rank}
+use Rattle.row_blocks.proofs.Steps.{steps_none, steps_more}
+use Rattle.row_blocks.proofs.RowSplices.{all_come}
 use Rattle.row_blocks.proofs.Lays.{SameLayout, IsSpot, same_layout, spot_now, spot_on, spot_below, lays_none, laid_more, next_below, lay_steps}
 use Rattle.row_blocks.proofs.laying.lay_rows.Given.{Over}
 use Rattle.row_blocks.proofs.laying.lay_rows.Goals.{In-rows}
@@ -28,9 +28,7 @@ rows-init g c = record {
   layout = λ t le. refl;
   spot = record { there = c.requires.there; place = c.requires.place; body = c.requires.body; count = c.requires.count; rank = omega arith };
   high = omega arith;
-  may = c.requires.may;
-  rows = λ w r. r;
-  kept = g.W.Loads.no_step c.args.words.now c.args.hand.now;
+  stepped = steps_none _ _ _ c.requires.may;
   steps = omega arith;
 }
 
@@ -42,7 +40,7 @@ go_on-here-requires g c =
     let s = spot g h in
     record {
       few = c.requires.few;
-      may = c.rows.invariant.may;
+      may = c.rows.invariant.stepped.may;
       laid = c.rows.invariant.laid;
       there = s.there;
       place = s.place;
@@ -67,7 +65,7 @@ lay_row-requires-clause-body g c = rw c.go_on-here.ensures.words c.go_on-here.en
 pub lay_row-requires-clause-row : goal.lay_row-requires-clause-row
 lay_row-requires-clause-row g c =
     let w = slice_index c.args.more.now c.rows.k in
-    c.go_on-here.ensures.rows w (c.rows.invariant.rows w
+    c.go_on-here.ensures.rows w (c.rows.invariant.stepped.rows w
     (All-get_or (g.W.Loads.is_row c.args.words.now c.args.hand.now) c.args.more.now c.rows.k 0 (omega arith) c.requires.more))
 
 -- one row more is laid
@@ -93,20 +91,13 @@ rows-preserved g c =
       layout = λ t le. c.lay_row.ensures.layout t le ∙ (ap (λ (l : List ℕ). slice_index l t) go.words ∙ inv.layout t le);
       spot = spot_on to.at.place r c.rows.k (same g h) go.there go.place go.body go.count here;
       high = search rules;
-      may = c.lay_row.ensures.may;
-      rows = λ x p. c.lay_row.ensures.rows x (go.rows x (inv.rows x p));
-      kept = g.W.Loads.steps_on _ _ _ _ (g.W.Loads.steps_on _ _ _ _ inv.kept go.kept) c.lay_row.ensures.kept;
+      stepped = steps_more _ (steps_more _ inv.stepped go.may go.rows go.kept) c.lay_row.ensures.may c.lay_row.ensures.rows c.lay_row.ensures.kept;
       steps = lay_steps _ _ _ _ _ _ _ _ inv.steps go.steps c.lay_row.ensures.steps;
     }
 
 -- all are laid
 pub returns-clause-spliced : goal.returns-clause-spliced
 returns-clause-spliced g c =
-    let nb = c.args.blocks in
-    let one = g.W.Loads.words c.args.words.now c.args.hand.now in
-    let two = g.W.Loads.words c.args.words.now c.rows.hand in
-    let r : ℕ = rank nb one c.args.from.at.block c.args.from.at.place in
-    let more = c.args.more.now in
-    let all : c.rows.k ≡ length more = omega arith in
-    subst (λ (n : ℕ). rows_in nb two ≡ splice (rows_in nb one) r (r + n) (take n more)) all c.rows.invariant.spliced
-    ∙ ap (splice (rows_in nb one) r (r + length more)) (take_all (length more) more (omega arith))
+    let rows = rows_in c.args.blocks (g.W.Loads.words c.args.words.now c.args.hand.now) in
+    let r : ℕ = rank c.args.blocks (g.W.Loads.words c.args.words.now c.args.hand.now) c.args.from.at.block c.args.from.at.place in
+    all_come rows c.args.more.now r (r + c.rows.k) (r + length c.args.more.now) c.rows.k (omega arith) (omega arith) c.rows.invariant.spliced

@@ -3,6 +3,7 @@ use Rattle.std.specs.Prelude.{slice_index}
 use Rattle.std.specs.List.{splice}
 use Rattle.row_blocks.specs.Blocks.{IsLaidOut, rows_in, rank}
 use Rattle.row_blocks.proofs.Lays.{IsSpot}
+use Rattle.row_blocks.proofs.Steps.{HasStepped}
 use Rattle.row_blocks.proofs.laying.lay_rows.Given as goal
 
 -- so many rows are laid, and the layout stands as it stood
@@ -18,9 +19,7 @@ invariant-rows g l = record {
   spot : IsSpot l.blocks (g.W.Loads.words l.words l.initial.hand) l.spot.at.block l.spot.at.place l.spot.body.at l.spot.body.rows
       (rank l.blocks (g.W.Loads.words l.words l.initial.hand) l.fn.from.at.block l.fn.from.at.place + l.k);
   high : l.k ≤ length l.more;
-  may : g.W.Loads.may_store l.words l.hand;
-  rows : (w : ℕ) → g.W.Loads.is_row l.words l.initial.hand w → g.W.Loads.is_row l.words l.hand w;
-  kept : g.W.Loads.kept l.words l.initial.hand l.hand;
+  stepped : HasStepped g.W.Loads l.words l.initial.hand l.hand;
   steps : g.W.Loads.steps l.words l.hand + l.fn.from.at.block ≤ g.W.Loads.steps l.words l.initial.hand + (2 * l.k + l.spot.at.block);
 }
 

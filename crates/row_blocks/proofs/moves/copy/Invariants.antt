@@ -1,5 +1,6 @@
 use Rattle.std.proofs.Common.{ℕ, ◌+◌, ◌-◌, ◌*◌, ◌≤◌}
 use Rattle.row_blocks.specs.Moves.{IsCopied}
+use Rattle.row_blocks.proofs.Steps.{HasStepped}
 use Rattle.row_blocks.proofs.moves.copy.Given as goal
 
 -- so many rows are laid at their other places
@@ -7,9 +8,7 @@ abbrev pub invariant-rows : goal.invariant-rows
 invariant-rows g l = record {
   copied : IsCopied (g.W.Loads.words l.words l.initial.hand) (g.W.Loads.words l.words l.hand) l.from l.to l.k;
   high : l.k ≤ l.count;
-  may : g.W.Loads.may_store l.words l.hand;
-  rows : (w : ℕ) → g.W.Loads.is_row l.words l.initial.hand w → g.W.Loads.is_row l.words l.hand w;
-  kept : g.W.Loads.kept l.words l.initial.hand l.hand;
+  stepped : HasStepped g.W.Loads l.words l.initial.hand l.hand;
   steps : g.W.Loads.steps l.words l.hand ≤ g.W.Loads.steps l.words l.initial.hand + 3 * l.k;
 }
 

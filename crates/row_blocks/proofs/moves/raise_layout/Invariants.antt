@@ -1,5 +1,6 @@
 use Rattle.std.proofs.Common.{ℕ, ◌+◌, ◌-◌, ◌*◌, ◌≤◌}
 use Rattle.row_blocks.specs.Moves.{IsPushing}
+use Rattle.row_blocks.proofs.Steps.{HasStepped}
 use Rattle.row_blocks.proofs.moves.raise_layout.Given as goal
 
 -- the words before a place have moved up, and the last of them is carried
@@ -8,9 +9,7 @@ invariant-shift g l = record {
   pushing : IsPushing (g.W.Loads.words l.words l.initial.hand) (g.W.Loads.words l.words l.hand) l.from l.to l.word l.carried;
   low : l.from ≤ l.to;
   high : l.to ≤ l.until;
-  may : g.W.Loads.may_store l.words l.hand;
-  rows : (w : ℕ) → g.W.Loads.is_row l.words l.initial.hand w → g.W.Loads.is_row l.words l.hand w;
-  kept : g.W.Loads.kept l.words l.initial.hand l.hand;
+  stepped : HasStepped g.W.Loads l.words l.initial.hand l.hand;
   steps : g.W.Loads.steps l.words l.hand + 2 * l.from ≤ g.W.Loads.steps l.words l.initial.hand + 2 * l.to;
 }
 

@@ -1,18 +1,20 @@
 use Rattle.std.proofs.Common.{◌≡◌, subst, arith}
 use Rattle.row_blocks.specs.Moves.{IsRotated}
+use Rattle.row_blocks.proofs.Steps.{steps_none, steps_more}
 use Rattle.row_blocks.proofs.Removals.{rotates_none, rotates_on}
 use Rattle.row_blocks.proofs.removing.rotate.Goals as goal
 
 -- nothing has moved yet
 pub bodies-init : goal.bodies-init
-bodies-init g c = search (arith, rotates_none, g.W.Loads.no_step)
+bodies-init g c = search (arith, rotates_none, steps_none)
 
 -- one body word more has moved down
 pub bodies-preserved : goal.bodies-preserved
 bodies-preserved g c =
     let inv = c.bodies.invariant in
     let rotated = rotates_on c.requires.some inv.rotated c.swap.ensures.swapped in
-    search (arith, g.W.Loads.steps_on, c.swap.ensures.rows, inv.rows)
+    let stepped = steps_more _ inv.stepped c.swap.ensures.may c.swap.ensures.rows c.swap.ensures.kept in
+    search arith
 
 -- all have
 pub returns-clause-rotated : goal.returns-clause-rotated

@@ -1,6 +1,7 @@
 use Rattle.std.proofs.Common.{ℕ, ◌+◌, ◌-◌, ◌*◌, ◌≤◌}
 use Rattle.row_blocks.specs.Blocks.{AreBodies}
 use Rattle.row_blocks.specs.Moves.{IsRotated}
+use Rattle.row_blocks.proofs.Steps.{HasStepped}
 use Rattle.row_blocks.proofs.removing.rotate.Given as goal
 
 -- so many body words have moved down, and those behind stand as they stood
@@ -9,9 +10,7 @@ invariant-bodies g l = record {
   bodies : AreBodies l.blocks (g.W.Loads.words l.words l.hand);
   rotated : IsRotated l.blocks (g.W.Loads.words l.words l.initial.hand) (g.W.Loads.words l.words l.hand) l.to l.gap l.k;
   high : l.k ≤ l.count;
-  may : g.W.Loads.may_store l.words l.hand;
-  rows : (w : ℕ) → g.W.Loads.is_row l.words l.initial.hand w → g.W.Loads.is_row l.words l.hand w;
-  kept : g.W.Loads.kept l.words l.initial.hand l.hand;
+  stepped : HasStepped g.W.Loads l.words l.initial.hand l.hand;
   steps : g.W.Loads.steps l.words l.hand ≤ g.W.Loads.steps l.words l.initial.hand + 4 * l.k;
 }
 

@@ -1,11 +1,12 @@
 use Rattle.std.proofs.Common.{ℕ, ◌≡◌, ◌+◌, ◌<◌, List, ap, subst, ◌∙◌, arith, inl, inr}
 use Rattle.std.proofs.lemmas.Bool.{cases_lt}
 use Rattle.row_blocks.specs.Blocks.{rows_of}
+use Rattle.row_blocks.proofs.Steps.{steps_more}
 use Rattle.row_blocks.proofs.Pairs.{pair_there}
 use Rattle.row_blocks.proofs.settling.find_pair.Goals as goal
 
 pub returns-then-rows-behind-le127-clause-kept : goal.returns-then-rows-behind-le127-clause-kept
-returns-then-rows-behind-le127-clause-kept g c = g.W.Loads.steps_on _ _ _ _ c.pairs.invariant.kept c.body_of-behind.ensures.kept
+returns-then-rows-behind-le127-clause-kept g c = g.W.Loads.steps_on _ _ _ _ c.pairs.invariant.stepped.kept c.body_of-behind.ensures.kept
 
 -- two more have too many
 pub pairs-preserved : goal.pairs-preserved
@@ -32,9 +33,7 @@ pairs-preserved g c =
         | inr last ↦ let e : c.pairs.k ≡ k = omega arith in
             subst (λ (n : ℕ). 127 < rows_of nb one n + 1 + rows_of nb one (n + 1)) e (omega arith)
       ];
-      may = call.may;
-      rows = λ w r. call.stay w (inv.rows w r);
-      kept = g.W.Loads.steps_on _ _ _ _ inv.kept call.kept;
+      stepped = steps_more _ inv.stepped call.may call.stay call.kept;
       steps = omega arith;
     }
 

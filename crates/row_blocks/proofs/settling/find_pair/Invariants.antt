@@ -1,5 +1,6 @@
 use Rattle.std.proofs.Common.{ℕ, ◌≡◌, ◌+◌, ◌-◌, ◌<◌}
 use Rattle.row_blocks.specs.Blocks.{rows_of}
+use Rattle.row_blocks.proofs.Steps.{HasStepped}
 use Rattle.row_blocks.proofs.settling.find_pair.Given as goal
 
 -- each two blocks that were looked at have too many rows together
@@ -11,9 +12,7 @@ invariant-pairs g l = record {
   here : l.rows ≡ rows_of l.blocks (g.W.Loads.words l.words l.fn.hand) l.k;
   full : (k : ℕ) → 0 < k → k < l.k
       → 127 < rows_of l.blocks (g.W.Loads.words l.words l.fn.hand) k + 1 + rows_of l.blocks (g.W.Loads.words l.words l.fn.hand) (k + 1);
-  may : g.W.Loads.may_store l.words l.hand;
-  rows : (w : ℕ) → g.W.Loads.is_row l.words l.fn.hand w → g.W.Loads.is_row l.words l.hand w;
-  kept : g.W.Loads.kept l.words l.fn.hand l.hand;
+  stepped : HasStepped g.W.Loads l.words l.fn.hand l.hand;
   steps : g.W.Loads.steps l.words l.hand ≡ g.W.Loads.steps l.words l.fn.hand + l.k;
 }
 
