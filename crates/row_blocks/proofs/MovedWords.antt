@@ -1,11 +1,13 @@
 -- Words that move, one step at a time.
-use Rattle.std.proofs.Common.{◌≡◌, ◌≢◌, ℕ, suc, ◌+◌, ◌-◌, ◌<◌, ◌≤◌, ◌⊎◌, List, [], ◌∷◌, length, get_or, take, drop}
+use Rattle.std.proofs.Common.{◌≡◌, ◌≢◌, ℕ, suc, ◌+◌, ◌-◌, ◌*◌, ◌<◌, ◌≤◌, ◌⊎◌, List, [], ◌∷◌, length, get_or, take, drop}
 use Rattle.std.proofs.Common.{sym, refl, ap, ◌∙◌, subst, arith, inl, inr}
 use Rattle.std.proofs.lemmas.Bool.{cases_lt}
 use Rattle.std.proofs.lemmas.List.{length-set, get_or-set_same, get_or-set_other, drop_more}
 use Rattle.std.specs.Prelude.{slice_index, slice_set}
 use Rattle.std.specs.List.{insert, splice}
+use Rattle.row_blocks.specs.declared.words.Loads.{Ghosts}
 use Rattle.row_blocks.specs.Moves.{IsPushed, IsPushing, IsCopied, IsPutIn, IsCutOut}
+use Rattle.row_blocks.proofs.Steps.{HasStepped, steps_none, steps_more}
 use Rattle.row_blocks.proofs.Puts.{same_runs, body_spliced, cut_head}
 
 -- nothing has moved yet
@@ -43,6 +45,35 @@ pub pushes_end : {one two three : List ℕ} {at to end word carried : ℕ} → a
 pushes_end {one} {two} {three} {at} {to} {end} {word} {carried} ordered wide is p laid =
     let all : IsPushing one two at end word carried = subst (λ (n : ℕ). IsPushing one two at n word carried) is p in
     let q = pushes_on ordered wide all refl laid in grind arith
+
+-- a word was laid at a place, by at most two steps, and another one stood there
+pub record IsExchanged {Words Hand : Type 0} (L : Ghosts Words Hand) (ws : Words) (two three : Hand) (place word was : ℕ) : Type 0 where
+  pub stood : was ≡ slice_index (L.words ws two) place
+  pub words : L.words ws three ≡ slice_set (L.words ws two) place word
+  pub may : L.may_store ws three
+  pub rows : (w : ℕ) → L.is_row ws two w → L.is_row ws three w
+  pub kept : L.kept ws two three
+  pub steps : L.steps ws three ≤ L.steps ws two + 2
+
+-- words have moved up to a place, by at most two steps each
+pub record HasPushed {Words Hand : Type 0} (L : Ghosts Words Hand) (ws : Words) (one two : Hand) (from to word carried : ℕ) : Type 0 where
+  pub pushing : IsPushing (L.words ws one) (L.words ws two) from to word carried
+  pub stepped : HasStepped L ws one two
+  pub steps : L.steps ws two + 2 * from ≤ L.steps ws one + 2 * to
+
+module _ {Words Hand : Type 0} where
+  -- none has yet
+  pub pushed_none : (L : Ghosts Words Hand) (ws : Words) (hand : Hand) (from word : ℕ) → L.may_store ws hand → HasPushed L ws hand hand from from word word
+  pushed_none L ws hand from word may = record { pushing = pushes_none; stepped = steps_none L ws hand may; steps = omega arith }
+
+  -- one more has
+  pub pushed_on : {L : Ghosts Words Hand} {ws : Words} {one two three : Hand} {from to word carried stood : ℕ} → from ≤ to → to < length (L.words ws one)
+      → HasPushed L ws one two from to word carried → IsExchanged L ws two three to carried stood → HasPushed L ws one three from (to + 1) word stood
+  pushed_on {three = three} ordered wide p e = record {
+    pushing = pushes_on ordered wide p.pushing e.stood e.words;
+    stepped = steps_more three p.stepped e.may e.rows e.kept;
+    steps = let a = p.steps in let b = e.steps in omega arith;
+  }
 
 -- nothing is copied yet
 pub copies_none : {one : List ℕ} {from to : ℕ} → IsCopied one one from to 0

@@ -1,28 +1,26 @@
-use Rattle.std.proofs.Common.{ℕ, ◌≡◌, ◌≤◌, sym, subst, ◌∙◌, arith}
-use Rattle.row_blocks.proofs.Steps.{steps_none, steps_more}
-use Rattle.row_blocks.proofs.MovedWords.{pushes_none, pushes_on, pushes_end}
+use Rattle.std.proofs.Common.{sym, subst, ◌∙◌, arith}
+use Rattle.row_blocks.proofs.MovedWords.{pushes_end, pushed_none, pushed_on}
 use Rattle.row_blocks.proofs.moves.raise.Goals as goal
 
 -- nothing has moved yet
 pub shift-init : goal.shift-init
-shift-init g c = search (arith, pushes_none, steps_none)
+shift-init g c = search (arith, pushed_none)
 
 -- one word more has moved up
 pub shift-preserved : goal.shift-preserved
 shift-preserved g c =
     let inv = c.shift.invariant in
     let call = c.exchange-stood in
-    let stepped = steps_more _ inv.stepped call.ensures.may call.ensures.rows call.ensures.kept in
-    let pushing = pushes_on inv.low (omega arith) inv.pushing call.ensures.stood call.ensures.words in
-    let row = subst (g.W.Loads.is_row c.args.words.now call.new.hand) (sym (call.ensures.stood ∙ inv.pushing.above c.shift.to (omega arith)))
-    (call.ensures.rows _ (inv.stepped.rows _ (c.requires.rows c.shift.to inv.low (omega arith)))) in
+    let pushed = pushed_on inv.low (omega arith) inv.pushed (assumption call.ensures) in
+    let row = subst (g.W.Loads.is_row c.args.words.now call.new.hand) (sym (call.ensures.stood ∙ inv.pushed.pushing.above c.shift.to (omega arith)))
+    (call.ensures.rows _ (inv.pushed.stepped.rows _ (c.requires.rows c.shift.to inv.low (omega arith)))) in
     search arith
 
 -- the last word that was carried is laid
 pub returns-clause-pushed : goal.returns-clause-pushed
 returns-clause-pushed g c =
-    pushes_end c.requires.ordered c.requires.wide (omega arith) c.shift.invariant.pushing c.exchange.ensures.words
+    pushes_end c.requires.ordered c.requires.wide (omega arith) c.shift.invariant.pushed.pushing c.exchange.ensures.words
 
 -- all steps are one
 pub returns-clause-kept : goal.returns-clause-kept
-returns-clause-kept g c = g.W.Loads.steps_on _ _ _ _ c.shift.invariant.stepped.kept c.exchange.ensures.kept
+returns-clause-kept g c = g.W.Loads.steps_on _ _ _ _ c.shift.invariant.pushed.stepped.kept c.exchange.ensures.kept

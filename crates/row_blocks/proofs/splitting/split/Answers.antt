@@ -2,76 +2,73 @@ use Rattle.std.proofs.Common.{ℕ, ◌≡◌, ◌+◌, ◌-◌, ◌*◌, ◌/◌
 use Rattle.std.specs.Prelude.{slice_index}
 use Rattle.std.proofs.lemmas.Grind.{common_steps}
 use Rattle.row_blocks.specs.Blocks.{body_at}
-use Rattle.row_blocks.proofs.Splits.{IsSplit, split_copied, lower_stays, split_done, laid_split, rows_split, split_lower, split_upper}
+use Rattle.row_blocks.proofs.Splits.{split_copied, lower_stays, split_done, laid_split, rows_split, split_lower, split_upper}
 use Rattle.row_blocks.proofs.Places.{head_is_row, body_is_row, others_loaded}
 use Rattle.row_blocks.proofs.splitting.split.Given.{Over}
-use Rattle.row_blocks.proofs.splitting.split.Goals.{After-store_layout-2}
+use Rattle.row_blocks.proofs.splitting.split.Goals.{After-load-free, After-load-head}
 use Rattle.row_blocks.proofs.splitting.split.Goals as goal
 
--- what stands after all stores
-done : (g : Over) (c : After-store_layout-2 g) → IsSplit c.args.blocks (g.W.Loads.words c.args.words.now c.args.hand.now)
-    (g.W.Loads.words c.args.words.now c.store_layout-2.new.hand) c.args.i c.args.place
-done g c =
+-- what the loads found, among the words of before
+loaded : (g : Over) (c : After-load-free g) → let one = g.W.Loads.words c.args.words.now c.args.hand.now in
+    (g.W.Loads.words c.args.words.now c.load-free.new.hand ≡ one) × (c.load-packed.result ≡ slice_index one (128 * c.args.blocks + 1 + c.args.i))
+    × (c.load-free.result ≡ slice_index one (128 * c.args.blocks + 1 + c.load-count.result))
+loaded g c =
     let same_1 = c.load-count.ensures.words in
-    let same_2 = c.load-packed.ensures.words ∙ same_1 in
-    let same_3 = c.load-free.ensures.words ∙ same_2 in
-    let read = c.load-packed.ensures.word ∙ ap (λ (l : List ℕ). slice_index l (128 * c.args.blocks + 1 + c.args.i)) same_1 in
-    let free = c.load-free.ensures.word ∙ ap (λ (l : List ℕ). slice_index l (128 * c.args.blocks + 1 + c.load-count.result)) same_2 in
-    split_done c.requires.laid c.requires.there c.requires.free c.requires.some c.requires.place same_3 read c.load-count.ensures.word free
-    c.copy.ensures.copied c.load-head.ensures.words c.load-head.ensures.word c.raise.ensures.pushed c.raise_layout.ensures.pushed
-    c.store_layout.ensures.words c.store_layout-2.ensures.words
+    let same_2 = c.load-packed.ensures.words ∙ same_1 in (
+      c.load-free.ensures.words ∙ same_2,
+      c.load-packed.ensures.word ∙ ap (λ (l : List ℕ). slice_index l (128 * c.args.blocks + 1 + c.args.i)) same_1,
+      c.load-free.ensures.word ∙ ap (λ (l : List ℕ). slice_index l (128 * c.args.blocks + 1 + c.load-count.result)) same_2,
+    )
+
+-- a word that was a row is one still
+row_still : (g : Over) (c : After-load-head g) (w : ℕ) → g.W.Loads.is_row c.args.words.now c.args.hand.now w
+    → g.W.Loads.is_row c.args.words.now c.load-head.new.hand w
+row_still g c w r =
+    c.load-head.ensures.rows w (c.copy.ensures.rows w (c.load-free.ensures.rows w (c.load-packed.ensures.rows w (c.load-count.ensures.rows w r))))
 
 -- what is copied is a row
 pub copy-requires-clause-rows : goal.copy-requires-clause-rows
 copy-requires-clause-rows g c =
-    let ws = c.args.words.now in
-    let nb = c.args.blocks in
-    let same = c.load-free.ensures.words ∙ (c.load-packed.ensures.words ∙ c.load-count.ensures.words) in
-    let read = c.load-packed.ensures.word ∙ ap (λ (l : List ℕ). slice_index l (128 * nb + 1 + c.args.i)) c.load-count.ensures.words in
+    let ws = c.args.words.now in let nb = c.args.blocks in let found = loaded g (goal.at.copy-requires-clause-rows g c).After-load-free in
     λ m lt. others_loaded nb _ c.args.i c.requires.laid c.requires.there (g.W.Loads.is_row ws c.args.hand.now) (g.W.Loads.is_row ws c.load-free.new.hand)
-    (λ w r. c.load-free.ensures.rows w (c.load-packed.ensures.rows w (c.load-count.ensures.rows w r))) same read c.requires.rows
+    (λ w r. c.load-free.ensures.rows w (c.load-packed.ensures.rows w (c.load-count.ensures.rows w r))) found.0 found.1 c.requires.rows
     (nb + 127 * (c.load-packed.result / 128) + c.args.place + m) (omega arith) (omega arith)
 
 -- so is the head of the upper half
 pub raise-requires-clause-row : goal.raise-requires-clause-row
 raise-requires-clause-row g c =
+    let h = goal.at.raise-requires-clause-row g c in let found = loaded g h.After-load-free in
     let ws = c.args.words.now in
     let nb = c.args.blocks in
     let one = g.W.Loads.words ws c.args.hand.now in
     let i = c.args.i in
     let laid = c.requires.laid in
-    let same_1 = c.load-count.ensures.words in
-    let same_2 = c.load-packed.ensures.words ∙ same_1 in
-    let same_3 = c.load-free.ensures.words ∙ same_2 in
-    let read : c.load-packed.result ≡ slice_index one (128 * nb + 1 + i) =
-    c.load-packed.ensures.word ∙ ap (λ (l : List ℕ). slice_index l (128 * nb + 1 + i)) same_1 in
-    let free = c.load-free.ensures.word ∙ ap (λ (l : List ℕ). slice_index l (128 * nb + 1 + c.load-count.result)) same_2 in
-    let copied = split_copied nb i c.args.place same_3 read c.load-count.ensures.word free c.copy.ensures.copied in
+    let copied = split_copied nb i c.args.place found.0 found.1 c.load-count.ensures.word found.2 c.copy.ensures.copied in
     let at : ℕ = body_at nb one i + (c.args.place - 1) in
     let here : c.load-head.result ≡ slice_index one at = c.load-head.ensures.word
-    ∙ (ap (λ (x : ℕ). slice_index (g.W.Loads.words ws c.copy.new.hand) (nb + 127 * (x / 128) + (c.args.place - 1))) read
+    ∙ (ap (λ (x : ℕ). slice_index (g.W.Loads.words ws c.copy.new.hand) (nb + 127 * (x / 128) + (c.args.place - 1))) found.1
     ∙ lower_stays i c.args.place (c.args.place - 1) laid c.requires.there c.requires.free (omega arith) copied) in
-    subst (g.W.Loads.is_row ws c.load-head.new.hand) (sym here)
-    (c.load-head.ensures.rows _ (c.copy.ensures.rows _ (c.load-free.ensures.rows _ (c.load-packed.ensures.rows _ (c.load-count.ensures.rows _
-    (body_is_row nb one i laid c.requires.there (g.W.Loads.is_row ws c.args.hand.now) c.requires.rows at (omega arith) (omega arith)))))))
+    subst (g.W.Loads.is_row ws c.load-head.new.hand) (sym here) (row_still g h.After-load-head _
+    (body_is_row nb one i laid c.requires.there (g.W.Loads.is_row ws c.args.hand.now) c.requires.rows at (omega arith) (omega arith)))
 
 -- and the heads behind
 pub raise-requires-clause-rows : goal.raise-requires-clause-rows
 raise-requires-clause-rows g c =
-    let ws = c.args.words.now in
+    let h = goal.at.raise-requires-clause-rows g c in let ws = c.args.words.now in
     let one = g.W.Loads.words ws c.args.hand.now in
-    let same_3 = c.load-free.ensures.words ∙ (c.load-packed.ensures.words ∙ c.load-count.ensures.words) in
     λ s from until.
     let here : slice_index (g.W.Loads.words ws c.load-head.new.hand) s ≡ slice_index one s = ap (λ (l : List ℕ). slice_index l s) c.load-head.ensures.words
-    ∙ (c.copy.ensures.copied.below s (omega arith) ∙ ap (λ (l : List ℕ). slice_index l s) same_3) in
-    subst (g.W.Loads.is_row ws c.load-head.new.hand) (sym here)
-    (c.load-head.ensures.rows _ (c.copy.ensures.rows _ (c.load-free.ensures.rows _ (c.load-packed.ensures.rows _ (c.load-count.ensures.rows _
-    (head_is_row _ one s c.requires.laid (omega arith) (g.W.Loads.is_row ws c.args.hand.now) c.requires.rows))))))
+    ∙ (c.copy.ensures.copied.below s (omega arith) ∙ ap (λ (l : List ℕ). slice_index l s) (loaded g h.After-load-free).0) in
+    subst (g.W.Loads.is_row ws c.load-head.new.hand) (sym here) (row_still g h.After-load-head _
+    (head_is_row _ one s c.requires.laid (omega arith) (g.W.Loads.is_row ws c.args.hand.now) c.requires.rows))
 
 -- what stands then: the same rows, in one block more
 pub returns : goal.returns
 returns g c =
-    let d = done g c in
+    let found = loaded g (goal.at.returns g c).After-load-free in
+    let d = split_done c.requires.laid c.requires.there c.requires.free c.requires.some c.requires.place found.0 found.1 c.load-count.ensures.word found.2
+    c.copy.ensures.copied c.load-head.ensures.words c.load-head.ensures.word c.raise.ensures.pushed c.raise_layout.ensures.pushed
+    c.store_layout.ensures.words c.store_layout-2.ensures.words in
     let loads = g.W.Loads.steps_on _ _ _ _ (g.W.Loads.steps_on _ _ _ _ c.load-count.ensures.kept c.load-packed.ensures.kept) c.load-free.ensures.kept in
     let copied = g.W.Loads.steps_on _ _ _ _ (g.W.Loads.steps_on _ _ _ _ loads c.copy.ensures.kept) c.load-head.ensures.kept in
     let raised = g.W.Loads.steps_on _ _ _ _ (g.W.Loads.steps_on _ _ _ _ copied c.raise.ensures.kept) c.raise_layout.ensures.kept in
