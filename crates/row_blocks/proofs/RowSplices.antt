@@ -70,6 +70,10 @@ lays_on R more r k there some =
     ap (λ (l : List ℕ). set l (r + k) w) whole ∙ (laid ∙ (append_assoc (take r R) (take k more) (w ∷ drop (r + (k + 1)) R)
     ∙ ap (λ (l : List ℕ). take r R ++ l) (sym (append_assoc (take k more) (w ∷ []) (drop (r + (k + 1)) R)) ∙ (λ j. sym last j ++ drop (r + (k + 1)) R))))
 
+-- a splice of the same rows from and up to the same places
+pub same_splice : {now R S : List ℕ} (u : List ℕ) {p q r s : ℕ} → now ≡ splice R p q u → R ≡ S → p ≡ r → q ≡ s → now ≡ splice S r s u
+same_splice u spliced same from until = spliced ∙ (λ j. splice (same j) (from j) (until j) u)
+
 -- where all of the rows have come that were to come, so has the list of them
 pub all_come : (rows more : List ℕ) (from end last k : ℕ) {now : List ℕ} → k ≡ length more → end ≡ last → now ≡ splice rows from end (take k more)
     → now ≡ splice rows from last more

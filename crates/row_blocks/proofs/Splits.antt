@@ -191,32 +191,40 @@ is_split {nb} {one} {copy} {heads} {told} {i} {place} lower laid there spare som
     ∙ get_or-set_same told (128 * nb + 1 + i) lower 0 (omega arith) in
     grind (arith, stays, before, region, was)
 
--- what was read of the layout says from where and to where rows are copied
-pub split_copied : (nb : ℕ) {one loaded copy : List ℕ} (i place : ℕ) {packed count free : ℕ} → loaded ≡ one → packed ≡ slice_index one (128 * nb + 1 + i)
-    → count ≡ blocks_of nb one → free ≡ slice_index one (128 * nb + 1 + count)
-    → IsCopied loaded copy (nb + 127 * (packed / 128) + place) (nb + 127 * (free / 128)) (packed % 128 - place)
-    → IsCopied one copy (body_at nb one i + place) (body_at nb one (blocks_of nb one)) (rows_of nb one i - place)
-split_copied nb {one} {copy} i place same read counted freed copied =
-    let body = freed ∙ ap (λ (n : ℕ). slice_index one (128 * nb + 1 + n)) counted in
-    coe 0 1 (j. IsCopied (same j) copy (nb + 127 * (read j / 128) + place) (nb + 127 * (body j / 128)) (read j % 128 - place)) copied
+-- what was read of the layout: the body word of the block, how many blocks are in use, and the body word behind these
+pub record HasRead (nb : ℕ) (one loaded : List ℕ) (i packed count free : ℕ) : Type 0 where
+  pub same : loaded ≡ one
+  pub read : packed ≡ slice_index one (128 * nb + 1 + i)
+  pub counted : count ≡ blocks_of nb one
+  pub freed : free ≡ slice_index one (128 * nb + 1 + count)
 
--- the same by what was read of the layout
-pub split_done : {nb : ℕ} {one loaded copy again heads told three two : List ℕ} {i place packed count free head : ℕ} → IsLaidOut nb one → i < blocks_of nb one
-    → blocks_of nb one < nb → 0 < place → place ≤ rows_of nb one i → loaded ≡ one → packed ≡ slice_index one (128 * nb + 1 + i) → count ≡ blocks_of nb one
-    → free ≡ slice_index one (128 * nb + 1 + count)
-    → IsCopied loaded copy (nb + 127 * (packed / 128) + place) (nb + 127 * (free / 128)) (packed % 128 - place) → again ≡ copy
-    → head ≡ slice_index copy (nb + 127 * (packed / 128) + (place - 1)) → IsPushed again heads (i + 1) count head
-    → IsPushed heads told (128 * nb + 1 + (i + 1)) (128 * nb + 1 + count) (128 * (free / 128) + (packed % 128 - place))
-    → three ≡ slice_set told (128 * nb + 1 + i) (packed - (packed % 128 - place + 1)) → two ≡ slice_set three (128 * nb) (count + 1)
-    → IsSplit nb one two i place
-split_done {nb} {one} {copy} {heads} {told} {i} {place} {packed} laid there spare some within same read counted freed copied as_copied first h t less more =
-    let body = freed ∙ ap (λ (n : ℕ). slice_index one (128 * nb + 1 + n)) counted in
-    let word = first ∙ ap (λ (x : ℕ). slice_index copy (nb + 127 * (x / 128) + (place - 1))) read in
-    let p = coe 0 1 (j. IsPushed (as_copied j) heads (i + 1) (counted j) (word j)) h in
-    let q = coe 0 1 (j. IsPushed heads told (128 * nb + 1 + (i + 1)) (128 * nb + 1 + counted j) (128 * (body j / 128) + (read j % 128 - place))) t in
-    let stored = more ∙ (λ j. slice_set (less j) (128 * nb) (counted j + 1)) in
-    subst (λ (l : List ℕ). IsSplit nb one l i place) (sym stored) (is_split (packed - (packed % 128 - place + 1)) laid there spare some within
-    (split_copied nb i place same read counted freed copied) p q (omega arith))
+module _ {nb : ℕ} {one loaded : List ℕ} {i packed count free : ℕ} (r : HasRead nb one loaded i packed count free) where
+  -- the word behind those in use has the body that is free
+  body_read : free ≡ slice_index one (128 * nb + 1 + blocks_of nb one)
+  body_read = r.freed ∙ ap (λ (n : ℕ). slice_index one (128 * nb + 1 + n)) r.counted
+
+  -- this says from where and to where rows are copied
+  pub split_copied : {copy : List ℕ} (place : ℕ) → IsCopied loaded copy (nb + 127 * (packed / 128) + place) (nb + 127 * (free / 128)) (packed % 128 - place)
+      → IsCopied one copy (body_at nb one i + place) (body_at nb one (blocks_of nb one)) (rows_of nb one i - place)
+  split_copied {copy} place copied =
+      coe 0 1 (j. IsCopied (r.same j) copy (nb + 127 * (r.read j / 128) + place) (nb + 127 * (body_read j / 128)) (r.read j % 128 - place)) copied
+
+  -- and what stands after all stores
+  pub split_done : {copy again heads told three two : List ℕ} {place head : ℕ} → IsLaidOut nb one → i < blocks_of nb one → blocks_of nb one < nb
+      → 0 < place → place ≤ rows_of nb one i
+      → IsCopied loaded copy (nb + 127 * (packed / 128) + place) (nb + 127 * (free / 128)) (packed % 128 - place) → again ≡ copy
+      → head ≡ slice_index copy (nb + 127 * (packed / 128) + (place - 1)) → IsPushed again heads (i + 1) count head
+      → IsPushed heads told (128 * nb + 1 + (i + 1)) (128 * nb + 1 + count) (128 * (free / 128) + (packed % 128 - place))
+      → three ≡ slice_set told (128 * nb + 1 + i) (packed - (packed % 128 - place + 1)) → two ≡ slice_set three (128 * nb) (count + 1)
+      → IsSplit nb one two i place
+  split_done {copy} {heads} {told} {place} laid there spare some within copied as_copied first h t less more =
+      let read = r.read in let body = body_read in
+      let word = first ∙ ap (λ (x : ℕ). slice_index copy (nb + 127 * (x / 128) + (place - 1))) read in
+      let p = coe 0 1 (j. IsPushed (as_copied j) heads (i + 1) (r.counted j) (word j)) h in
+      let q = coe 0 1 (j. IsPushed heads told (128 * nb + 1 + (i + 1)) (128 * nb + 1 + r.counted j) (128 * (body j / 128) + (read j % 128 - place))) t in
+      let stored = more ∙ (λ j. slice_set (less j) (128 * nb) (r.counted j + 1)) in
+      subst (λ (l : List ℕ). IsSplit nb one l i place) (sym stored) (is_split (packed - (packed % 128 - place + 1)) laid there spare some within
+      (split_copied place copied) p q (omega arith))
 
 -- how many rows the two halves have
 pub split_lower : {nb : ℕ} {one two : List ℕ} {i place : ℕ} → 0 < place → place ≤ rows_of nb one i → IsSplit nb one two i place → rows_of nb two i + 1 ≡ place

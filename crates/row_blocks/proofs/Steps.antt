@@ -21,3 +21,8 @@ module _ {Words Hand : Type 0} where
     rows = λ w r. rows w (so_far.rows w r);
     kept = L.steps_on words one two three so_far.kept kept;
   }
+
+  -- three steps leave what one does
+  pub three_steps : (L : Ghosts Words Hand) (words : Words) (one two three four : Hand) → L.kept words one two → L.kept words two three
+      → L.kept words three four → L.kept words one four
+  three_steps L words one two three four first second third = L.steps_on words one three four (L.steps_on words one two three first second) third

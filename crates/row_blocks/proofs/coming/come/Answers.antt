@@ -1,7 +1,7 @@
-use Rattle.std.proofs.Common.{ℕ, All, List, length, sym, ap, subst, ◌∙◌, arith}
-use Rattle.std.specs.List.{splice}
+use Rattle.std.proofs.Common.{All, length, sym, subst, arith}
 use Rattle.std.proofs.lemmas.List.Elements.{All-weaker}
-use Rattle.row_blocks.specs.Blocks.{rows_in, rank}
+use Rattle.row_blocks.specs.Blocks.{rows_in}
+use Rattle.row_blocks.proofs.RowSplices.{same_splice}
 use Rattle.row_blocks.proofs.Comings.{stays_short}
 use Rattle.row_blocks.proofs.coming.come.Goals as goal
 
@@ -22,13 +22,7 @@ insert_all-requires-clause-new g c =
 -- they come where the position is then
 pub returns-clause-spliced : goal.returns-clause-spliced
 returns-clause-spliced g c =
-    let nb = c.args.blocks in
-    let one = g.W.Loads.words c.args.words.now c.args.hand.now in
-    let two = g.W.Loads.words c.args.words.now c.make_room-to.new.hand in
-    let to = c.make_room-to.result in
-    c.insert_all.ensures.spliced
-    ∙ (ap (λ (l : List ℕ). splice l (rank nb two to.block to.place) (rank nb two to.block to.place) c.args.more.now) c.make_room-to.ensures.same
-    ∙ ap (λ (n : ℕ). splice (rows_in nb one) n n c.args.more.now) c.make_room-to.ensures.rank)
+    let room = c.make_room-to.ensures in same_splice c.args.more.now c.insert_all.ensures.spliced room.same room.rank room.rank
 
 -- block 0 has at most 64 rows still
 pub returns-clause-short : goal.returns-clause-short

@@ -1,6 +1,6 @@
 use Rattle.std.proofs.Common.{ℕ, ◌<◌, List, sym, ap, subst, ◌∙◌, arith}
 use Rattle.row_blocks.specs.Blocks.{blocks_of, rows_of}
-use Rattle.row_blocks.proofs.Steps.{steps_more}
+use Rattle.row_blocks.proofs.Steps.{steps_more, three_steps}
 use Rattle.row_blocks.proofs.Counts.{count_next, block_there}
 use Rattle.row_blocks.proofs.Cuts.{head_gone}
 use Rattle.row_blocks.proofs.cutting.cut_blocks.Given.{Over}
@@ -28,8 +28,7 @@ returns-then-left-body-clause-spliced g c =
     (c.body_of-body.ensures.words ∙ c.whole.invariant.words) c.delete.ensures.spliced c.delete.ensures.others c.whole.invariant.left
 
 pub returns-then-left-body-clause-kept : goal.returns-then-left-body-clause-kept
-returns-then-left-body-clause-kept g c = g.W.Loads.steps_on _ _ _ _ (g.W.Loads.steps_on _ _ _ _ c.whole.invariant.stepped.kept c.body_of-body.ensures.kept)
-    c.delete.ensures.kept
+returns-then-left-body-clause-kept g c = three_steps g.W.Loads _ _ _ _ _ c.whole.invariant.stepped.kept c.body_of-body.ensures.kept c.delete.ensures.kept
 
 -- the rows of one block more are to go
 pub whole-preserved : goal.whole-preserved

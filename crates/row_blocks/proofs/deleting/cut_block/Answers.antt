@@ -1,6 +1,7 @@
 use Rattle.std.proofs.Common.{ℕ, ◌≡◌, ◌+◌, ◌-◌, sym, subst, rules, arith, List}
 use Rattle.row_blocks.specs.Moves.{IsCutOut, IsCopied}
 use Rattle.row_blocks.proofs.MovedWords.{cut_front, cut_behind}
+use Rattle.row_blocks.proofs.Steps.{three_steps}
 use Rattle.row_blocks.proofs.deleting.cut_block.Goals as goal
 
 -- behind the head rows of the body go
@@ -23,5 +24,4 @@ returns-then-from-eq0-clause-cut g c =
 
 -- all steps are one
 pub returns-then-from-eq0-clause-kept : goal.returns-then-from-eq0-clause-kept
-returns-then-from-eq0-clause-kept g c = g.W.Loads.steps_on _ _ _ _ (g.W.Loads.steps_on _ _ _ _ c.load-first.ensures.kept c.copy.ensures.kept)
-    c.exchange.ensures.kept
+returns-then-from-eq0-clause-kept g c = three_steps g.W.Loads _ _ _ _ _ c.load-first.ensures.kept c.copy.ensures.kept c.exchange.ensures.kept

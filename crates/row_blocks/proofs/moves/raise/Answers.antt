@@ -9,12 +9,14 @@ shift-init g c = search (arith, pushed_none)
 -- one word more has moved up
 pub shift-preserved : goal.shift-preserved
 shift-preserved g c =
-    let inv = c.shift.invariant in
-    let call = c.exchange-stood in
-    let pushed = pushed_on inv.low (omega arith) inv.pushed (assumption call.ensures) in
-    let row = subst (g.W.Loads.is_row c.args.words.now call.new.hand) (sym (call.ensures.stood ∙ inv.pushed.pushing.above c.shift.to (omega arith)))
-    (call.ensures.rows _ (inv.pushed.stepped.rows _ (c.requires.rows c.shift.to inv.low (omega arith)))) in
-    search arith
+    let inv = c.shift.invariant in let call = c.exchange-stood.ensures in
+    record {
+      pushed = pushed_on inv.low (omega arith) inv.pushed (assumption call);
+      low = omega arith;
+      high = omega arith;
+      row = subst (g.W.Loads.is_row c.args.words.now c.exchange-stood.new.hand) (sym (call.stood ∙ inv.pushed.pushing.above c.shift.to (omega arith)))
+          (call.rows _ (inv.pushed.stepped.rows _ (c.requires.rows c.shift.to inv.low (omega arith))));
+    }
 
 -- the last word that was carried is laid
 pub returns-clause-pushed : goal.returns-clause-pushed

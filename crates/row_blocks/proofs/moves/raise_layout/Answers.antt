@@ -10,9 +10,7 @@ shift-init g c = search (arith, pushed_none)
 pub shift-preserved : goal.shift-preserved
 shift-preserved g c =
     let inv = c.shift.invariant in
-    let call = c.exchange_layout-stood in
-    let pushed = pushed_on inv.low (omega arith) inv.pushed (assumption call.ensures) in
-    search arith
+    record { pushed = pushed_on inv.low (omega arith) inv.pushed (assumption c.exchange_layout-stood.ensures); low = omega arith; high = omega arith }
 
 -- the last word that was carried is laid
 pub returns-clause-pushed : goal.returns-clause-pushed

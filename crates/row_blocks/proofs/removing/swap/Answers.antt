@@ -1,6 +1,7 @@
 use Rattle.std.proofs.Common.{◌+◌, ◌*◌, arith}
 use Rattle.row_blocks.specs.Moves.{IsSwapped}
 use Rattle.row_blocks.proofs.Removals.{swapped, swap_done}
+use Rattle.row_blocks.proofs.Steps.{three_steps}
 use Rattle.row_blocks.proofs.removing.swap.Given.{Over}
 use Rattle.row_blocks.proofs.removing.swap.Goals.{After-store_layout}
 use Rattle.row_blocks.proofs.removing.swap.Goals as goal
@@ -22,5 +23,4 @@ returns-clause-swapped g c = done g c
 
 -- all steps are one
 pub returns-clause-kept : goal.returns-clause-kept
-returns-clause-kept g c = g.W.Loads.steps_on _ _ _ _ (g.W.Loads.steps_on _ _ _ _ c.load-first.ensures.kept c.exchange_layout-second.ensures.kept)
-    c.store_layout.ensures.kept
+returns-clause-kept g c = three_steps g.W.Loads _ _ _ _ _ c.load-first.ensures.kept c.exchange_layout-second.ensures.kept c.store_layout.ensures.kept

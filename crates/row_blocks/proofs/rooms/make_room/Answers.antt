@@ -1,6 +1,7 @@
 use Rattle.std.proofs.Common.{◌∙◌, arith}
 use Rattle.std.proofs.lemmas.List.Elements.{All-weaker}
 use Rattle.row_blocks.specs.Blocks.{rows_in}
+use Rattle.row_blocks.proofs.Steps.{three_steps}
 use Rattle.row_blocks.proofs.rooms.make_room.Goals as goal
 
 pub split_near-requires : goal.split_near-requires
@@ -31,5 +32,4 @@ returns-clause-rank g c = let same = c.body_of-body.ensures.words ∙ c.load-cou
 
 -- all steps are one
 pub returns-clause-kept : goal.returns-clause-kept
-returns-clause-kept g c = g.W.Loads.steps_on _ _ _ _ (g.W.Loads.steps_on _ _ _ _ c.load-count.ensures.kept c.body_of-body.ensures.kept)
-    c.split_near.ensures.kept
+returns-clause-kept g c = three_steps g.W.Loads _ _ _ _ _ c.load-count.ensures.kept c.body_of-body.ensures.kept c.split_near.ensures.kept

@@ -1,5 +1,5 @@
+use Rattle.row_blocks.proofs.Steps.{three_steps}
 use Rattle.row_blocks.proofs.settling.merge_few.Goals as goal
 
 pub returns-clause-kept : goal.returns-clause-kept
-returns-clause-kept g c = g.W.Loads.steps_on _ _ _ _ (g.W.Loads.steps_on _ _ _ _ c.body_of-one.ensures.kept c.body_of-other.ensures.kept)
-    c.merge.ensures.kept
+returns-clause-kept g c = three_steps g.W.Loads _ _ _ _ _ c.body_of-one.ensures.kept c.body_of-other.ensures.kept c.merge.ensures.kept

@@ -2,23 +2,24 @@ use Rattle.std.proofs.Common.{ℕ, ◌≡◌, ◌+◌, ◌-◌, ◌*◌, ◌/◌
 use Rattle.std.specs.Prelude.{slice_index}
 use Rattle.std.proofs.lemmas.Grind.{common_steps}
 use Rattle.row_blocks.specs.Blocks.{body_at}
-use Rattle.row_blocks.proofs.Splits.{split_copied, lower_stays, split_done, laid_split, rows_split, split_lower, split_upper}
+use Rattle.row_blocks.proofs.Splits.{HasRead, split_copied, lower_stays, split_done, laid_split, rows_split, split_lower, split_upper}
 use Rattle.row_blocks.proofs.Places.{head_is_row, body_is_row, others_loaded}
 use Rattle.row_blocks.proofs.splitting.split.Given.{Over}
 use Rattle.row_blocks.proofs.splitting.split.Goals.{After-load-free, After-load-head}
 use Rattle.row_blocks.proofs.splitting.split.Goals as goal
 
 -- what the loads found, among the words of before
-loaded : (g : Over) (c : After-load-free g) → let one = g.W.Loads.words c.args.words.now c.args.hand.now in
-    (g.W.Loads.words c.args.words.now c.load-free.new.hand ≡ one) × (c.load-packed.result ≡ slice_index one (128 * c.args.blocks + 1 + c.args.i))
-    × (c.load-free.result ≡ slice_index one (128 * c.args.blocks + 1 + c.load-count.result))
+loaded : (g : Over) (c : After-load-free g) → HasRead c.args.blocks (g.W.Loads.words c.args.words.now c.args.hand.now)
+    (g.W.Loads.words c.args.words.now c.load-free.new.hand) c.args.i c.load-packed.result c.load-count.result c.load-free.result
 loaded g c =
     let same_1 = c.load-count.ensures.words in
-    let same_2 = c.load-packed.ensures.words ∙ same_1 in (
-      c.load-free.ensures.words ∙ same_2,
-      c.load-packed.ensures.word ∙ ap (λ (l : List ℕ). slice_index l (128 * c.args.blocks + 1 + c.args.i)) same_1,
-      c.load-free.ensures.word ∙ ap (λ (l : List ℕ). slice_index l (128 * c.args.blocks + 1 + c.load-count.result)) same_2,
-    )
+    let same_2 = c.load-packed.ensures.words ∙ same_1 in
+    record {
+      same = c.load-free.ensures.words ∙ same_2;
+      read = c.load-packed.ensures.word ∙ ap (λ (l : List ℕ). slice_index l (128 * c.args.blocks + 1 + c.args.i)) same_1;
+      counted = c.load-count.ensures.word;
+      freed = c.load-free.ensures.word ∙ ap (λ (l : List ℕ). slice_index l (128 * c.args.blocks + 1 + c.load-count.result)) same_2;
+    }
 
 -- a word that was a row is one still
 row_still : (g : Over) (c : After-load-head g) (w : ℕ) → g.W.Loads.is_row c.args.words.now c.args.hand.now w
@@ -31,7 +32,7 @@ pub copy-requires-clause-rows : goal.copy-requires-clause-rows
 copy-requires-clause-rows g c =
     let ws = c.args.words.now in let nb = c.args.blocks in let found = loaded g (goal.at.copy-requires-clause-rows g c).After-load-free in
     λ m lt. others_loaded nb _ c.args.i c.requires.laid c.requires.there (g.W.Loads.is_row ws c.args.hand.now) (g.W.Loads.is_row ws c.load-free.new.hand)
-    (λ w r. c.load-free.ensures.rows w (c.load-packed.ensures.rows w (c.load-count.ensures.rows w r))) found.0 found.1 c.requires.rows
+    (λ w r. c.load-free.ensures.rows w (c.load-packed.ensures.rows w (c.load-count.ensures.rows w r))) found.same found.read c.requires.rows
     (nb + 127 * (c.load-packed.result / 128) + c.args.place + m) (omega arith) (omega arith)
 
 -- so is the head of the upper half
@@ -43,10 +44,10 @@ raise-requires-clause-row g c =
     let one = g.W.Loads.words ws c.args.hand.now in
     let i = c.args.i in
     let laid = c.requires.laid in
-    let copied = split_copied nb i c.args.place found.0 found.1 c.load-count.ensures.word found.2 c.copy.ensures.copied in
+    let copied = split_copied found c.args.place c.copy.ensures.copied in
     let at : ℕ = body_at nb one i + (c.args.place - 1) in
     let here : c.load-head.result ≡ slice_index one at = c.load-head.ensures.word
-    ∙ (ap (λ (x : ℕ). slice_index (g.W.Loads.words ws c.copy.new.hand) (nb + 127 * (x / 128) + (c.args.place - 1))) found.1
+    ∙ (ap (λ (x : ℕ). slice_index (g.W.Loads.words ws c.copy.new.hand) (nb + 127 * (x / 128) + (c.args.place - 1))) found.read
     ∙ lower_stays i c.args.place (c.args.place - 1) laid c.requires.there c.requires.free (omega arith) copied) in
     subst (g.W.Loads.is_row ws c.load-head.new.hand) (sym here) (row_still g h.After-load-head _
     (body_is_row nb one i laid c.requires.there (g.W.Loads.is_row ws c.args.hand.now) c.requires.rows at (omega arith) (omega arith)))
@@ -58,7 +59,7 @@ raise-requires-clause-rows g c =
     let one = g.W.Loads.words ws c.args.hand.now in
     λ s from until.
     let here : slice_index (g.W.Loads.words ws c.load-head.new.hand) s ≡ slice_index one s = ap (λ (l : List ℕ). slice_index l s) c.load-head.ensures.words
-    ∙ (c.copy.ensures.copied.below s (omega arith) ∙ ap (λ (l : List ℕ). slice_index l s) (loaded g h.After-load-free).0) in
+    ∙ (c.copy.ensures.copied.below s (omega arith) ∙ ap (λ (l : List ℕ). slice_index l s) (loaded g h.After-load-free).same) in
     subst (g.W.Loads.is_row ws c.load-head.new.hand) (sym here) (row_still g h.After-load-head _
     (head_is_row _ one s c.requires.laid (omega arith) (g.W.Loads.is_row ws c.args.hand.now) c.requires.rows))
 
@@ -66,7 +67,7 @@ raise-requires-clause-rows g c =
 pub returns : goal.returns
 returns g c =
     let found = loaded g (goal.at.returns g c).After-load-free in
-    let d = split_done c.requires.laid c.requires.there c.requires.free c.requires.some c.requires.place found.0 found.1 c.load-count.ensures.word found.2
+    let d = split_done found c.requires.laid c.requires.there c.requires.free c.requires.some c.requires.place
     c.copy.ensures.copied c.load-head.ensures.words c.load-head.ensures.word c.raise.ensures.pushed c.raise_layout.ensures.pushed
     c.store_layout.ensures.words c.store_layout-2.ensures.words in
     let loads = g.W.Loads.steps_on _ _ _ _ (g.W.Loads.steps_on _ _ _ _ c.load-count.ensures.kept c.load-packed.ensures.kept) c.load-free.ensures.kept in

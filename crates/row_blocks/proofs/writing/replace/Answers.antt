@@ -1,7 +1,7 @@
 use Rattle.std.proofs.Common.{ℕ, [], ◌≡◌, ◌-◌, List, ◌++◌, length, take, drop, ap, ◌∙◌, arith}
 use Rattle.std.proofs.lemmas.List.{append-nil, take-append-drop, length-take-le, length-drop, take_all}
 use Rattle.std.proofs.lemmas.List.Elements.{All-weaker, All-take, All-drop}
-use Rattle.row_blocks.specs.Blocks.{rows_in, rank}
+use Rattle.row_blocks.specs.Blocks.{rows_in}
 use Rattle.row_blocks.proofs.Lays.{same_layout, rows_long}
 use Rattle.row_blocks.proofs.Writes.{all_written, laid_then}
 use Rattle.row_blocks.proofs.writing.replace.Goals as goal
@@ -29,12 +29,9 @@ come-requires-clause-new g c =
 -- others stand over all rows that go, and more have come behind them
 pub returns-then-gone-more-clause-spliced : goal.returns-then-gone-more-clause-spliced
 returns-then-gone-more-clause-spliced g c =
-    let nb = c.args.blocks in
-    let one = g.W.Loads.words c.args.words.now c.args.hand.now in
     let more = c.args.more.now in
     let gone = c.args.gone in
     let u : List ℕ = take gone more in
-    let r : ℕ = rank nb one c.args.at.block c.args.at.place in
     let lay = c.lay-to.ensures in
     let fewer = c.if-gone-more.true in
     let fits = c.requires.fits in
@@ -44,7 +41,7 @@ returns-then-gone-more-clause-spliced g c =
     let rank_two = lay.rank in
     let rest : take (length more - gone) (drop gone more) ≡ drop gone more =
     take_all (length more - gone) (drop gone more) (let l = length-drop gone more in omega arith) in
-    laid_then (rows_in nb one) u (take (length more - gone) (drop gone more)) r 0 (omega arith) lay.spliced c.come.ensures.spliced (omega arith) (omega arith)
+    laid_then _ u (take (length more - gone) (drop gone more)) _ 0 (omega arith) lay.spliced c.come.ensures.spliced (omega arith) (omega arith)
     (omega arith) (ap (λ (l : List ℕ). u ++ l) rest ∙ take-append-drop gone more)
 
 -- rows that are laid are rows
@@ -72,15 +69,11 @@ cut-requires-clause-fits g c =
 -- others stand over some rows that go, and the rest has gone
 pub returns-clause-spliced : goal.returns-clause-spliced
 returns-clause-spliced g c =
-    let nb = c.args.blocks in
-    let one = g.W.Loads.words c.args.words.now c.args.hand.now in
     let more = c.args.more.now in
-    let d : ℕ = c.args.gone - length more in
-    let r : ℕ = rank nb one c.args.at.block c.args.at.place in
     let lay = c.lay-to-2.ensures in
     let all = c.if-gone-more.false in
     let fits = c.requires.fits in
     let same = same_layout lay.layout in
     let before = same.before c.lay-to-2.result.block in
     let rank_two = lay.rank in
-    laid_then (rows_in nb one) more [] r d (omega arith) lay.spliced c.cut.ensures.spliced (omega arith) (omega arith) (omega arith) (append-nil more)
+    laid_then _ more [] _ (c.args.gone - length more) (omega arith) lay.spliced c.cut.ensures.spliced (omega arith) (omega arith) (omega arith) (append-nil more)

@@ -1,5 +1,6 @@
 use Rattle.row_blocks.specs.Blocks.{rows_in}
 use Rattle.row_blocks.proofs.Writes.{all_written}
+use Rattle.row_blocks.proofs.Steps.{three_steps}
 use Rattle.row_blocks.proofs.writing.write.Goals as goal
 
 -- what stands behind the change are rows
@@ -14,5 +15,4 @@ settle-requires-clause-rows g c =
     c.args.more.now _ _ (λ w p. was.rows w (load.rows w p)) same c.requires.rows c.requires.new
 
 pub returns-clause-kept : goal.returns-clause-kept
-returns-clause-kept g c = g.W.Loads.steps_on _ _ _ _ (g.W.Loads.steps_on _ _ _ _ c.load-before.ensures.kept c.replace-near.ensures.kept)
-    c.settle.ensures.kept
+returns-clause-kept g c = three_steps g.W.Loads _ _ _ _ _ c.load-before.ensures.kept c.replace-near.ensures.kept c.settle.ensures.kept
