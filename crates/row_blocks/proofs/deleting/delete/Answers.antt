@@ -6,9 +6,7 @@ use Rattle.row_blocks.proofs.deleting.delete.Goals as goal
 -- the rows of its body are rows
 pub cut_block-requires-clause-others : goal.cut_block-requires-clause-others
 cut_block-requires-clause-others g c =
-    let ws = c.args.words.now in
-    others_loaded _ _ c.args.i c.requires.laid c.requires.there (g.W.Loads.is_row ws c.args.hand.now) (g.W.Loads.is_row ws c.load-packed.new.hand)
-    c.load-packed.ensures.rows c.load-packed.ensures.words c.load-packed.ensures.word c.requires.rows
+    let load = c.load-packed.ensures in others_loaded _ _ c.args.i c.requires.laid c.requires.there _ _ load.rows load.words load.word c.requires.rows
 
 -- what stands after the stores
 pub returns : goal.returns

@@ -6,16 +6,12 @@ use Rattle.row_blocks.proofs.inserting.insert.Goals as goal
 -- the head is a row
 pub put_at-requires-clause-first : goal.put_at-requires-clause-first
 put_at-requires-clause-first g c =
-    let ws = c.args.words.now in
-    first_loaded _ _ c.args.i c.requires.laid c.requires.there (g.W.Loads.is_row ws c.args.hand.now) (g.W.Loads.is_row ws c.load-packed.new.hand)
-    c.load-packed.ensures.rows c.load-packed.ensures.words c.requires.rows
+    first_loaded _ _ c.args.i c.requires.laid c.requires.there _ _ c.load-packed.ensures.rows c.load-packed.ensures.words c.requires.rows
 
 -- and so are the others
 pub put_at-requires-clause-others : goal.put_at-requires-clause-others
 put_at-requires-clause-others g c =
-    let ws = c.args.words.now in
-    others_loaded _ _ c.args.i c.requires.laid c.requires.there (g.W.Loads.is_row ws c.args.hand.now) (g.W.Loads.is_row ws c.load-packed.new.hand)
-    c.load-packed.ensures.rows c.load-packed.ensures.words c.load-packed.ensures.word c.requires.rows
+    let load = c.load-packed.ensures in others_loaded _ _ c.args.i c.requires.laid c.requires.there _ _ load.rows load.words load.word c.requires.rows
 
 -- what stands after the stores
 pub returns : goal.returns

@@ -1,4 +1,4 @@
-use Rattle.std.proofs.Common.{ℕ, ◌≡◌, ◌+◌, ◌<◌, List, length, take, refl, ap, subst, ◌∙◌, arith, rules}
+use Rattle.std.proofs.Common.{ℕ, ◌+◌, ◌<◌, List, length, refl, ap, ◌∙◌, arith, rules}
 use Rattle.std.specs.Prelude.{slice_index}
 use Rattle.std.proofs.lemmas.List.Elements.{All-get_or}
 use Rattle.row_blocks.specs.Blocks.{rows_in, rank}
@@ -71,25 +71,18 @@ lay_row-requires-clause-row g c =
 -- one row more is laid
 pub rows-preserved : goal.rows-preserved
 rows-preserved g c =
-    let ws = c.args.words.now in
-    let nb = c.args.blocks in
     let h = (goal.at.rows-preserved g c).In-rows in
-    let one = g.W.Loads.words ws c.args.hand.now in
-    let two = g.W.Loads.words ws c.rows.hand in
-    let three = g.W.Loads.words ws c.lay_row.new.hand in
     let inv = c.rows.invariant in
     let lt : c.rows.k < length c.args.more.now = search rules in
     let to = c.go_on-here.result in
     let go = c.go_on-here.ensures in
-    let r : ℕ = rank nb one c.args.from.at.block c.args.from.at.place in
-    let s = spot g h in
-    let here : rank nb two to.at.block to.at.place ≡ r + c.rows.k = go.rank ∙ s.rank in
+    let here = go.rank ∙ (spot g h).rank in
     let laid = rw go.words at c.lay_row.ensures.laid_row in
     record {
       laid = c.lay_row.ensures.laid;
-      spliced = laid_more nb one two three c.args.more.now r c.rows.k (next_below r c.rows.k _ _ lt c.requires.fits) lt inv.spliced laid here refl;
+      spliced = laid_more c.args.blocks _ _ _ c.args.more.now _ c.rows.k (next_below _ c.rows.k _ _ lt c.requires.fits) lt inv.spliced laid here refl;
       layout = λ t le. c.lay_row.ensures.layout t le ∙ (ap (λ (l : List ℕ). slice_index l t) go.words ∙ inv.layout t le);
-      spot = spot_on to.at.place r c.rows.k (same g h) go.there go.place go.body go.count here;
+      spot = spot_on to.at.place _ c.rows.k (same g h) go.there go.place go.body go.count here;
       high = search rules;
       stepped = steps_more _ (steps_more _ inv.stepped go.may go.rows go.kept) c.lay_row.ensures.may c.lay_row.ensures.rows c.lay_row.ensures.kept;
       steps = lay_steps _ _ _ _ _ _ _ _ inv.steps go.steps c.lay_row.ensures.steps;

@@ -8,10 +8,8 @@ use Rattle.row_blocks.proofs.merging.append.Goals as goal
 -- the head of the upper block is a row
 pub exchange-requires-clause-row : goal.exchange-requires-clause-row
 exchange-requires-clause-row g c =
-    let ws = c.args.words.now in
-    subst (g.W.Loads.is_row ws c.load-head.new.hand) (sym c.load-head.ensures.word)
-    (c.load-head.ensures.rows _
-    (first_loaded _ _ (c.args.i + 1) c.requires.laid c.requires.there (g.W.Loads.is_row ws c.args.hand.now) (g.W.Loads.is_row ws c.load-other.new.hand)
+    subst (g.W.Loads.is_row c.args.words.now c.load-head.new.hand) (sym c.load-head.ensures.word)
+    (c.load-head.ensures.rows _ (first_loaded _ _ (c.args.i + 1) c.requires.laid c.requires.there (g.W.Loads.is_row c.args.words.now c.args.hand.now) _
     (λ w r. c.load-other.ensures.rows w (c.load-packed.ensures.rows w r)) (c.load-other.ensures.words ∙ c.load-packed.ensures.words) c.requires.rows))
 
 -- and so are those of its body, which stand as they stood

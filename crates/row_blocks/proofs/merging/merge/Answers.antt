@@ -4,14 +4,11 @@ use Rattle.row_blocks.proofs.merging.merge.Goals as goal
 -- the rows are those that were
 pub returns-clause-same : goal.returns-clause-same
 returns-clause-same g c =
-    let ws = c.args.words.now in
     let a = c.append.ensures in
-    merged (g.W.Loads.words ws c.take_out.new.hand) c.args.i c.requires.laid a.laid c.requires.there a.count a.both a.blocks c.take_out.ensures.spliced
+    merged _ c.args.i c.requires.laid a.laid c.requires.there a.count a.both a.blocks c.take_out.ensures.spliced
 
 -- all rows are rows while some stand twice
 pub take_out-requires-clause-rows : goal.take_out-requires-clause-rows
 take_out-requires-clause-rows g c =
-    let ws = c.args.words.now in
     let a = c.append.ensures in
-    rows_appended (g.W.Loads.words ws c.append.new.hand) c.args.i c.requires.laid c.requires.there (g.W.Loads.is_row ws c.args.hand.now)
-    (g.W.Loads.is_row ws c.append.new.hand) a.rows a.count a.both a.blocks c.requires.rows
+    rows_appended _ c.args.i c.requires.laid c.requires.there _ _ a.rows a.count a.both a.blocks c.requires.rows

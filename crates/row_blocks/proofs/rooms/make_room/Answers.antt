@@ -1,12 +1,10 @@
 use Rattle.std.proofs.Common.{◌∙◌, arith}
 use Rattle.std.proofs.lemmas.List.Elements.{All-weaker}
-use Rattle.row_blocks.specs.Blocks.{rows_in}
 use Rattle.row_blocks.proofs.Steps.{three_steps}
 use Rattle.row_blocks.proofs.rooms.make_room.Goals as goal
 
 pub split_near-requires : goal.split_near-requires
 split_near-requires g c =
-    let ws = c.args.words.now in
     let body = c.body_of-body.ensures in
     let same = body.words ∙ c.load-count.ensures.words in
     record {
@@ -14,8 +12,8 @@ split_near-requires g c =
       few = c.requires.few;
       may = body.may;
       laid = rw same c.requires.laid;
-      rows = rw same (All-weaker (g.W.Loads.is_row ws c.args.hand.now) (g.W.Loads.is_row ws c.body_of-body.new.hand)
-          (λ w p. body.stay w (c.load-count.ensures.rows w p)) (rows_in c.args.blocks (g.W.Loads.words ws c.args.hand.now)) c.requires.rows);
+      rows = rw same (All-weaker (g.W.Loads.is_row c.args.words.now c.args.hand.now) (g.W.Loads.is_row c.args.words.now c.body_of-body.new.hand)
+          (λ w p. body.stay w (c.load-count.ensures.rows w p)) _ c.requires.rows);
       there = rw same c.requires.there;
       place = rw same c.requires.place;
       rows_told = rw body.words body.rows;

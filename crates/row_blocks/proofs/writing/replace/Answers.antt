@@ -1,7 +1,6 @@
 use Rattle.std.proofs.Common.{ℕ, [], ◌≡◌, ◌-◌, List, ◌++◌, length, take, drop, ap, ◌∙◌, arith}
 use Rattle.std.proofs.lemmas.List.{append-nil, take-append-drop, length-take-le, length-drop, take_all}
 use Rattle.std.proofs.lemmas.List.Elements.{All-weaker, All-take, All-drop}
-use Rattle.row_blocks.specs.Blocks.{rows_in}
 use Rattle.row_blocks.proofs.Lays.{same_layout, rows_long}
 use Rattle.row_blocks.proofs.Writes.{all_written, laid_then}
 use Rattle.row_blocks.proofs.writing.replace.Goals as goal
@@ -9,13 +8,8 @@ use Rattle.row_blocks.proofs.writing.replace.Goals as goal
 -- rows that are laid are rows
 pub come-requires-clause-rows : goal.come-requires-clause-rows
 come-requires-clause-rows g c =
-    let ws = c.args.words.now in
-    let one = g.W.Loads.words ws c.args.hand.now in
-    let P = g.W.Loads.is_row ws c.args.hand.now in
-    let more = c.args.more.now in
-    let lay = c.lay-to.ensures in
-    all_written P (g.W.Loads.is_row ws c.lay-to.new.hand) (rows_in c.args.blocks one) (take c.args.gone more) _ _ lay.rows lay.spliced c.requires.rows
-    (All-take P c.args.gone more c.requires.new)
+    let P = g.W.Loads.is_row c.args.words.now c.args.hand.now in let lay = c.lay-to.ensures in
+    all_written P _ _ _ _ _ lay.rows lay.spliced c.requires.rows (All-take P c.args.gone c.args.more.now c.requires.new)
 
 -- and those that come
 pub come-requires-clause-new : goal.come-requires-clause-new
@@ -47,12 +41,7 @@ returns-then-gone-more-clause-spliced g c =
 -- rows that are laid are rows
 pub cut-requires-clause-rows : goal.cut-requires-clause-rows
 cut-requires-clause-rows g c =
-    let ws = c.args.words.now in
-    let nb = c.args.blocks in
-    let one = g.W.Loads.words ws c.args.hand.now in
-    let lay = c.lay-to-2.ensures in
-    all_written (g.W.Loads.is_row ws c.args.hand.now) (g.W.Loads.is_row ws c.lay-to-2.new.hand) (rows_in nb one) c.args.more.now _ _ lay.rows lay.spliced
-    c.requires.rows c.requires.new
+    let lay = c.lay-to-2.ensures in all_written _ _ _ _ _ _ lay.rows lay.spliced c.requires.rows c.requires.new
 
 -- there are as many rows as before
 pub cut-requires-clause-fits : goal.cut-requires-clause-fits

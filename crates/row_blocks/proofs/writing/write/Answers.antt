@@ -1,4 +1,3 @@
-use Rattle.row_blocks.specs.Blocks.{rows_in}
 use Rattle.row_blocks.proofs.Writes.{all_written}
 use Rattle.row_blocks.proofs.Steps.{three_steps}
 use Rattle.row_blocks.proofs.writing.write.Goals as goal
@@ -6,13 +5,10 @@ use Rattle.row_blocks.proofs.writing.write.Goals as goal
 -- what stands behind the change are rows
 pub settle-requires-clause-rows : goal.settle-requires-clause-rows
 settle-requires-clause-rows g c =
-    let ws = c.args.words.now in
-    let nb = c.args.blocks in
     let was = c.replace-near.ensures in
     let load = c.load-before.ensures in
     let same = rw load.words at was.spliced in
-    all_written (g.W.Loads.is_row ws c.args.hand.now) (g.W.Loads.is_row ws c.replace-near.new.hand) (rows_in nb (g.W.Loads.words ws c.args.hand.now))
-    c.args.more.now _ _ (λ w p. was.rows w (load.rows w p)) same c.requires.rows c.requires.new
+    all_written (g.W.Loads.is_row c.args.words.now c.args.hand.now) _ _ _ _ _ (λ w p. was.rows w (load.rows w p)) same c.requires.rows c.requires.new
 
 pub returns-clause-kept : goal.returns-clause-kept
 returns-clause-kept g c = three_steps g.W.Loads _ _ _ _ _ c.load-before.ensures.kept c.replace-near.ensures.kept c.settle.ensures.kept
