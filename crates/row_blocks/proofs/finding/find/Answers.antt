@@ -90,31 +90,22 @@ returns-then-found-gt0-clause-end g c =
 pub returns-then-found-gt0-clause-from : goal.returns-then-found-gt0-clause-from
 returns-then-found-gt0-clause-from g c = let r = row g (goal.at.returns-then-found-gt0-clause-from g c).After-halve-found in r.before c.if-found-gt0.true
 
--- so many steps are made up to the body
-steps_to : (g : Over) (c : After-halve-found g) → (m : ℕ) → blocks_of c.args.blocks (words g c) ≤ 2 ^ m
-    → g.W.Loads.steps c.args.words.now c.body_of-body.new.hand ≤ g.W.Loads.steps c.args.words.now c.args.hand.now + (m + 2)
-steps_to g c m le = let two = c.halve-heads.ensures.steps m (omega arith) in omega arith
+-- so many steps are made up to a row of a body with fewer rows than 2 ^ n
+steps_in : (g : Over) (c : After-halve-found g) (n m : ℕ) → rows_of c.args.blocks (words g c) c.halve-heads.result.place < 2 ^ n
+    → blocks_of c.args.blocks (words g c) ≤ 2 ^ m
+    → g.W.Loads.steps c.args.words.now c.halve-found.new.hand ≤ g.W.Loads.steps c.args.words.now c.args.hand.now + (m + (2 + n))
+steps_in g c n m few le =
+    let to = c.halve-heads.ensures.steps m (omega arith) in let count = rows g c in let within = c.halve-found.ensures.steps n (omega arith) in omega arith
 
 -- any body takes seven
-steps_all : (g : Over) (c : After-halve-found g) → (m : ℕ) → blocks_of c.args.blocks (words g c) ≤ 2 ^ m
+steps_all : (g : Over) (c : After-halve-found g) (m : ℕ) → blocks_of c.args.blocks (words g c) ≤ 2 ^ m
     → g.W.Loads.steps c.args.words.now c.halve-found.new.hand ≤ g.W.Loads.steps c.args.words.now c.args.hand.now + (m + 9)
-steps_all g c m le =
-    let to = steps_to g c m le in
-    let count = rows g c in
-    let within = c.halve-found.ensures.steps 7 (omega arith) in
-    omega arith
+steps_all g c m le = steps_in g c 7 m (omega arith) le
 
 -- the first one, which has fewer rows, takes one less
-steps_first : (g : Over) (c : After-halve-found g) → 0 ≡ c.halve-heads.result.place → (m : ℕ)
-    → blocks_of c.args.blocks (words g c) ≤ 2 ^ m
+steps_first : (g : Over) (c : After-halve-found g) → 0 ≡ c.halve-heads.result.place → (m : ℕ) → blocks_of c.args.blocks (words g c) ≤ 2 ^ m
     → g.W.Loads.steps c.args.words.now c.halve-found.new.hand ≤ g.W.Loads.steps c.args.words.now c.args.hand.now + (m + 8)
-steps_first g c first m le =
-    let one = words g c in
-    let short : rows_of c.args.blocks one c.halve-heads.result.place < 64 = subst (λ (i : ℕ). rows_of c.args.blocks one i < 64) first c.requires.short in
-    let to = steps_to g c m le in
-    let count = rows g c in
-    let within = c.halve-found.ensures.steps 6 (omega arith) in
-    omega arith
+steps_first g c first m le = steps_in g c 6 m (subst (λ (i : ℕ). rows_of c.args.blocks (words g c) i < 64) first c.requires.short) le
 
 -- and the most blocks take eleven
 eleven : (g : Over) (c : After-halve-found g) → blocks_of c.args.blocks (words g c) ≤ 2 ^ 11
