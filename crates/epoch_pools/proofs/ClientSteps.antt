@@ -1,6 +1,6 @@
 -- A step on a client word keeps the table's rule by the guard's law of steps alone: it leaves the words of all lists
 -- and the views of the lists as they are.
-use Rattle.std.proofs.Common.{◌≡◌, ℕ, ◌+◌, ◌-◌, ◌*◌, ◌<◌, ◌≤◌, List, [], ◌∷◌, map, take, drop, get_or, set, length, sym, refl, ap, ◌∙◌, subst, arith, ⊎_elim}
+use Rattle.std.proofs.Common.{◌≡◌, ℕ, ◌+◌, ◌-◌, ◌*◌, ◌<◌, ◌≤◌, List, [], ◌∷◌, map, take, drop, get_or, set, length, sym, refl, ap, ◌∙◌, subst, arith}
 use Rattle.std.proofs.lemmas.List.{map-set, take-set-le, drop-set-add, get_or-drop, length-drop}
 use mathlib.Core.Option.{some}
 use lib.ListN.{get_elem?}
@@ -23,8 +23,11 @@ use Rattle.epoch_pools.specs.declared.views.ListView.{ListView}
 use Rattle.epoch_pools.specs.Standings.{counted_of}
 use Rattle.epoch_pools.specs.Beside.{core_at, held_in, grant_in, inner_pass, shown, shown_grant}
 use Rattle.epoch_pools.specs.Running.{IsCutBy, takes_in, cores_of, pass_of, grants_in, view, AreLocks, IsRunningList, client_lists, client_part, IsClientPlay}
-use Rattle.epoch_pools.specs.Hands.{ListShape, IsTable, IsSeatOf, cut_of, part_in, shown_of}
-use Rattle.epoch_pools.proofs.Placing.{apart_with, part_here, placed}
+use Rattle.epoch_pools.specs.Hands.{ListShape, IsTable, cut_of, part_in, shown_of}
+use Rattle.epoch_pools.specs.declared.client.ClientAct.{ClientAct}
+use Rattle.epoch_pools.specs.declared.client.ClientAct.TheVariants.{Load, Store, Add, Exchange}
+use Rattle.epoch_pools.specs.ClientActs.{client_step}
+use Rattle.epoch_pools.proofs.Placing.{apart_with, part_here, placed, IsToken, Goes, untold, same_lists, play_shown, play_shows}
 use Rattle.epoch_pools.proofs.Slices.{further}
 use Rattle.epoch_pools.proofs.Turning.{core_shown}
 use Rattle.epoch_pools.proofs.Counting.{counts_exclude}
@@ -62,18 +65,33 @@ words_before n a base place words value le = let at : base + place ≡ a + ((bas
     sym (ap (λ k. take n (drop a (set words k value))) at
     ∙ (ap (take n) (drop-set-add a words ((base - a) + place) value) ∙ take-set-le n (drop a words) ((base - a) + place) value (omega arith)))
 
-module _ {P N : Type 0} (begin : P) (c : Regions) (seats clients : ℕ) (holds : Grants → List ℕ → List P → Type 0) (allows : Grants → List ℕ → List P → ℕ
-    → ClientStep → N → P → Type 0) (note : N) (law : (grants : Grants) (words : List ℕ) (passes : List P) (seat : ℕ) (step : ClientStep) (note : N) (after : P)
-    → holds grants words passes → allows grants words passes seat step note after → holds grants (words_after words step) (set passes seat after)) where
+module _ {P N : Type 0} (begin : P) (holds : Grants → List ℕ → List P → Type 0)
+    (allows : Grants → List ℕ → List P → ℕ → ClientStep → N → P → Type 0) (note : N) where
+  -- what the call that makes a step on client word i knows: the guard's law, its token and the table that both are of, that the guard allows the step that
+  -- this operation is, and its place in the table
+  pub record IsClientCall (parts : List (SeatLists P)) (lists list : ℕ) (id table : TableId) (p : SeatPart (Beside P)) (play_lists play_list : ℕ)
+      (c : Regions) (seats clients : ℕ) (step : ClientStep) (act : ClientAct) (i word : ℕ) : Type 0 where
+    pub law : (grants : Grants) (words : List ℕ) (passes : List P) (seat : ℕ) (step : ClientStep) (note : N) (after : P)
+        → holds grants words passes → allows grants words passes seat step note after → holds grants (words_after words step) (set passes seat after)
+    pub token : IsToken begin parts lists list id.words p play_lists play_list
+    pub same : id ≡ table
+    pub acting : step ≡ client_step act i
+    pub there : (word < table.words) × (word ≡ list_count c * word_count seats + place_of step) × (place_of step < clients)
+    pub allowed : IsAllowed holds allows note p.number (shown_grant p) (inner_pass p) step
+
+module _ {P N : Type 0} {begin : P} {holds : Grants → List ℕ → List P → Type 0} {allows : Grants → List ℕ → List P → ℕ → ClientStep → N → P → Type 0} {note : N}
+    {me : Me (Unit {0}) (ListView P)} {token_lists token_list : ℕ} {id table : TableId} {p : SeatPart (Beside P)} {lists i : ℕ} {c : Regions} {seats clients : ℕ}
+    {step : ClientStep} {act : ClientAct} {word_of word : ℕ}
+    (call : IsClientCall begin holds allows note me.0.parts token_lists token_list id table p lists i c seats clients step act word_of word) where
   -- one case for all client steps; f says what the step makes of the word
-  pub client_keeps : (lists i : ℕ) (step : ClientStep) (f : ℕ → ℕ) (slots id : ℕ) (me : Me (Unit {0}) (ListView P)) (w : SeatLists P) (word : ℕ)
-      (then : ℕ → Me (Unit {0}) (ListView P) → Type 0)
-      → me.0 ≡ view (w ∷ []) → length w.cores ≡ lists → word ≡ list_count c * word_count seats + place_of step → place_of step < clients
-      → ((words : List ℕ) → words_after words step ≡ set words (place_of step) (f (get_or words (place_of step) 0)))
-      → IsAllowed holds allows note w.number (shown_grant (shown lists i w)) w.pass step
-      → ((found : ℕ) (me' : Me (Unit {0}) (ListView P)) → IsClientPlay begin holds allows note lists i step me found me' → then found me')
-      → Allows (IsRunningList c seats clients holds) slots id me word f then
-  client_keeps lists i step f slots id me w word then is full word_is below changes allowed told s running _ at small =
+  client_keeps : (slots own : ℕ) (f : ℕ → ℕ) → ((words : List ℕ) → words_after words step ≡ set words (place_of step) (f (get_or words (place_of step) 0)))
+      → Allows (IsRunningList c seats clients holds) slots own me word f (IsClientPlay begin holds allows note lists i step me)
+  client_keeps slots id f changes s running _ at small =
+      let w : SeatLists P = part_in begin me.0.parts in let is : me.0 ≡ view (w ∷ []) = ap view call.token.one in
+      let full : length w.cores ≡ lists = call.token.seat.full ∙ sym (same_lists call.token) in
+      let word_is = call.there.1 in let below = call.there.2 in
+      let allowed : IsAllowed holds allows note w.number (shown_grant (shown lists i w)) w.pass step =
+      subst (λ (x : SeatPart (Beside P)). IsAllowed holds allows note x.number (shown_grant x) (inner_pass x) step) (sym (play_shows call.token)) call.allowed in
       let parts = running.0 in let owner = running.1 in let r = running.2 in
       let base : ℕ = list_count c * word_count seats in let place = place_of step in let words = drop base s.words in
       let at' : get_elem? s.views id ≡ some (view (w ∷ [])) = at ∙ ap some is in
@@ -108,70 +126,54 @@ module _ {P N : Type 0} (begin : P) (c : Regions) (seats clients : ℕ) (holds :
               apart = apart;
               guard = subst (λ (z : Grants × (List ℕ × List P)). holds z.0 z.1.0 z.1.1)
                   (λ k. (grants_now k, ((changes words ∙ sym (drop-set-add base s.words place (f y))) k, sym (map-set pass_of parts w.number q) k)))
-                  (law grants words passes w.number step note t.0 r.lists_are.guard t.1);
+                  (call.law grants words passes w.number step note t.0 r.lists_are.guard t.1);
             })),
-        told (get_or s.words word 0) (view (q ∷ []), me.1) (record {
+        record {
           left = record { slots = refl; one = refl; full = ap (λ (x : SeatLists P). length x.cores) (sym part) };
           pass = t.0;
           shows = ap (λ (x : SeatLists P). shown lists i (client_lists x place t.0)) (sym part);
           made = subst (λ (x : SeatLists P). IsMade holds allows note (shown lists i x).number (shown_grant (shown lists i x)) x.pass step
               (get_or s.words word 0) t.0) (sym part) (grants, words, passes, moment, sym found, t.1);
-        }),
+        },
       )
 
-  -- the same for a token, with the names that the call has
-  pub token_client : {number many lists i first words play_lists play_list : ℕ} (step : ClientStep) (f : ℕ → ℕ) (slots id : ℕ) (me : Me (Unit {0}) (ListView P))
-      (p : SeatPart (Beside P)) (word : ℕ) (then : ℕ → Me (Unit {0}) (ListView P) → Type 0)
-      → me.0.parts ≡ part_in begin me.0.parts ∷ [] → IsSeatOf (part_in begin me.0.parts) number many lists i first words → shown_of begin lists i me.0.parts ≡ p
-      → play_lists ≡ p.pass.lists → play_list ≡ p.pass.list → word ≡ list_count c * word_count seats + place_of step → place_of step < clients
-      → ((words : List ℕ) → words_after words step ≡ set words (place_of step) (f (get_or words (place_of step) 0)))
-      → IsAllowed holds allows note p.number (shown_grant p) (inner_pass p) step
-      → ((found : ℕ) (me' : Me (Unit {0}) (ListView P)) → IsClientPlay begin holds allows note play_lists play_list step me found me' → then found me')
-      → Allows (IsRunningList c seats clients holds) slots id me word f then
-  token_client {number} {many} {lists} {i} {first} {words} {play_lists} {play_list} step f slots id me p word then one seat_of is lists_are list_is
-      word_is below changes allowed told = let a : play_lists ≡ lists = lists_are ∙ ap (λ (x : SeatPart (Beside P)). x.pass.lists) (sym is) in
-      let b : play_list ≡ i = list_is ∙ ap (λ (x : SeatPart (Beside P)). x.pass.list) (sym is) in
-      client_keeps play_lists play_list step f slots id me (part_in begin me.0.parts) word then (ap view one) (seat_of.full ∙ sym a) word_is below changes
-      (subst (λ (x : SeatPart (Beside P)). IsAllowed holds allows note x.number (shown_grant x) (inner_pass x) step)
-      (sym ((λ k. shown_of begin (a k) (b k) me.0.parts) ∙ is)) allowed) told
+  -- so an operation may be made that does what the step does
+  pub client_goes : (slots own : ℕ) {of : ClientAct} → act ≡ of → (f : ℕ → ℕ) → ((words : List ℕ) → words_after words (client_step of word_of)
+      ≡ set words (place_of (client_step of word_of)) (f (get_or words (place_of (client_step of word_of)) 0)))
+      → Goes id table (IsRunningList c seats clients holds) slots own me word f (IsClientPlay begin holds allows note lists i step me)
+  client_goes slots own is f changes = let acting = call.acting ∙ ap (λ (a : ClientAct). client_step a word_of) is in (
+    call.same,
+    call.there.0,
+    client_keeps slots own f (subst (λ (d : ClientStep). (words : List ℕ) → words_after words d
+        ≡ set words (place_of d) (f (get_or words (place_of d) 0))) (sym acting) changes),
+  )
 
-  -- the same for a store, which tells that there was a value and not which
-  pub token_stores : {number many lists i first words play_lists play_list : ℕ} (step : ClientStep) (value slots id : ℕ) (me : Me (Unit {0}) (ListView P))
-      (p : SeatPart (Beside P)) (word : ℕ)
-      → me.0.parts ≡ part_in begin me.0.parts ∷ [] → IsSeatOf (part_in begin me.0.parts) number many lists i first words → shown_of begin lists i me.0.parts ≡ p
-      → play_lists ≡ p.pass.lists → play_list ≡ p.pass.list → word ≡ list_count c * word_count seats + place_of step → place_of step < clients
-      → ((words : List ℕ) → words_after words step ≡ set words (place_of step) value) → IsAllowed holds allows note p.number (shown_grant p) (inner_pass p) step
-      → Allows (IsRunningList c seats clients holds) slots id me word (λ _. value)
-      (λ _ me'. (found : ℕ) × IsClientPlay begin holds allows note play_lists play_list step me found me')
-  token_stores {number} {many} {lists} {i} {first} {words} {play_lists} {play_list} step value slots id me p word one seat_of is lists_are list_is word_is
-      below changes allowed = token_client step (λ _. value) slots id me p word
-      (λ _ me'. (found : ℕ) × IsClientPlay begin holds allows note play_lists play_list step me found me')
-      one seat_of is lists_are list_is word_is below changes allowed (λ found me' told. (found, told))
+  -- and a store, which tells that there was a value and not which
+  pub client_stores : (slots own : ℕ) {value : ℕ} → act ≡ Store value
+      → Goes id table (IsRunningList c seats clients holds) slots own me word (λ _. value)
+      (λ _ me'. (found : ℕ) × IsClientPlay begin holds allows note lists i step me found me')
+  client_stores slots own {value} is = untold id table (IsRunningList c seats clients holds) slots own me word (λ _. value)
+      (IsClientPlay begin holds allows note lists i step me) (client_goes slots own is (λ _. value) (λ words. refl))
 
 module _ {P N : Type 0} {begin : P} {holds : Grants → List ℕ → List P → Type 0} {allows : Grants → List ℕ → List P → ℕ → ClientStep → N → P → Type 0} {note : N}
     {play_lists play_list : ℕ} {step : ClientStep} {found : ℕ} {me me' : Me (Unit {0}) (ListView P)}
-    (play : IsClientPlay begin holds allows note play_lists play_list step me found me') where
-  module _ {lists i : ℕ} {p : SeatPart (Beside P)} (is : shown_of begin lists i me.0.parts ≡ p) (lists_are : play_lists ≡ p.pass.lists)
-      (list_is : play_list ≡ p.pass.list) where
-    same_lists_are : play_lists ≡ lists
-    same_lists_are = lists_are ∙ ap (λ (x : SeatPart (Beside P)). x.pass.lists) (sym is)
+    (play : IsClientPlay begin holds allows note play_lists play_list step me found me') {lists i words : ℕ} {p : SeatPart (Beside P)}
+    (token : IsToken begin me.0.parts lists i words p play_lists play_list) where
+  shown_after : shown_of begin lists i me'.0.parts ≡ client_part p (place_of step) play.pass
+  shown_after = sym (play_shown token me'.0.parts)
+      ∙ (play.shows ∙ ap (λ (x : SeatPart (Beside P)). client_part x (place_of step) play.pass) (play_shows token))
 
-    same_list_is : play_list ≡ i
-    same_list_is = list_is ∙ ap (λ (x : SeatPart (Beside P)). x.pass.list) (sym is)
+  -- at which moment the step was made
+  pub client_made : IsMade holds allows note p.number (shown_grant p) (inner_pass p) step found (inner_pass (shown_of begin lists i me'.0.parts))
+  client_made = subst (λ (z : SeatPart (Beside P) × P). IsMade holds allows note z.0.number (shown_grant z.0) (inner_pass z.0) step found z.1)
+      (λ k. (play_shows token k, ap inner_pass (sym shown_after) k)) play.made
 
-    shown_is : shown_of begin play_lists play_list me.0.parts ≡ p
-    shown_is = (λ k. shown_of begin (same_lists_are k) (same_list_is k) me.0.parts) ∙ is
-
-    now_is : shown_of begin play_lists play_list me'.0.parts ≡ shown_of begin lists i me'.0.parts
-    now_is = λ k. shown_of begin (same_lists_are k) (same_list_is k) me'.0.parts
-
-    after_is : shown_of begin lists i me'.0.parts ≡ client_part p (place_of step) play.pass
-    after_is = sym now_is ∙ (play.shows ∙ ap (λ (x : SeatPart (Beside P)). client_part x (place_of step) play.pass) shown_is)
-
-    -- and at which moment it was made
-    pub client_made : IsMade holds allows note p.number (shown_grant p) (inner_pass p) step found (inner_pass (shown_of begin lists i me'.0.parts))
-    client_made = subst (λ (z : SeatPart (Beside P) × P). IsMade holds allows note z.0.number (shown_grant z.0) (inner_pass z.0) step found z.1)
-        (λ k. (shown_is k, ap inner_pass (sym after_is) k)) play.made
+-- each operation is on the word that it is given
+pub acts_on : (act : ClientAct) (i : ℕ) → place_of (client_step act i) ≡ i
+acts_on Load i = refl
+acts_on (Store value) i = refl
+acts_on (Add by) i = refl
+acts_on (Exchange expected new) i = refl
 
 -- the word of a client step in the table that the call has
 pub client_place : {shares : List ℕ} {key_seats key_words slots : ℕ} {table : TableId} {cut : Regions} {seats client start : ℕ} {shape : ListShape}

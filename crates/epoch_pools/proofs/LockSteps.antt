@@ -15,6 +15,9 @@ use Rattle.lock_core.specs.declared.range.Held.{Held}
 use Rattle.lock_core.specs.declared.views.View.{View}
 use Rattle.lock_core.specs.declared.steps.Step.{Step}
 use Rattle.lock_core.specs.declared.steps.Step.TheVariants.{Mark}
+use Rattle.lock_core.specs.declared.ops.Act.{Act}
+use Rattle.lock_core.specs.declared.ops.Act.TheVariants.{Load, Store, Add, Exchange}
+use Rattle.lock_core.specs.Operations.{Writes, written}
 use Rattle.lock_core.specs.Words.{word_count}
 use Rattle.lock_core.specs.StepTable.{Plan, IsLine, mark}
 use Rattle.lock_core.specs.Sizes.{IsViewSound, bound_node}
@@ -30,8 +33,8 @@ use Rattle.epoch_pools.specs.declared.views.ListView.{ListView}
 use Rattle.epoch_pools.specs.Standings.{is_here}
 use Rattle.epoch_pools.specs.Beside.{core_at, held_in, shown, given_back, may_give_back}
 use Rattle.epoch_pools.specs.Hands.{part_in, shown_of, IsSeatOf}
-use Rattle.epoch_pools.specs.Running.{takes_in, AreLists, view, line_in, lists_after, line_for, Enables, MayRest, part_after, Told, IsLockPlay, IsRunningList}
-use Rattle.epoch_pools.proofs.Placing.{part_here, placed, same_seat}
+use Rattle.epoch_pools.specs.Running.{takes_in, AreLists, view, line_in, lists_after, line_for, Enables, MayRest, part_after, Told, IsAnswer, IsLockPlay, IsRunningList}
+use Rattle.epoch_pools.proofs.Placing.{part_here, placed, same_seat, IsToken, Goes, untold, same_lists, list_there, play_shown, play_shows, many_seats}
 use Rattle.epoch_pools.proofs.Frames as frames
 use Rattle.epoch_pools.proofs.Slices.{further}
 use Rattle.epoch_pools.proofs.Granting.{GainLaw, LossLaw}
@@ -104,101 +107,112 @@ module _ {P : Type 0} (begin : P) (c : Regions) (seats clients : ℕ) (holds : G
         },
       )
 
-  -- the same at a place that is named by the seat's own count of seats
-  lock_placed : (lists i : ℕ) (step : Step) (f : ℕ → ℕ) (slots id place : ℕ) (me : Me (Unit {0}) (ListView P)) (w : SeatLists P) → me.0 ≡ view (w ∷ [])
-      → length w.cores ≡ lists → i < lists → Enables (shown lists i w) step → MayRest (may_give_back is_at_rest) (shown lists i w) step
-      → (line_for (shown lists i w) step).place < word_count w.seats → place ≡ i * word_count w.seats + (line_for (shown lists i w) step).place
-      → ((n : ℕ) → n < 18446744073709551616 → (step ≡ Mark → n % 2 ≡ 0) → f n ≡ (line_for (shown lists i w) step).write n)
-      → Allows (IsRunningList c seats clients holds) slots id me place f (IsLockPlay begin rested lists i seats step me)
-  lock_placed lists i step f slots id place me w is full less may rests low there writes s running l at small = let r = running.2 in
-      let at' : get_elem? s.views id ≡ some (view (w ∷ [])) = at ∙ ap some is in
-      let many : w.seats ≡ seats = r.same w.number w (part_here c seats clients holds s running.0 running.1 r id w at') in
-      let where_is : place ≡ i * word_count seats + (line_for (shown lists i w) step).place =
-      there ∙ ap (λ n. i * word_count n + (line_for (shown lists i w) step).place) many in
-      subst (λ n. Allows (IsRunningList c seats clients holds) slots id me n f (IsLockPlay begin rested lists i seats step me)) (sym where_is)
-      (lock_keeps lists i step f slots id me w is full less may rests low writes) s running l at small
+-- what the call that makes a step knows: the guard's laws, its token and the table that both are of, that the seat may make the step, and its word
+pub record IsLockCall {P : Type 0} (begin : P) (holds : Grants → List ℕ → List P → Type 0) (rested : P → P) (is_at_rest : P → Type 0)
+    (parts : List (SeatLists P)) (lists i : ℕ) (id other : TableId) (p : SeatPart (Beside P)) (play_lists play_list key_seats seats : ℕ) (step : Step)
+    (word place : ℕ) : Type 0 where
+  pub gains : GainLaw holds
+  pub loses : LossLaw holds rested is_at_rest
+  pub token : IsToken begin parts lists i id.words p play_lists play_list
+  pub same : id ≡ other
+  pub same_seats : key_seats ≡ seats
+  pub may : Enables p step
+  pub rests : MayRest (may_give_back is_at_rest) p step
+  pub at : word ≡ (line_for p step).place
+  pub low : word < word_count p.seats
+  pub there : place ≡ p.pass.list * word_count p.seats + word
 
-  -- the same for the call that makes the step, with the names that it has for the table, its token and the word
-  pub token_allows : {key_cut : Regions} {key_seats : ℕ} → key_cut ≡ c → key_seats ≡ seats
-      → {number many lists i first words play_lists play_list : ℕ} (step : Step) (slots id place word : ℕ) (f : ℕ → ℕ) (me : Me (Unit {0}) (ListView P))
-      (p : SeatPart (Beside P)) → me.0.parts ≡ part_in begin me.0.parts ∷ [] → IsSeatOf (part_in begin me.0.parts) number many lists i first words
-      → shown_of begin lists i me.0.parts ≡ p → play_lists ≡ p.pass.lists → play_list ≡ p.pass.list
-      → Enables p step → MayRest (may_give_back is_at_rest) p step → word ≡ (line_for p step).place → word < word_count p.seats
-      → place ≡ p.pass.list * word_count p.seats + word → ((n : ℕ) → n < 18446744073709551616 → (step ≡ Mark → n % 2 ≡ 0) → f n ≡ (line_for p step).write n)
-      → Allows (IsRunningList key_cut key_seats clients holds) slots id me place f (IsLockPlay begin rested play_lists play_list seats step me)
-  token_allows {key_cut} {key_seats} same_cut same {number} {many} {lists} {i} {first} {words} {play_lists} {play_list} step slots
-      id place word f me p one seat_of is lists_are list_is may rests at low there writes = let w : SeatLists P = part_in begin me.0.parts in
-      subst (λ (z : (Regions × ℕ) × (ℕ × ℕ)). Allows (IsRunningList z.0.0 z.0.1 clients holds) slots id me place f
-      (IsLockPlay begin rested z.1.0 z.1.1 seats step me))
-      (λ k. (
-        (sym same_cut k, sym same k),
-        ((ap (λ (x : SeatPart (Beside P)). x.pass.lists) is ∙ sym lists_are) k, (ap (λ (x : SeatPart (Beside P)). x.pass.list) is ∙ sym list_is) k),
-      )) (lock_placed lists i step f slots id place me w (ap view one) seat_of.full seat_of.within
-      (subst (λ (x : SeatPart (Beside P)). Enables x step) (sym is) may)
-      (subst (λ (x : SeatPart (Beside P)). MayRest (may_give_back is_at_rest) x step) (sym is) rests)
-      (subst (λ (x : SeatPart (Beside P)). (line_for x step).place < word_count x.seats) (sym is) (subst (λ n. n < word_count p.seats) at low))
-      (there ∙ (ap (λ n. p.pass.list * word_count p.seats + n) at
-      ∙ ap (λ (x : SeatPart (Beside P)). x.pass.list * word_count x.seats + (line_for x step).place) (sym is)))
-      (λ n small even. writes n small even ∙ ap (λ (x : SeatPart (Beside P)). (line_for x step).write n) (sym is)))
+module _ {P : Type 0} {begin : P} {holds : Grants → List ℕ → List P → Type 0} {rested : P → P} {is_at_rest : P → Type 0} {me : Me (Unit {0}) (ListView P)}
+    {lists i : ℕ} {id other : TableId} {p : SeatPart (Beside P)} {play_lists play_list key_seats seats : ℕ} {step : Step} {word place : ℕ}
+    (call : IsLockCall begin holds rested is_at_rest me.0.parts lists i id other p play_lists play_list key_seats seats step word place) where
+  module _ {act : Act} (writes : (n : ℕ) → n < 18446744073709551616 → (step ≡ Mark → n % 2 ≡ 0) → written act n ≡ (line_for p step).write n) where
+    -- an operation that does what the step's line says is this step
+    pub lock_goes : (c : Regions) (clients slots own : ℕ) {of : Act} → act ≡ of → (f : ℕ → ℕ) → ((n : ℕ) → f n ≡ written of n)
+        → Goes id other (IsRunningList c key_seats clients holds) slots own me place f (IsLockPlay begin rested play_lists play_list seats step me)
+    lock_goes c clients slots own is f makes = let w : SeatLists P = part_in begin me.0.parts in let many = call.token.many in
+        let shows : p ≡ shown_of begin play_lists play_list me.0.parts = sym (play_shows call.token) in
+        let n : word_count p.seats ≡ word_count many = ap word_count (many_seats call.token) in
+        let list : p.pass.list ≡ i = ap (λ (x : SeatPart (Beside P)). x.pass.list) (sym call.token.shown_is) in
+        let behind : i * word_count many + word_count many ≤ lists * word_count many = further i lists (word_count many) call.token.seat.within in
+        let all : lists * word_count many ≤ id.words = call.token.seat.words_there in
+        let words : id.words ≡ other.words = ap (λ (t : TableId). t.words) call.same in let low = call.low in let there = call.there in
+        let begins : p.pass.list * word_count p.seats ≡ i * word_count many = λ k. list k * n k in (
+          call.same,
+          omega arith,
+          λ s running l here small. let r = running.2 in
+              let at' : get_elem? s.views own ≡ some (view (w ∷ [])) = here ∙ ap (λ l. some (view l)) call.token.one in
+              let now : w.seats ≡ key_seats = r.same w.number w (part_here c key_seats clients holds s running.0 running.1 r own w at') in
+              let where_is : place ≡ play_list * word_count key_seats + (line_for (shown play_lists play_list w) step).place =
+              call.there ∙ (ap (λ n. p.pass.list * word_count p.seats + n) call.at
+              ∙ (ap (λ (x : SeatPart (Beside P)). x.pass.list * word_count x.seats + (line_for x step).place) shows
+              ∙ ap (λ n. play_list * word_count n + (line_for (shown play_lists play_list w) step).place) now)) in
+              subst (λ (z : ℕ × ℕ). Allows (IsRunningList c key_seats clients holds) slots own me z.0 f (IsLockPlay begin rested play_lists play_list z.1 step me))
+              (λ k. (sym where_is k, call.same_seats k))
+              (lock_keeps begin c key_seats clients holds rested is_at_rest call.gains call.loses play_lists play_list step f slots own me w (ap view call.token.one)
+              (call.token.seat.full ∙ sym (same_lists call.token)) (list_there call.token)
+              (subst (λ (x : SeatPart (Beside P)). Enables x step) shows call.may)
+              (subst (λ (x : SeatPart (Beside P)). MayRest (may_give_back is_at_rest) x step) shows call.rests)
+              (subst (λ (x : SeatPart (Beside P)). (line_for x step).place < word_count x.seats) shows (subst (λ n. n < word_count p.seats) call.at call.low))
+              (λ n small even. makes n ∙ (ap (λ a. written a n) (sym is) ∙ (writes n small even
+              ∙ ap (λ (x : SeatPart (Beside P)). (line_for x step).write n) shows)))) s running l here small,
+        )
 
-  -- the same for a store, which doesn't tell what it found
-  pub token_puts : {key_cut : Regions} {key_seats : ℕ} → key_cut ≡ c → key_seats ≡ seats
-      → {number many lists i first words play_lists play_list : ℕ} (step : Step) (slots id place word value : ℕ) (me : Me (Unit {0}) (ListView P))
-      (p : SeatPart (Beside P)) → me.0.parts ≡ part_in begin me.0.parts ∷ [] → IsSeatOf (part_in begin me.0.parts) number many lists i first words
-      → shown_of begin lists i me.0.parts ≡ p → play_lists ≡ p.pass.lists → play_list ≡ p.pass.list
-      → Enables p step → MayRest (may_give_back is_at_rest) p step → word ≡ (line_for p step).place → word < word_count p.seats
-      → place ≡ p.pass.list * word_count p.seats + word → ((n : ℕ) → (line_for p step).write n ≡ value)
-      → Allows (IsRunningList key_cut key_seats clients holds) slots id me place (λ _. value)
-      (λ _ me'. (found : ℕ) × IsLockPlay begin rested play_lists play_list seats step me found me')
-  token_puts same_cut same step slots id place word value me p one seat_of is lists_are list_is may rests at low there writes s running l here small =
-      let r = token_allows same_cut same step slots id place word (λ _. value) me p one seat_of is
-      lists_are list_is may rests at low there (λ n _ _. sym (writes n)) s running l here small in
-      (r.0, r.1, r.2, r.3, (get_or s.words place 0, r.4))
+    -- so is a store, which doesn't tell what it found
+    pub lock_puts : (c : Regions) (clients slots own : ℕ) {value : ℕ} → act ≡ Store value
+        → Goes id other (IsRunningList c key_seats clients holds) slots own me place (λ _. value)
+        (λ _ me'. (found : ℕ) × IsLockPlay begin rested play_lists play_list seats step me found me')
+    lock_puts c clients slots own {value} is = untold id other (IsRunningList c key_seats clients holds) slots own me place (λ _. value)
+        (IsLockPlay begin rested play_lists play_list seats step me) (lock_goes c clients slots own is (λ _. value) (λ n. refl))
 
 module _ {P : Type 0} {begin : P} {rested : P → P} {play_lists play_list seats : ℕ} {step : Step} {found : ℕ} {me me' : Me (Unit {0}) (ListView P)}
-    (play : IsLockPlay begin rested play_lists play_list seats step me found me') where
-  -- what a token shows after a step, with the names that the call has
-  pub part_played : {lists i : ℕ} {p : SeatPart (Beside P)} → shown_of begin lists i me.0.parts ≡ p → play_lists ≡ p.pass.lists → play_list ≡ p.pass.list
-      → shown_of begin lists i me'.0.parts ≡ part_after (given_back rested) p step found
-  part_played {lists} {i} {p} is lists_are list_is = let a : play_lists ≡ lists = lists_are ∙ ap (λ (x : SeatPart (Beside P)). x.pass.lists) (sym is) in
-      let b : play_list ≡ i = list_is ∙ ap (λ (x : SeatPart (Beside P)). x.pass.list) (sym is) in
-      subst (λ (z : ℕ × ℕ). shown_of begin z.0 z.1 me'.0.parts ≡ part_after (given_back rested) (shown_of begin z.0 z.1 me.0.parts) step found)
-      (λ k. (a k, b k)) play.shows ∙ ap (λ (x : SeatPart (Beside P)). part_after (given_back rested) x step found) is
+    (play : IsLockPlay begin rested play_lists play_list seats step me found me') {lists i words : ℕ} {p : SeatPart (Beside P)}
+    (token : IsToken begin me.0.parts lists i words p play_lists play_list) where
+  -- what a token shows after a step, and what the step says beside, with the names that the call has
+  pub part_played : shown_of begin lists i me'.0.parts ≡ part_after (given_back rested) p step found
+  part_played = sym (play_shown token me'.0.parts)
+      ∙ (play.shows ∙ ap (λ (x : SeatPart (Beside P)). part_after (given_back rested) x step found) (play_shows token))
 
-  -- and what the step says beside
-  pub told_played : {lists i : ℕ} {p : SeatPart (Beside P)} → shown_of begin lists i me.0.parts ≡ p → play_lists ≡ p.pass.lists → play_list ≡ p.pass.list
-      → Told seats p step found
-  told_played {lists} {i} {p} is lists_are list_is = let a : play_lists ≡ lists = lists_are ∙ ap (λ (x : SeatPart (Beside P)). x.pass.lists) (sym is) in
-      let b : play_list ≡ i = list_is ∙ ap (λ (x : SeatPart (Beside P)). x.pass.list) (sym is) in
-      subst (λ (x : SeatPart (Beside P)). Told seats x step found) ((λ k. shown_of begin (a k) (b k) me.0.parts) ∙ is) play.told
+  pub told_played : Told seats p step found
+  told_played = subst (λ (x : SeatPart (Beside P)). Told seats x step found) (play_shows token) play.told
 
-  -- the token is of the same seat still
-  pub seat_played : {number many lists list first words words' : ℕ} → IsSeatOf (part_in begin me.0.parts) number many lists list first words → words' ≡ words
-      → IsSeatOf (part_in begin me'.0.parts) number many lists list first words'
-  seat_played s same = same_seat play.left (ap (λ (x : SeatPart (Beside P)). x.number) play.shows) (ap (λ (x : SeatPart (Beside P)). x.seats) play.shows) s same
+  -- so a call may say it of an operation that answers so
+  pub made_played : {act of : Act} → act ≡ of → (answer : ℕ) → IsAnswer of found answer
+      → (found : ℕ) × (shown_of begin lists i me'.0.parts ≡ part_after (given_back rested) p step found) × Told seats p step found × IsAnswer act found answer
+  made_played is answer answers = (found, part_played, told_played, subst (λ (a : Act). IsAnswer a found answer) (sym is) answers)
 
--- a token's seat is one of the table's, which has 16 at most
-pub seat_there : {P : Type 0} (begin : P) (parts : List (SeatLists P)) {number many lists i first words : ℕ} {p : SeatPart (Beside P)}
-    → IsSeatOf (part_in begin parts) number many lists i first words → shown_of begin lists i parts ≡ p → (p.number < p.seats) × (p.seats ≤ 16)
-seat_there {P} begin parts {number} {many} {lists} {i} {first} {words} {p} seat_of is =
-    let named : p.number ≡ number = ap (λ (x : SeatPart (Beside _)). x.number) (sym is) ∙ seat_of.number_is in
-    let seats : p.seats ≡ many = ap (λ (x : SeatPart (Beside _)). x.seats) (sym is) ∙ seat_of.seats_are in
-    let below : number < many = seat_of.there in let few : many ≤ 16 = seat_of.few in (omega arith, omega arith)
-
--- a word of a list is one of the table's
-pub word_there : {P : Type 0} (begin : P) (parts : List (SeatLists P)) {id other : TableId} {number many lists i first word place : ℕ} {p : SeatPart (Beside P)}
-    → id ≡ other → IsSeatOf (part_in begin parts) number many lists i first id.words → shown_of begin lists i parts ≡ p
-    → word < word_count p.seats → place ≡ p.pass.list * word_count p.seats + word → place < other.words
-word_there {P} begin parts {id} {other} {number} {many} {lists} {i} {first} {word} {place} {p} same seat_of is low at =
-    let seats : p.seats ≡ many = ap (λ (x : SeatPart (Beside _)). x.seats) (sym is) ∙ seat_of.seats_are in
-    let list : p.pass.list ≡ i = ap (λ (x : SeatPart (Beside _)). x.pass.list) (sym is) in
-    let n : word_count p.seats ≡ word_count many = ap word_count seats in
-    let behind : i * word_count many + word_count many ≤ lists * word_count many = further i lists (word_count many) seat_of.within in
-    let there : lists * word_count many ≤ id.words = seat_of.words_there in
-    let words : id.words ≡ other.words = ap (λ (t : TableId). t.words) same in
-    let begins : p.pass.list * word_count p.seats ≡ i * word_count many = λ k. list k * n k in omega arith
+-- the token is of the same seat still
+pub seat_played : {P : Type 0} {begin : P} {rested : P → P} {lists i seats : ℕ} {step : Step} {found : ℕ} {me me' : Me (Unit {0}) (ListView P)}
+    → IsLockPlay begin rested lists i seats step me found me' → {number many token_lists list first words words' : ℕ} → me.1 ≡ []
+    → IsSeatOf (part_in begin me.0.parts) number many token_lists list first words → words' ≡ words
+    → (me'.1 ≡ []) × (me'.0.parts ≡ part_in begin me'.0.parts ∷ []) × IsSeatOf (part_in begin me'.0.parts) number many token_lists list first words'
+seat_played play none seat same = (
+  play.left.slots ∙ none,
+  play.left.one,
+  same_seat play.left (ap (λ (x : SeatPart (Beside _)). x.number) play.shows)
+      (ap (λ (x : SeatPart (Beside _)). x.seats) play.shows) seat same,
+)
 
 -- what an exchange makes of a word, said in two ways
 pub either_if : (t : Bool) (new old : ℕ) → either t new old ≡ (if t then new else old)
 either_if true new old = refl
 either_if false new old = refl
+
+-- an operation that writes what a line says makes of each word what the line does
+pub writes_of : (step : Step) (line : Plan) (act : Act) → Writes step line act → (n : ℕ) → n < 18446744073709551616 → (step ≡ Mark → n % 2 ≡ 0)
+    → written act n ≡ line.write n
+writes_of step line Load w n small even = sym (w n)
+writes_of step line (Store value) w n small even = sym (w.0 n)
+writes_of step line Add w n small even = sym (w n small even)
+writes_of step line (Exchange old new) w n small even = sym (w n)
+
+-- so the step that a call picks, which is this one
+pub picked_writes : {P : Type 0} (p : SeatPart (Beside P)) {doing step : Step} (act : Act) → doing ≡ step → ((n : ℕ) → (line_for p step).write n ≡ written act n)
+    → (n : ℕ) → n < 18446744073709551616 → (doing ≡ Mark → n % 2 ≡ 0) → written act n ≡ (line_for p doing).write n
+picked_writes p act is makes n small even = sym (makes n) ∙ ap (λ (d : Step). (line_for p d).write n) (sym is)
+
+-- what such a step says, said of this one and of what its operation returned
+pub picked_says : {P : Type 0} (rested : P → P) {p q : SeatPart (Beside P)} {doing step : Step} {many seats answer : ℕ} → doing ≡ step → many ≡ seats
+    → (found : ℕ) × (q ≡ part_after (given_back rested) p doing found) × Told many p doing found × (answer ≡ found)
+    → (q ≡ part_after (given_back rested) p step answer) × Told seats p step answer
+picked_says rested {p} {q} is same m =
+    (m.1 ∙ (λ k. part_after (given_back rested) p (is k) (sym m.3 k)), subst (λ (z : ℕ × (Step × ℕ)). Told z.0 p z.1.0 z.1.1) (λ k. (same k, (is k, sym m.3 k))) m.2)

@@ -1,22 +1,26 @@
 -- A step puts one new part at its seat's number and changes one word: what is to be shown for the table's rule to
 -- hold after it.
-use Rattle.std.proofs.Common.{◌≡◌, ◌≢◌, ◌<◌, ◌≤◌, ◌*◌, ℕ, zero, suc, Some, List, [], ◌∷◌, map, length, set, sym, refl, ap, ◌∙◌, subst, length-set, ⊎_elim}
+use Rattle.std.proofs.Common.{◌≡◌, ◌≢◌, ◌<◌, ◌≤◌, ◌*◌, ℕ, zero, suc, Some, List, [], ◌∷◌, map, length, set, sym, refl, ap, ◌∙◌, subst, length-set, ⊎_elim, arith}
+use Rattle.std.specs.Prelude.{slice_index}
 use mathlib.Core.Option.{some, some-injective, some-ne-none}
 use mathlib.Core.Logic.{dite}
 use native.Mathlib.Decide.{ℕ_discrete}
 use lib.ListN.{get_elem?}
-use Rattle.atomic_table.specs.Table.{State, Me, keeps, stepped}
+use Rattle.atomic_table.specs.Seated.{TableId}
+use Rattle.atomic_table.specs.Table.{State, Me, keeps, stepped, Allows}
 use Rattle.atomic_table.proofs.Lists.{at_set, set_here, set_else}
 use Rattle.lock_core.specs.Grants.{Grants, Conflicts}
 use Rattle.lock_core.specs.declared.range.Held.{Held}
 use Rattle.lock_laws.specs.Laws.{IsLock}
 use Rattle.list_cuts.specs.Cut.{Regions, list_count}
 use Rattle.epoch_pools.specs.declared.views.SeatLists.{SeatLists}
+use Rattle.epoch_pools.specs.declared.views.SeatPart.{SeatPart}
+use Rattle.epoch_pools.specs.declared.views.Beside.{Beside}
 use Rattle.epoch_pools.specs.declared.views.ListView.{ListView}
 use Rattle.lock_core.specs.Words.{word_count}
 use Rattle.epoch_pools.specs.declared.views.Standing.TheVariants.{Narrow, Wide}
 use Rattle.epoch_pools.specs.Beside.{held_in}
-use Rattle.epoch_pools.specs.Hands.{part_in, IsSeatOf}
+use Rattle.epoch_pools.specs.Hands.{HandState, part_in, shown_of, IsSeatOf}
 use Rattle.epoch_pools.specs.Running.{machine_at, cores_of, IsNarrow, IsWide, AreLocks}
 use Rattle.epoch_pools.specs.Running.{view, takes_in, AreLists, IsOneLeft, IsOwned, Stands, Ruled, IsRunningList}
 use Rattle.lock_core.proofs.ByPlace.{below as at_below}
@@ -32,6 +36,70 @@ pub same_seat : {P : Type 0} {begin : P} {me me' : Me (Unit {0}) (ListView P)} �
     → IsSeatOf (part_in begin me'.0.parts) number many lists list first words'
 same_seat left same_number same_seats {number} {many} {lists} s same = let words = subst (λ (n : ℕ). lists * word_count many ≤ n) (sym same) s.words_there in
     assumption (same_number ∙ s.number_is, same_seats ∙ s.seats_are, left.full ∙ s.full, s)
+
+-- what a call knows of its token: it has one part, that of its seat, which shows p in the list to which the token is turned, and the play names that list
+pub record IsToken {P : Type 0} (begin : P) (parts : List (SeatLists P)) (lists i words : ℕ) (p : SeatPart (Beside P)) (play_lists play_list : ℕ) : Type 0 where
+  pub number : ℕ
+  pub many : ℕ
+  pub first : ℕ
+  pub one : parts ≡ part_in begin parts ∷ []
+  pub seat : IsSeatOf (part_in begin parts) number many lists i first words
+  pub shown_is : shown_of begin lists i parts ≡ p
+  pub lists_are : play_lists ≡ p.pass.lists
+  pub list_is : play_list ≡ p.pass.list
+
+module _ {P : Type 0} {begin : P} {parts : List (SeatLists P)} {lists i words : ℕ} {p : SeatPart (Beside P)} {play_lists play_list : ℕ}
+    (t : IsToken begin parts lists i words p play_lists play_list) where
+  pub same_lists : play_lists ≡ lists
+  same_lists = t.lists_are ∙ ap (λ (x : SeatPart (Beside P)). x.pass.lists) (sym t.shown_is)
+
+  same_list : play_list ≡ i
+  same_list = t.list_is ∙ ap (λ (x : SeatPart (Beside P)). x.pass.list) (sym t.shown_is)
+
+  pub list_there : play_list < play_lists
+  list_there = let a = same_lists in let b = same_list in let c = t.seat.within in omega arith
+
+  -- what the play's list shows of any parts is what the token's list shows
+  pub play_shown : (parts' : List (SeatLists P)) → shown_of begin play_lists play_list parts' ≡ shown_of begin lists i parts'
+  play_shown parts' = λ k. shown_of begin (same_lists k) (same_list k) parts'
+
+  pub play_shows : shown_of begin play_lists play_list parts ≡ p
+  play_shows = play_shown parts ∙ t.shown_is
+
+  pub many_seats : p.seats ≡ t.many
+  many_seats = ap (λ (x : SeatPart (Beside P)). x.seats) (sym t.shown_is) ∙ t.seat.seats_are
+
+-- so a token's invariant, its view and what the play names tell it
+pub token_of : {P : Type 0} (begin : P) {slots : List (ℕ × Unit {0})} {parts : List (SeatLists P)} {number many lists i first play_lists play_list : ℕ} {table : TableId}
+    {token : HandState (Beside P)} → (slots ≡ []) × (parts ≡ part_in begin parts ∷ []) × IsSeatOf (part_in begin parts) number many lists i first table.words
+    → record { table = table; part = shown_of begin lists i parts } ≡ token → (play_lists ≡ token.part.pass.lists) × (play_list ≡ token.part.pass.list)
+    → IsToken begin parts lists i table.words token.part play_lists play_list
+token_of {P} begin known is named = record {
+  number = _;
+  many = _;
+  first = _;
+  one = known.1;
+  seat = known.2;
+  shown_is = ap (λ (h : HandState (Beside P)). h.part) is;
+  lists_are = named.0;
+  list_is = named.1;
+}
+
+-- what an operation that makes f of a word owes the table that it is made on, to say so much to its seat
+abbrev pub Goes : {P : Type 0} → TableId → TableId → (State (Unit {0}) (ListView P) → Type 0) → ℕ → ℕ → Me (Unit {0}) (ListView P) → ℕ → (ℕ → ℕ)
+    → (ℕ → Me (Unit {0}) (ListView P) → Type 0) → Type 0
+Goes id table holds slots own me word f says = (id ≡ table) × (word < table.words) × Allows holds slots own me word f says
+
+-- a store doesn't tell what it found, but that it found a value
+pub untold : {P : Type 0} (id table : TableId) (holds : State (Unit {0}) (ListView P) → Type 0) (slots own : ℕ) (me : Me (Unit {0}) (ListView P)) (word : ℕ)
+    (f : ℕ → ℕ) (says : ℕ → Me (Unit {0}) (ListView P) → Type 0) → Goes id table holds slots own me word f says
+    → Goes id table holds slots own me word f (λ _ me'. (found : ℕ) × says found me')
+untold id table holds slots own me word f says goes = (
+  goes.0,
+  goes.1,
+  λ s running l here small. let r = goes.2 s running l here small in
+      (r.0, r.1, r.2, r.3, (slice_index s.words word, r.4)),
+)
 
 -- where the item at n becomes q, what is so of each item is so, if it is of q
 at_each : {A : Type 0} (Q : A → Type 0) (l : List A) (n : ℕ) (q : A) → Q q → ((k : ℕ) (x : A) → get_elem? l k ≡ some x → Q x)

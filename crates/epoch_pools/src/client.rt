@@ -58,8 +58,9 @@ impl<G: Guard> List<G> {
         ensures stored { (found : ℕ) × IsMade G.holds G.allows M.note token.old.part.number (shown_grant token.old.part)
             (inner_pass token.old.part) C.acting found (inner_pass token.new.part) }
     {
-        let word = self.client_word(i);
+        let _number = token.number;
         let shared = &self.table.shared;
+        let word = self.client_word(i);
         match act {
             ClientAct::Load => shared.load::<Acts<G, M, C>>(&mut token.seat, word),
             ClientAct::Store { value } => {

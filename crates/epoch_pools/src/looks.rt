@@ -16,7 +16,7 @@ ghost use Rattle.epoch_pools.specs.Looking.{IsAwaited, begun, come_back, homes_r
 use crate::list::List;
 use crate::plays::Doing;
 use crate::token::Token;
-use lock_core::{Guard, Layout, NODES, Step, View};
+use lock_core::{Act, Guard, Layout, NODES, Step, View};
 use std::marker::Brand;
 use std::sync::ledger::Ledger;
 use view_lists::Nodes;
@@ -91,7 +91,7 @@ impl<G: Guard> List<G> {
         ensures told { Told self.now.seats token.old.part step result }
     {
         let _ = step;
-        self.load_at::<D>(token, word)
+        self.act_at::<D>(token, word, Act::Load)
     }
 
     /// ReadHome with a token. It returns what the home word of the node was.
@@ -109,7 +109,7 @@ impl<G: Guard> List<G> {
         ensures taken { token.new.part.trace.taken ≡ token.old.part.trace.taken + 1 }
         ensures room { length token.old.part.core.ready + length token.old.part.core.homes < 16 }
     {
-        let place = Layout::of(token.seats, 0).home(node);
+        let place = Layout::of(token.seat_count(), 0).home(node);
         self.get::<Brand>(token, Step::ReadHome { node }, place)
     }
 
@@ -176,6 +176,7 @@ impl<G: Guard> List<G> {
         ensures taken { token.new.part.trace.taken ≤ token.old.part.trace.taken + 16 }
         ensures counted { steps.new + token.old.part.trace.taken ≡ steps.old + token.new.part.trace.taken }
     {
+        let _seats = token.seat_count();
         let first = NODES * token.number;
         let fresh = homes.is_empty();
         let mut came = false;

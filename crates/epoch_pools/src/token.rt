@@ -35,7 +35,7 @@ impl<G: Guard> Model for Token<G> {
 }
 
 impl<G: Guard> Token<G> {
-    ghost use Rattle.std.specs.Prelude.{◌≡◌, ◌+◌, ◌*◌, ◌<◌};
+    ghost use Rattle.std.specs.Prelude.{◌≡◌, ◌+◌, ◌*◌, ◌<◌, ◌≤◌};
     ghost use Rattle.lock_core.specs.Words.{word_count};
     ghost use Rattle.epoch_pools.specs.Hands.{turned};
 
@@ -46,6 +46,16 @@ impl<G: Guard> Token<G> {
         ensures { result ≡ self.now.part.pass.list * word_count self.now.part.seats + word }
     {
         (self.first + word) as usize
+    }
+
+    /// How many seats the table has, 16 at most; the token's number is below it.
+    #[inline(always)]
+    pub(crate) fn seat_count(&self) -> u32
+        ensures seats { result ≡ self.now.part.seats }
+        ensures there { self.now.part.number < self.now.part.seats }
+        ensures few { self.now.part.seats ≤ 16 }
+    {
+        self.seats
     }
 
     /// The list to which the token is turned, counted from 0. In it are the steps that its record notes next.

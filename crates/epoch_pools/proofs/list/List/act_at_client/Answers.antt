@@ -1,72 +1,47 @@
-use Rattle.std.proofs.Common.{◌≡◌, ◌+◌, ◌%◌, ◌^◌, [], eqb, get_or, set, refl, ap, ◌∙◌, sym, subst}
+use Rattle.std.proofs.Common.{◌+◌, ◌-◌, ◌*◌, ◌%◌, ◌^◌, [], eqb, length, refl, ap, ◌∙◌, sym}
 use Rattle.std.proofs.lemmas.List.{set-get_or}
 use prog.Atomic.{either}
-use Rattle.lock_core.specs.Client.{ClientStep, loads, stores, adds, exchanges, place_of, words_after}
-use Rattle.epoch_pools.specs.declared.client.ClientAct.{ClientAct}
-use Rattle.epoch_pools.specs.ClientActs.{client_step}
-use Rattle.epoch_pools.proofs.ClientSteps.{token_client, token_stores, client_place, client_made}
+use Rattle.list_cuts.specs.Cut.{list_count}
+use Rattle.lock_core.specs.Client.{place_of}
+use Rattle.lock_core.specs.Words.{word_count}
+use Rattle.epoch_pools.specs.Hands.{cut_of}
+use Rattle.epoch_pools.proofs.ClientSteps.{IsClientCall, client_goes, client_stores, client_place, client_made, acts_on}
+use Rattle.epoch_pools.proofs.Placing.{token_of}
+use Rattle.epoch_pools.proofs.list.List.act_at_client.Given.{Over}
 use Rattle.epoch_pools.proofs.list.List.act_at_client.Goals as goal
+use Rattle.epoch_pools.proofs.list.List.act_at_client.Goals.{After-client_word-word}
 
--- a load that the guard allows keeps the rule, and tells what it should
+-- what the call knows of its token, the table, the step and the client word
+call : (g : Over) (c : After-client_word-word g) → let key = c.self.inside.table.shared.key in let start = list_count (cut_of key.shares.items) * word_count key.seats in
+    IsClientCall (g.G.Guard.first [] 0) g.G.Guard.holds g.G.Guard.allows g.M.Means.note c.token.inside.seat.me.0.parts c.token.inside.lists
+    c.token.inside.list c.token.inside.seat.table_id c.self.inside.table.shared.table_id c.args.token.now.part g.C.Acting.lists g.C.Acting.list
+    (cut_of key.shares.items) key.seats (length key.words.items - start) g.C.Acting.acting c.args.act c.args.i c.client_word-word.result
+call g c = record {
+  law = g.G.Guard.keeps;
+  token = token_of _ c.token.invariant c.token.view_is c.requires.lists;
+  same = ap (λ s. s.table) c.token.view_is ∙ (c.requires.table ∙ sym (ap (λ s. s.table) c.self.view_is));
+  acting = c.requires.acting;
+  there = client_place c.self.invariant c.self.view_is (ap place_of c.requires.acting ∙ acts_on c.args.act c.args.i) c.requires.place c.client_word-word.ensures;
+  allowed = c.requires.allowed;
+}
+
+-- each operation that the guard allows keeps the rule, and tells what it should
 pub load-requires : goal.load-requires
-load-requires g c = let shape = c.self.view_is in
-    let acting : g.C.Acting.acting ≡ loads c.args.i = c.requires.acting ∙ ap (λ (a : ClientAct). client_step a c.args.i) c.in-Load.is in
-    let at = client_place c.self.invariant shape (ap place_of acting) c.requires.place c.client_word-word.ensures in (
-      ap (λ s. s.table) c.token.view_is ∙ (c.requires.table ∙ sym (ap (λ s. s.table) shape)),
-      at.0,
-      token_client (g.G.Guard.first [] 0) _ _ _ g.G.Guard.holds g.G.Guard.allows g.M.Means.note g.G.Guard.keeps g.C.Acting.acting (λ n. n) _ _
-          c.token.inside.seat.me c.args.token.now.part _ _ c.token.invariant.1 c.token.invariant.2 (ap (λ s. s.part) c.token.view_is) c.requires.lists.0
-          c.requires.lists.1 at.1 at.2
-          (λ words. subst (λ (s : ClientStep). words_after words s ≡ set words (place_of s) (get_or words (place_of s) 0)) (sym acting)
-          (sym (set-get_or words c.args.i 0))) c.requires.allowed (λ found me' told. told),
-    )
+load-requires g c = client_goes (call g (goal.at.load-requires g c).After-client_word-word) _ _ c.in-Load.is (λ n. n)
+    (λ words. sym (set-get_or words c.args.i 0))
 
--- a store that the guard allows keeps the rule, and tells what it should
 pub store-requires : goal.store-requires
-store-requires g c = let shape = c.self.view_is in
-    let acting : g.C.Acting.acting ≡ stores c.args.i c.in-Store.value = c.requires.acting ∙ ap (λ (a : ClientAct). client_step a c.args.i) c.in-Store.is in
-    let at = client_place c.self.invariant shape (ap place_of acting) c.requires.place c.client_word-word.ensures in (
-      ap (λ s. s.table) c.token.view_is ∙ (c.requires.table ∙ sym (ap (λ s. s.table) shape)),
-      at.0,
-      token_stores (g.G.Guard.first [] 0) _ _ _ g.G.Guard.holds g.G.Guard.allows g.M.Means.note g.G.Guard.keeps g.C.Acting.acting c.in-Store.value _ _
-          c.token.inside.seat.me c.args.token.now.part _ c.token.invariant.1 c.token.invariant.2 (ap (λ s. s.part) c.token.view_is) c.requires.lists.0
-          c.requires.lists.1 at.1 at.2 (λ words. subst (λ (s : ClientStep). words_after words s ≡ set words (place_of s) c.in-Store.value) (sym acting) refl)
-          c.requires.allowed,
-    )
+store-requires g c = client_stores (call g (goal.at.store-requires g c).After-client_word-word) _ _ c.in-Store.is
 
--- an addition that the guard allows keeps the rule, and tells what it should
 pub fetch_add-requires : goal.fetch_add-requires
-fetch_add-requires g c = let shape = c.self.view_is in
-    let acting : g.C.Acting.acting ≡ adds c.args.i c.in-Add.by = c.requires.acting ∙ ap (λ (a : ClientAct). client_step a c.args.i) c.in-Add.is in
-    let at = client_place c.self.invariant shape (ap place_of acting) c.requires.place c.client_word-word.ensures in (
-      ap (λ s. s.table) c.token.view_is ∙ (c.requires.table ∙ sym (ap (λ s. s.table) shape)),
-      at.0,
-      token_client (g.G.Guard.first [] 0) _ _ _ g.G.Guard.holds g.G.Guard.allows g.M.Means.note g.G.Guard.keeps g.C.Acting.acting
-          (λ n. (n + c.in-Add.by) % 2 ^ 64) _ _ c.token.inside.seat.me c.args.token.now.part _ _ c.token.invariant.1 c.token.invariant.2
-          (ap (λ s. s.part) c.token.view_is) c.requires.lists.0 c.requires.lists.1 at.1 at.2
-          (λ words. subst (λ (s : ClientStep). words_after words s ≡ set words (place_of s)
-          ((get_or words (place_of s) 0 + c.in-Add.by) % 2 ^ 64)) (sym acting) refl) c.requires.allowed (λ found me' told. told),
-    )
+fetch_add-requires g c = client_goes (call g (goal.at.fetch_add-requires g c).After-client_word-word) _ _ c.in-Add.is (λ n. (n + c.in-Add.by) % 2 ^ 64)
+    (λ words. refl)
 
--- an exchange that the guard allows keeps the rule, and tells what it should
 pub compare_exchange-requires : goal.compare_exchange-requires
-compare_exchange-requires g c = let shape = c.self.view_is in
-    let acting : g.C.Acting.acting ≡ exchanges c.args.i c.in-Exchange.expected c.in-Exchange.new = c.requires.acting ∙ ap (λ
-    (a : ClientAct). client_step a c.args.i) c.in-Exchange.is in
-    let at = client_place c.self.invariant shape (ap place_of acting) c.requires.place c.client_word-word.ensures in (
-      ap (λ s. s.table) c.token.view_is ∙ (c.requires.table ∙ sym (ap (λ s. s.table) shape)),
-      at.0,
-      token_client (g.G.Guard.first [] 0) _ _ _ g.G.Guard.holds g.G.Guard.allows g.M.Means.note g.G.Guard.keeps g.C.Acting.acting
-          (λ n. either (eqb n c.in-Exchange.expected) c.in-Exchange.new n) _ _
-          c.token.inside.seat.me c.args.token.now.part _ _ c.token.invariant.1 c.token.invariant.2 (ap (λ s. s.part) c.token.view_is) c.requires.lists.0
-          c.requires.lists.1 at.1 at.2 (λ words. subst (λ (s : ClientStep). words_after words s ≡ set words (place_of s)
-          (either (eqb (get_or words (place_of s) 0) c.in-Exchange.expected) c.in-Exchange.new (get_or words (place_of s) 0))) (sym acting) refl)
-          c.requires.allowed (λ found me' told. told),
-    )
+compare_exchange-requires g c = client_goes (call g (goal.at.compare_exchange-requires g c).After-client_word-word) _ _ c.in-Exchange.is
+    (λ n. either (eqb n c.in-Exchange.expected) c.in-Exchange.new n) (λ words. refl)
 
 -- a store was made at a moment, whatever value it found
 pub returns-in-Store-clause-stored : goal.returns-in-Store-clause-stored
-returns-in-Store-clause-stored g c = let told = c.store.ensures.2 in (
-  told.0,
-  client_made told.1 (ap (λ s. s.part) c.token.view_is) c.requires.lists.0 c.requires.lists.1,
-)
+returns-in-Store-clause-stored g c = let told = c.store.ensures.2 in
+    (told.0, client_made told.1 (call g (goal.at.returns-in-Store-clause-stored g c).After-client_word-word).token)

@@ -1,18 +1,16 @@
-use Rattle.std.proofs.Common.{rules, [], ap, sym, ◌∙◌, arith}
+use Rattle.std.proofs.Common.{rules, arith}
 use Rattle.lock_core.specs.declared.steps.Step.TheVariants.{ReadHome}
 use Rattle.epoch_pools.specs.Beside.{given_back}
 use Rattle.epoch_pools.specs.Running.{Enables}
 use Rattle.epoch_pools.proofs.Taking.{home_look}
 use Rattle.epoch_pools.proofs.Looking.{awaited_there, awaited_room}
-use Rattle.epoch_pools.proofs.LockSteps.{seat_there}
 use Rattle.epoch_pools.proofs.list.List.read_home.Goals as goal
 
 -- a used node is one of the list's
 pub home-place-requires : goal.home-place-requires
-home-place-requires g c = let many = ap (λ s. s.part.seats) (sym c.token.view_is) ∙ c.token.invariant.2.seats_are in
-    let seat = seat_there (g.G.Guard.first [] 0) c.token.inside.seat.me.0.parts c.token.invariant.2 (ap (λ s. s.part) c.token.view_is) in
-    let there = awaited_there c.args.token.now.part c.args.node c.requires.sound seat.0 seat.1 c.requires.awaited in
-    let seats = c.of.ensures.seats in omega arith
+home-place-requires g c = let s = c.seat_count.ensures in
+    let there = awaited_there c.args.token.now.part c.args.node c.requires.sound s.there s.few c.requires.awaited in
+    let many = s.seats in let seats = c.of.ensures.seats in omega arith
 
 -- it is known whether the node came home
 pub returns-clause-looked : goal.returns-clause-looked
@@ -21,5 +19,5 @@ returns-clause-looked g c = let p = c.args.token.now.part in let may : Enables p
 
 -- the ready nodes and the homes leave room for it
 pub returns-clause-room : goal.returns-clause-room
-returns-clause-room g c = let seat = seat_there (g.G.Guard.first [] 0) c.token.inside.seat.me.0.parts c.token.invariant.2 (ap (λ s. s.part) c.token.view_is) in
-    awaited_room c.args.token.now.part c.args.node c.requires.sound seat.0 seat.1 c.requires.awaited
+returns-clause-room g c =
+    awaited_room c.args.token.now.part c.args.node c.requires.sound c.seat_count.ensures.there c.seat_count.ensures.few c.requires.awaited

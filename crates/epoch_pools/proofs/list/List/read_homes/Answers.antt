@@ -1,7 +1,6 @@
-use Rattle.std.proofs.Common.{◌≡◌, ◌∙◌, [], ap, sym, arith, Bool, true, false, if◌then◌else◌}
+use Rattle.std.proofs.Common.{◌≡◌, ◌∙◌, ap, sym, arith, Bool, true, false, if◌then◌else◌}
 use Rattle.epoch_pools.proofs.Taking.{both_looks, home_known}
 use Rattle.epoch_pools.proofs.Looking.{beside_read, core_more, fresh_more, none_more, homes_room}
-use Rattle.epoch_pools.proofs.LockSteps.{seat_there}
 use Rattle.epoch_pools.proofs.list.List.read_homes.Goals as goal
 use Rattle.epoch_pools.proofs.list.List.read_homes.Goals.{then-look_home, else-look_home}
 
@@ -37,7 +36,6 @@ nodes-preserved g c = let p = c.args.token.now.part in let q = c.nodes.token.par
 -- the homes have room behind the ready nodes
 pub returns-clause-room : goal.returns-clause-room
 returns-clause-room g c = let p = c.args.token.now.part in let q = c.nodes.token.part in
-    let seat = seat_there (g.G.Guard.first [] 0) c.token.inside.seat.me.0.parts c.token.invariant.2 (ap (λ s. s.part) c.token.view_is) in
-    let was = c.nodes.invariant in let seats = was.on.call.seats in let same = was.on.call.number in let below = seat.0 in
-    let few = seat.1 in
+    let was = c.nodes.invariant in let seats = was.on.call.seats in let same = was.on.call.number in let below = c.seat_count-seats.ensures.there in
+    let few = c.seat_count-seats.ensures.few in
     homes_room p q c.nodes.homes c.nodes.came was.sound (omega arith) (omega arith) (λ off. was.none off ∙ c.requires.homes) was.core
