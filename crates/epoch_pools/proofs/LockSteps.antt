@@ -34,7 +34,7 @@ use Rattle.epoch_pools.specs.Standings.{is_here}
 use Rattle.epoch_pools.specs.Beside.{core_at, held_in, shown, given_back, may_give_back}
 use Rattle.epoch_pools.specs.Hands.{part_in, shown_of, IsSeatOf}
 use Rattle.epoch_pools.specs.Running.{takes_in, AreLists, view, line_in, lists_after, line_for, Enables, MayRest, part_after, Told, IsAnswer, IsLockPlay, IsRunningList}
-use Rattle.epoch_pools.proofs.Placing.{part_here, placed, same_seat, IsToken, Goes, untold, same_lists, list_there, play_shown, play_shows, many_seats}
+use Rattle.epoch_pools.proofs.Placing.{part_here, placed, same_seat, IsKept, IsToken, Goes, untold, same_lists, list_there, play_shown, play_shows, many_seats}
 use Rattle.epoch_pools.proofs.Frames as frames
 use Rattle.epoch_pools.proofs.Slices.{further}
 use Rattle.epoch_pools.proofs.Granting.{GainLaw, LossLaw}
@@ -184,13 +184,8 @@ module _ {P : Type 0} {begin : P} {rested : P → P} {play_lists play_list seats
 pub seat_played : {P : Type 0} {begin : P} {rested : P → P} {lists i seats : ℕ} {step : Step} {found : ℕ} {me me' : Me (Unit {0}) (ListView P)}
     → IsLockPlay begin rested lists i seats step me found me' → {number many token_lists list first words words' : ℕ} → me.1 ≡ []
     → IsSeatOf (part_in begin me.0.parts) number many token_lists list first words → words' ≡ words
-    → (me'.1 ≡ []) × (me'.0.parts ≡ part_in begin me'.0.parts ∷ []) × IsSeatOf (part_in begin me'.0.parts) number many token_lists list first words'
-seat_played play none seat same = (
-  play.left.slots ∙ none,
-  play.left.one,
-  same_seat play.left (ap (λ (x : SeatPart (Beside _)). x.number) play.shows)
-      (ap (λ (x : SeatPart (Beside _)). x.seats) play.shows) seat same,
-)
+    → IsKept begin me' number many token_lists list first words'
+seat_played play = same_seat play.left (ap (λ (x : SeatPart (Beside _)). x.number) play.shows) (ap (λ (x : SeatPart (Beside _)). x.seats) play.shows)
 
 -- what an exchange makes of a word, said in two ways
 pub either_if : (t : Bool) (new old : ℕ) → either t new old ≡ (if t then new else old)
@@ -205,14 +200,8 @@ writes_of step line (Store value) w n small even = sym (w.0 n)
 writes_of step line Add w n small even = sym (w n small even)
 writes_of step line (Exchange old new) w n small even = sym (w n)
 
--- so the step that a call picks, which is this one
-pub picked_writes : {P : Type 0} (p : SeatPart (Beside P)) {doing step : Step} (act : Act) → doing ≡ step → ((n : ℕ) → (line_for p step).write n ≡ written act n)
-    → (n : ℕ) → n < 18446744073709551616 → (doing ≡ Mark → n % 2 ≡ 0) → written act n ≡ (line_for p doing).write n
-picked_writes p act is makes n small even = sym (makes n) ∙ ap (λ (d : Step). (line_for p d).write n) (sym is)
-
--- what such a step says, said of this one and of what its operation returned
-pub picked_says : {P : Type 0} (rested : P → P) {p q : SeatPart (Beside P)} {doing step : Step} {many seats answer : ℕ} → doing ≡ step → many ≡ seats
-    → (found : ℕ) × (q ≡ part_after (given_back rested) p doing found) × Told many p doing found × (answer ≡ found)
+-- what a step says, said of what its operation returned
+pub answer_says : {P : Type 0} (rested : P → P) {p q : SeatPart (Beside P)} {step : Step} {seats answer : ℕ}
+    → (found : ℕ) × (q ≡ part_after (given_back rested) p step found) × Told seats p step found × (answer ≡ found)
     → (q ≡ part_after (given_back rested) p step answer) × Told seats p step answer
-picked_says rested {p} {q} is same m =
-    (m.1 ∙ (λ k. part_after (given_back rested) p (is k) (sym m.3 k)), subst (λ (z : ℕ × (Step × ℕ)). Told z.0 p z.1.0 z.1.1) (λ k. (same k, (is k, sym m.3 k))) m.2)
+answer_says rested {p} {q} {step} {seats} m = (m.1 ∙ ap (part_after (given_back rested) p step) (sym m.3), subst (Told seats p step) (sym m.3) m.2)

@@ -28,7 +28,7 @@ use Rattle.epoch_pools.specs.Passing.{look_trace, MayCount, MayPass, HoldsToo, a
 use Rattle.epoch_pools.specs.Running.{pass_kept, takes_in, pass_of, grants_in, AreLists, view, lists_with, IsRunningList}
 use Rattle.epoch_pools.proofs.Granting.{GainLaw}
 use Rattle.epoch_pools.proofs.Slices.{further}
-use Rattle.epoch_pools.proofs.Placing.{part_here, placed, same_seat}
+use Rattle.epoch_pools.proofs.Placing.{part_here, placed, same_seat, IsKept, IsToken, same_lists, list_there, play_shown, play_shows}
 use Rattle.epoch_pools.proofs.ClientSteps.{cut_by, locks_stay}
 use Rattle.epoch_pools.proofs.Counting.{counts_many}
 use Rattle.epoch_pools.proofs.Turning.{core_shown}
@@ -85,73 +85,68 @@ module _ {P : Type 0} (begin : P) (c : Regions) (seats clients : ℕ) (holds : G
   split_or true b e = inl refl
   split_or false b e = inr e
 
+  -- a look that leaves this of its seat, by whether it found the list clear
+  looks_to : (lists i : ℕ) (standing : Standing) (too : Bool) (slots id place : ℕ) (me : Me (Unit {0}) (ListView P)) (w : SeatLists P) (after : Bool → SeatLists P)
+      → me.0 ≡ view (w ∷ []) → length w.cores ≡ lists
+      → ((b : Bool) → ((after b).number ≡ w.number) × ((after b).seats ≡ w.seats) × (length (after b).cores ≡ length w.cores))
+      → ((words : List ℕ) (parts : List (SeatLists P)) → AreLists (list_count c) seats (takes_in c) holds words parts → get_elem? parts w.number ≡ some w
+      → w.seats ≡ seats → (b : Bool) → (b ≡ true → (too ≡ true) ⊎ (get_or words place 0 ≡ 0))
+      → AreLists (list_count c) seats (takes_in c) holds words (set parts w.number (after b))
+      × (shown lists i (after b) ≡ after_look (shown lists i w) (standing_by b standing (shown lists i w))))
+      → Allows (IsRunningList c seats clients holds) slots id me place (λ n. n) (IsLookPlay begin c lists i standing too me)
+  looks_to lists i standing too slots id place me w after is full same good s running _ there small =
+      let parts = running.0 in let owner = running.1 in let r = running.2 in
+      let at' : get_elem? s.views id ≡ some (view (w ∷ [])) = there ∙ ap some is in
+      let here = part_here c seats clients holds s parts owner r id w at' in let y : ℕ = get_or s.words place 0 in let b : Bool = too || y == 0 in
+      let q : SeatLists P = after b in let left = same b in let words_stay : s.words ≡ set s.words place y = sym (set-get_or s.words place 0) in
+      let part : part_in begin me.0.parts ≡ w = ap (λ (v : ListView P). part_in begin v.parts) is in
+      let t = good s.words parts r.lists_are here (r.same w.number w here) b
+      (λ e. ⊎_elim (λ t. inl t) (λ t. inr (eqb-true y 0 t)) (split_or too (y == 0) e)) in (
+        view (q ∷ []),
+        keeps,
+        tt,
+        placed c seats clients holds s parts owner r place y id me.1 w q at' left.0 left.1
+            (subst (λ (l : List ℕ). AreLists (list_count c) seats (takes_in c) holds l (set parts w.number q)) words_stay t.0),
+        record {
+          many = sym full ∙ r.lists_are.apart.many w.number w here;
+          left = record { slots = refl; one = refl; full = left.2 ∙ ap (λ (x : SeatLists P). length x.cores) (sym part) };
+          shows = t.1 ∙ ap (λ (x : SeatLists P). after_look (shown lists i x) (standing_by b standing (shown lists i x))) (sym part);
+        },
+      )
+
   -- a look, with what makes its standing good where the list is clear, and that nothing counted before
   looks_by : (lists i at : ℕ) (standing : Standing) (too : Bool) (slots id place : ℕ) (me : Me (Unit {0}) (ListView P)) (w : SeatLists P)
       → me.0 ≡ view (w ∷ []) → length w.cores ≡ lists → place ≡ at * word_count w.seats
       → ((words : List ℕ) (parts : List (SeatLists P)) → AreLists (list_count c) seats (takes_in c) holds words parts → get_elem? parts w.number ≡ some w
-      → (too ≡ true) ⊎ (slice_index words (at * word_count seats) ≡ 0)
-      → AreLists (list_count c) seats (takes_in c) holds words (set parts w.number (looked_at true w standing)))
-      → ((words : List ℕ) (parts : List (SeatLists P)) → AreLists (list_count c) seats (takes_in c) holds words parts → get_elem? parts w.number ≡ some w
-      → grant_in (list_count c) w ≡ None) → Allows (IsRunningList c seats clients holds) slots id me place (λ n. n) (IsLookPlay begin c lists i standing too me)
-  looks_by lists i at standing too slots id place me w is full place_is good none s running _ there small =
-      let parts = running.0 in let owner = running.1 in let r = running.2 in
-      let at' : get_elem? s.views id ≡ some (view (w ∷ [])) = there ∙ ap some is in
-      let here = part_here c seats clients holds s parts owner r id w at' in
-      let many : w.seats ≡ seats = r.same w.number w here in let y : ℕ = get_or s.words place 0 in let b : Bool = too || y == 0 in
-      let q : SeatLists P = looked_at b w standing in
-      let words_stay : s.words ≡ set s.words place y = sym (set-get_or s.words place 0) in
-      let part : part_in begin me.0.parts ≡ w = ap (λ (v : ListView P). part_in begin v.parts) is in
-      let found : y ≡ 0 → slice_index s.words (at * word_count seats) ≡ 0 = λ e.
-      ap (λ n. get_or s.words n 0) (sym (place_is ∙ ap (λ n. at * word_count n) many)) ∙ e in (
-        view (q ∷ []),
-        keeps,
-        tt,
-        placed c seats clients holds s parts owner r place y id me.1 w q at' (number_of b w standing) (seats_of b w standing)
-            (subst (λ (l : List ℕ). AreLists (list_count c) seats (takes_in c) holds l (set parts w.number q)) words_stay
-            (by_clear b s.words parts here r.lists_are (λ e. good s.words parts r.lists_are here
-            (⊎_elim (λ t. inl t) (λ t. inr (found (eqb-true y 0 t))) (split_or too (y == 0) e))))),
-        record {
-          many = sym full ∙ r.lists_are.apart.many w.number w here;
-          left = record { slots = refl; one = refl; full = full_of b w standing ∙ ap (λ (x : SeatLists P). length x.cores) (sym part) };
-          shows = shows_of lists i b w standing (none s.words parts r.lists_are here)
-              ∙ ap (λ (x : SeatLists P). after_look (shown lists i x) (standing_by b standing (shown lists i x))) (sym part);
-        },
-      )
+      → ((too ≡ true) ⊎ (slice_index words (at * word_count seats) ≡ 0)
+      → AreLists (list_count c) seats (takes_in c) holds words (set parts w.number (looked_at true w standing))) × (grant_in (list_count c) w ≡ None))
+      → Allows (IsRunningList c seats clients holds) slots id me place (λ n. n) (IsLookPlay begin c lists i standing too me)
+  looks_by lists i at standing too slots id place me w is full place_is good =
+      looks_to lists i standing too slots id place me w (λ b. looked_at b w standing) is full
+      (λ b. (number_of b w standing, seats_of b w standing, full_of b w standing))
+      (λ words parts l here many b clear. let t = good words parts l here in (
+        by_clear b words parts l here (λ e. t.0 (⊎_elim (λ a. inl a)
+            (λ z. inr (ap (λ n. get_or words n 0) (sym (place_is ∙ ap (λ n. at * word_count n) many)) ∙ z)) (clear e))),
+        shows_of lists i b w standing t.1,
+      ))
     where
-      by_clear : (b : Bool) → (words : List ℕ) (parts : List (SeatLists P)) → get_elem? parts w.number ≡ some w
-          → AreLists (list_count c) seats (takes_in c) holds words parts
+      by_clear : (b : Bool) → (words : List ℕ) (parts : List (SeatLists P)) → AreLists (list_count c) seats (takes_in c) holds words parts
+          → get_elem? parts w.number ≡ some w
           → (b ≡ true → AreLists (list_count c) seats (takes_in c) holds words (set parts w.number (looked_at true w standing)))
           → AreLists (list_count c) seats (takes_in c) holds words (set parts w.number (looked_at b w standing))
-      by_clear true words parts here l good = good refl
-      by_clear false words parts here l good = unpassed words parts w l here
+      by_clear true words parts l here good = good refl
+      by_clear false words parts l here good = unpassed words parts w l here
 
   -- a look by which nothing comes to count
-  same_shown : (lists i : ℕ) (b : Bool) (w : SeatLists P) (standing : Standing) → w.standing ≡ standing
-      → shown lists i (only_looked w) ≡ after_look (shown lists i w) (standing_by b standing (shown lists i w))
-  same_shown lists i true w standing e = λ k. after_look (shown lists i w) (e k)
-  same_shown lists i false w standing e = refl
-
   glances : (lists i : ℕ) (standing : Standing) (slots id place : ℕ) (me : Me (Unit {0}) (ListView P)) (w : SeatLists P) → me.0 ≡ view (w ∷ [])
       → length w.cores ≡ lists → w.standing ≡ standing
       → Allows (IsRunningList c seats clients holds) slots id me place (λ n. n) (IsLookPlay begin c lists i standing false me)
-  glances lists i standing slots id place me w is full stands s running _ there small = let parts = running.0 in let owner = running.1 in let r = running.2 in
-      let at' : get_elem? s.views id ≡ some (view (w ∷ [])) = there ∙ ap some is in
-      let here = part_here c seats clients holds s parts owner r id w at' in let y : ℕ = get_or s.words place 0 in
-      let q : SeatLists P = only_looked w in let words_stay : s.words ≡ set s.words place y = sym (set-get_or s.words place 0) in
-      let part : part_in begin me.0.parts ≡ w = ap (λ (v : ListView P). part_in begin v.parts) is in (
-        view (q ∷ []),
-        keeps,
-        tt,
-        placed c seats clients holds s parts owner r place y id me.1 w q at' refl refl
-            (subst (λ (l : List ℕ). AreLists (list_count c) seats (takes_in c) holds l (set parts w.number q)) words_stay
-            (unpassed s.words parts w r.lists_are here)),
-        record {
-          many = sym full ∙ r.lists_are.apart.many w.number w here;
-          left = record { slots = refl; one = refl; full = ap (λ (x : SeatLists P). length x.cores) (sym part) };
-          shows = same_shown lists i (false || y == 0) w standing stands
-              ∙ ap (λ (x : SeatLists P). after_look (shown lists i x) (standing_by (false || y == 0) standing (shown lists i x))) (sym part);
-        },
-      )
+  glances lists i standing slots id place me w is full stands = looks_to lists i standing false slots id place me w (λ _. only_looked w) is full
+      (λ b. (refl, refl, refl)) (λ words parts l here many b clear. (unpassed words parts w l here, same_shown b))
+    where
+      same_shown : (b : Bool) → shown lists i (only_looked w) ≡ after_look (shown lists i w) (standing_by b standing (shown lists i w))
+      same_shown true = λ k. after_look (shown lists i w) (stands k)
+      same_shown false = refl
 
   -- what may be looked at shows what the seat holds
   module _ (cut : 0 < c.count) (lists i : ℕ) (w : SeatLists P) (p : SeatPart (Beside P)) (is : shown lists i w ≡ p) (full : length w.cores ≡ lists)
@@ -162,6 +157,9 @@ module _ {P : Type 0} (begin : P) (c : Regions) (seats clients : ℕ) (holds : G
 
     many : lists ≡ list_count c
     many = sym full ∙ l.apart.many w.number w here
+
+    more : 1 < p.pass.lists → 1 < list_count c
+    more a = let b = lists_are in let d = many in omega arith
 
     list_is : i ≡ p.pass.list
     list_is = ap (λ (x : SeatPart (Beside P)). x.pass.list) is
@@ -182,14 +180,14 @@ module _ {P : Type 0} (begin : P) (c : Regions) (seats clients : ℕ) (holds : G
 
     pub narrow_good : (too : Bool) (may : MayCount c p) → (too ≡ true → HoldsToo p 0) → (too ≡ true) ⊎ (slice_index words (0 * word_count seats) ≡ 0)
         → AreLists (list_count c) seats (takes_in c) holds words (set parts w.number (looked_at true w (Narrow p.pass.list)))
-    narrow_good too may held_too looks = let several : 1 < list_count c = (let a = may.several in let b = lists_are in let d = many in omega arith) in
+    narrow_good too may held_too looks = let several = more may.several in
         subst (λ k. AreLists (list_count c) seats (takes_in c) holds words (set parts w.number (looked_at true w (Narrow k)))) list_is
         (narrow_looks holds rested gains (list_count c) seats (takes_in c) words parts w.number w several (cut_by c cut) l here (look_trace w.trace) i may.range
         (stands ∙ may.standing) (subst (λ n. i < n) many less) (holds_there ∙ may.held) (λ j t. may.takes.alone j t ∙ sym list_is)
         (clear 0 too may.range may.held held_too looks))
 
     pub narrow_none : MayCount c p → grant_in (list_count c) w ≡ None
-    narrow_none may = let several : 1 < list_count c = (let a = may.several in let b = lists_are in let d = many in omega arith) in
+    narrow_none may = let several = more may.several in
         counts_many (list_count c) w.standing (held_in w) (λ e. omega arith)
         ∙ ap (λ (t : Standing). counted_of_many (list_count c) t (held_in w)) (stands ∙ may.standing)
 
@@ -200,7 +198,7 @@ module _ {P : Type 0} (begin : P) (c : Regions) (seats clients : ℕ) (holds : G
     pub wide_good : (at up : ℕ) (too : Bool) (may : MayPass c p at up) → (too ≡ true → HoldsToo p at)
         → (too ≡ true) ⊎ (slice_index words (at * word_count seats) ≡ 0)
         → AreLists (list_count c) seats (takes_in c) holds words (set parts w.number (looked_at true w (Wide up)))
-    wide_good at up too may held_too looks = let several : 1 < list_count c = (let a = may.several in let b = lists_are in let d = many in omega arith) in
+    wide_good at up too may held_too looks = let several = more may.several in
         let first : i ≡ 0 = list_is ∙ may.first in
         let passed : passed_by w.standing ≡ passed_by p.pass.standing = ap passed_by stands in
         wide_looks holds rested gains (list_count c) seats (takes_in c) words parts w.number w several (cut_by c cut) l here
@@ -210,7 +208,7 @@ module _ {P : Type 0} (begin : P) (c : Regions) (seats clients : ℕ) (holds : G
         (λ other from below differ. may.others other (subst (λ n. n ≤ other) passed from) below differ) (clear at too may.range may.held held_too looks)
 
     pub wide_none : (at up : ℕ) → MayPass c p at up → grant_in (list_count c) w ≡ None
-    wide_none at up may = let several : 1 < list_count c = (let a = may.several in let b = lists_are in let d = many in omega arith) in
+    wide_none at up may = let several = more may.several in
         let passed : passed_by w.standing ≡ passed_by p.pass.standing = ap passed_by stands in
         let low : passed_by w.standing < list_count c =
         (let a = may.from in let b = may.below in let d = may.most in let e = lists_are in let f = many in omega arith) in
@@ -226,69 +224,59 @@ module _ {P : Type 0} (begin : P) (c : Regions) (seats clients : ℕ) (holds : G
       → place ≡ at * word_count w.seats → Allows (IsRunningList c seats clients holds) slots id me place (λ n. n) (IsLookPlay begin c lists i standing too me)
   seat_looks cut lists i at _ _ slots id place me w p is shows full less (narrow too may first held_too) there =
       looks_by lists i at (Narrow p.pass.list) too slots id place me w is full there
-      (λ words parts l here looks. narrow_good cut lists i w p shows full less words parts l here too may
-      (λ t. subst (HoldsToo p) first (held_too t)) (subst (λ n. (too ≡ true) ⊎ (slice_index words (n * word_count seats) ≡ 0)) first looks))
-      (λ words parts l here. narrow_none cut lists i w p shows full less words parts l here may)
+      (λ words parts l here. (
+        λ looks. narrow_good cut lists i w p shows full less words parts l here too may
+            (λ t. subst (HoldsToo p) first (held_too t)) (subst (λ n. (too ≡ true) ⊎ (slice_index words (n * word_count seats) ≡ 0)) first looks),
+        narrow_none cut lists i w p shows full less words parts l here may,
+      ))
   seat_looks cut lists i at _ _ slots id place me w p is shows full less (wide up too may held_too) there =
       looks_by lists i at (Wide up) too slots id place me w is full there
-      (λ words parts l here looks. wide_good cut lists i w p shows full less words parts l here at up too may held_too looks)
-      (λ words parts l here. wide_none cut lists i w p shows full less words parts l here at up may)
+      (λ words parts l here. (
+        wide_good cut lists i w p shows full less words parts l here at up too may held_too,
+        wide_none cut lists i w p shows full less words parts l here at up may,
+      ))
   seat_looks cut lists i at _ _ slots id place me w p is shows full less glance there =
       glances lists i p.pass.standing slots id place me w is full (ap (λ (x : SeatPart (Beside P)). x.pass.standing) shows)
 
   -- the same with the names that the call has for the table and its token
-  pub token_looks : 0 < c.count → (key_cut play_cut : Regions) (key_seats : ℕ) → key_cut ≡ c → play_cut ≡ c → key_seats ≡ seats
-      → (number counted lists i first words play_lists play_list at : ℕ) (standing : Standing) (too : Bool) (slots id place : ℕ)
-      (me : Me (Unit {0}) (ListView P)) (p : SeatPart (Beside P))
-      → me.0.parts ≡ part_in begin me.0.parts ∷ [] → IsSeatOf (part_in begin me.0.parts) number counted lists i first words
-      → shown_of begin lists i me.0.parts ≡ p → play_lists ≡ p.pass.lists → play_list ≡ p.pass.list → IsLook c p at standing too
-      → place ≡ at * word_count counted
+  pub token_looks : 0 < c.count → {key_cut play_cut : Regions} {key_seats : ℕ} → key_cut ≡ c → play_cut ≡ c → key_seats ≡ seats
+      → (at : ℕ) (standing : Standing) (too : Bool) (slots id place : ℕ) (me : Me (Unit {0}) (ListView P)) {lists i words : ℕ} {p : SeatPart (Beside P)}
+      {play_lists play_list : ℕ} (token : IsToken begin me.0.parts lists i words p play_lists play_list) → IsLook c p at standing too
+      → place ≡ at * word_count token.many
       → Allows (IsRunningList key_cut key_seats clients holds) slots id me place (λ n. n) (IsLookPlay begin play_cut play_lists play_list standing too me)
-  token_looks cut key_cut play_cut key_seats same_cut same_play same number counted lists i first words play_lists play_list at standing too slots id place me
-      p one seat_of is lists_are list_is look there = let w : SeatLists P = part_in begin me.0.parts in
-      subst (λ (z : ((Regions × Regions) × ℕ) × (ℕ × ℕ)). Allows (IsRunningList z.0.0.0 z.0.1 clients holds) slots id me place (λ n. n)
-      (IsLookPlay begin z.0.0.1 z.1.0 z.1.1 standing too me))
-      (λ k. (
-        ((sym same_cut k, sym same_play k), sym same k),
-        ((ap (λ (x : SeatPart (Beside P)). x.pass.lists) is ∙ sym lists_are) k, (ap (λ (x : SeatPart (Beside P)). x.pass.list) is ∙ sym list_is) k),
-      )) (seat_looks cut lists i at standing too slots id place me w p (ap view one) is seat_of.full seat_of.within look
-      (there ∙ ap (λ n. at * word_count n) (sym seat_of.seats_are)))
+  token_looks cut same_cut same_play same at standing too slots id place me {lists} {i} {words} {p} {play_lists} {play_list} token look there =
+      subst (λ (z : (Regions × Regions) × ℕ). Allows (IsRunningList z.0.0 z.1 clients holds) slots id me place (λ n. n)
+      (IsLookPlay begin z.0.1 play_lists play_list standing too me)) (λ k. ((sym same_cut k, sym same_play k), sym same k))
+      (seat_looks cut play_lists play_list at standing too slots id place me (part_in begin me.0.parts) p (ap view token.one) (play_shows token)
+      (token.seat.full ∙ sym (same_lists token)) (list_there token) look (there ∙ ap (λ n. at * word_count n) (sym token.seat.seats_are)))
 
 -- the head of a list is one of the table's words
-pub head_there : {P : Type 0} (begin : P) (parts : List (SeatLists P)) (id other : TableId) (number many lists i first at place : ℕ) (p : SeatPart (Beside P))
-    → id ≡ other → IsSeatOf (part_in begin parts) number many lists i first id.words → shown_of begin lists i parts ≡ p → at < p.pass.lists
-    → place ≡ at * word_count many → place < other.words
-head_there begin parts id other number many lists i first at place p same seat_of is less there =
-    let lists_are : lists ≡ p.pass.lists = ap (λ (x : SeatPart (Beside _)). x.pass.lists) is in
+pub head_there : {P : Type 0} {begin : P} {parts : List (SeatLists P)} {id other : TableId} {lists i at place play_lists play_list : ℕ} {p : SeatPart (Beside P)}
+    → id ≡ other → (token : IsToken begin parts lists i id.words p play_lists play_list) → at < p.pass.lists → place ≡ at * word_count token.many
+    → place < other.words
+head_there {P} {begin} {parts} {id} {other} {lists} {i} {at} {place} {play_lists} {play_list} {p} same token less there =
+    let lists_are : lists ≡ p.pass.lists = ap (λ (x : SeatPart (Beside P)). x.pass.lists) token.shown_is in let many = token.many in
     let behind : at * word_count many + word_count many ≤ lists * word_count many = further at lists (word_count many) (omega arith) in
-    let all : lists * word_count many ≤ id.words = seat_of.words_there in
+    let all : lists * word_count many ≤ id.words = token.seat.words_there in
     let words : id.words ≡ other.words = ap (λ (t : TableId). t.words) same in omega arith
 
 module _ {P : Type 0} {begin : P} {play_cut : Regions} {play_lists play_list : ℕ} {standing : Standing} {too : Bool} {found : ℕ}
     {me me' : Me (Unit {0}) (ListView P)} (play : IsLookPlay begin play_cut play_lists play_list standing too me found me') where
   -- what a token shows after a look, with the names that the call has
-  pub part_looked : {lists i : ℕ} {p : SeatPart (Beside P)} → shown_of begin lists i me.0.parts ≡ p → play_lists ≡ p.pass.lists → play_list ≡ p.pass.list
+  pub part_looked : {lists i words : ℕ} {p : SeatPart (Beside P)} → IsToken begin me.0.parts lists i words p play_lists play_list
       → shown_of begin lists i me'.0.parts ≡ after_look p (standing_by (too || found == 0) standing p)
-  part_looked {lists} {i} {p} is lists_are list_is = let a : play_lists ≡ lists = lists_are ∙ ap (λ (x : SeatPart (Beside P)). x.pass.lists) (sym is) in
-      let b : play_list ≡ i = list_is ∙ ap (λ (x : SeatPart (Beside P)). x.pass.list) (sym is) in
-      subst (λ (z : ℕ × ℕ). shown_of begin z.0 z.1 me'.0.parts
-      ≡ after_look (shown_of begin z.0 z.1 me.0.parts) (standing_by (too || found == 0) standing (shown_of begin z.0 z.1 me.0.parts)))
-      (λ k. (a k, b k)) play.shows ∙ ap (λ (x : SeatPart (Beside P)). after_look x (standing_by (too || found == 0) standing x)) is
+  part_looked token = sym (play_shown token me'.0.parts)
+      ∙ (play.shows ∙ ap (λ (x : SeatPart (Beside P)). after_look x (standing_by (too || found == 0) standing x)) (play_shows token))
 
   -- the token is of the same seat still
-  pub seat_looked : {number many lists list first words words' : ℕ} → IsSeatOf (part_in begin me.0.parts) number many lists list first words → words' ≡ words
-      → IsSeatOf (part_in begin me'.0.parts) number many lists list first words'
-  seat_looked s same = same_seat play.left (ap (λ (x : SeatPart (Beside P)). x.number) play.shows) (ap (λ (x : SeatPart (Beside P)). x.seats) play.shows) s same
+  pub seat_looked : {number many lists list first words words' : ℕ} → me.1 ≡ [] → IsSeatOf (part_in begin me.0.parts) number many lists list first words
+      → words' ≡ words → IsKept begin me' number many lists list first words'
+  seat_looked = same_seat play.left (ap (λ (x : SeatPart (Beside P)). x.number) play.shows) (ap (λ (x : SeatPart (Beside P)). x.seats) play.shows)
 
 -- a look by which nothing comes to count leaves the standing, whatever it finds
 pub glance_part : {P : Type 0} (b : Bool) (p : SeatPart (Beside P)) → after_look p (standing_by b p.pass.standing p) ≡ after_look p p.pass.standing
 glance_part true p = refl
 glance_part false p = refl
-
--- there is at least one list, that to which the hand is turned
-pub some_lists : {P : Type 0} (p : SeatPart (Beside P)) (views : List View) → AreOthers p.seats p.number p.pass.lists p.pass.list p.pass.others views
-    → 0 < p.pass.lists
-some_lists p views a = let n = a.count in omega arith
 
 -- a hand may rely on its view after a look as before
 pub look_view : {P : Type 0} (p : SeatPart (Beside P)) (standing : Standing) → IsHandView p → IsHandView (after_look p standing)

@@ -20,7 +20,7 @@ use Rattle.epoch_pools.specs.declared.views.ListView.{ListView}
 use Rattle.lock_core.specs.Words.{word_count}
 use Rattle.epoch_pools.specs.declared.views.Standing.TheVariants.{Narrow, Wide}
 use Rattle.epoch_pools.specs.Beside.{held_in}
-use Rattle.epoch_pools.specs.Hands.{HandState, part_in, shown_of, IsSeatOf}
+use Rattle.epoch_pools.specs.Hands.{ListShape, HandState, part_in, shown_of, IsSeatOf}
 use Rattle.epoch_pools.specs.Running.{machine_at, cores_of, IsNarrow, IsWide, AreLocks}
 use Rattle.epoch_pools.specs.Running.{view, takes_in, AreLists, IsOneLeft, IsOwned, Stands, Ruled, IsRunningList}
 use Rattle.lock_core.proofs.ByPlace.{below as at_below}
@@ -29,13 +29,19 @@ only : {A : Type 0} (q x : A) (k : ℕ) → get_elem? (q ∷ []) k ≡ some x �
 only q x zero e = some-injective q x e
 only q x (suc k) e = absurd (some-ne-none x (sym e))
 
+-- what a token keeps: it has no slot and one part, that of its seat
+abbrev pub IsKept : {P : Type 0} → P → Me (Unit {0}) (ListView P) → ℕ → ℕ → ℕ → ℕ → ℕ → ℕ → Type 0
+IsKept begin me number many lists list first words =
+    (me.1 ≡ []) × (me.0.parts ≡ part_in begin me.0.parts ∷ []) × IsSeatOf (part_in begin me.0.parts) number many lists list first words
+
 -- a token of which a step leaves the number and how many seats and lists there are is of the same seat
 pub same_seat : {P : Type 0} {begin : P} {me me' : Me (Unit {0}) (ListView P)} → IsOneLeft begin me me'
     → (part_in begin me'.0.parts).number ≡ (part_in begin me.0.parts).number → (part_in begin me'.0.parts).seats ≡ (part_in begin me.0.parts).seats
-    → {number many lists list first words words' : ℕ} → IsSeatOf (part_in begin me.0.parts) number many lists list first words → words' ≡ words
-    → IsSeatOf (part_in begin me'.0.parts) number many lists list first words'
-same_seat left same_number same_seats {number} {many} {lists} s same = let words = subst (λ (n : ℕ). lists * word_count many ≤ n) (sym same) s.words_there in
-    assumption (same_number ∙ s.number_is, same_seats ∙ s.seats_are, left.full ∙ s.full, s)
+    → {number many lists list first words words' : ℕ} → me.1 ≡ [] → IsSeatOf (part_in begin me.0.parts) number many lists list first words → words' ≡ words
+    → IsKept begin me' number many lists list first words'
+same_seat left same_number same_seats {number} {many} {lists} none s same =
+    let words = subst (λ (n : ℕ). lists * word_count many ≤ n) (sym same) s.words_there in
+    (left.slots ∙ none, left.one, assumption (same_number ∙ s.number_is, same_seats ∙ s.seats_are, left.full ∙ s.full, s))
 
 -- what a call knows of its token: it has one part, that of its seat, which shows p in the list to which the token is turned, and the play names that list
 pub record IsToken {P : Type 0} (begin : P) (parts : List (SeatLists P)) (lists i words : ℕ) (p : SeatPart (Beside P)) (play_lists play_list : ℕ) : Type 0 where
@@ -70,7 +76,7 @@ module _ {P : Type 0} {begin : P} {parts : List (SeatLists P)} {lists i words : 
   many_seats = ap (λ (x : SeatPart (Beside P)). x.seats) (sym t.shown_is) ∙ t.seat.seats_are
 
 -- so a token's invariant, its view and what the play names tell it
-pub token_of : {P : Type 0} (begin : P) {slots : List (ℕ × Unit {0})} {parts : List (SeatLists P)} {number many lists i first play_lists play_list : ℕ} {table : TableId}
+abbrev pub token_of : {P : Type 0} (begin : P) {slots : List (ℕ × Unit {0})} {parts : List (SeatLists P)} {number many lists i first play_lists play_list : ℕ} {table : TableId}
     {token : HandState (Beside P)} → (slots ≡ []) × (parts ≡ part_in begin parts ∷ []) × IsSeatOf (part_in begin parts) number many lists i first table.words
     → record { table = table; part = shown_of begin lists i parts } ≡ token → (play_lists ≡ token.part.pass.lists) × (play_list ≡ token.part.pass.list)
     → IsToken begin parts lists i table.words token.part play_lists play_list
@@ -84,6 +90,12 @@ token_of {P} begin known is named = record {
   lists_are = named.0;
   list_is = named.1;
 }
+
+-- and it is of the list's table
+pub one_table : {P : Type 0} {id table : TableId} {part : SeatPart (Beside P)} {token : HandState (Beside P)} {seats client : ℕ} {cut : Regions} {list : ListShape}
+    → record { table = id; part = part } ≡ token → record { table = table; seats = seats; client = client; cut = cut } ≡ list → token.table ≡ list.table
+    → id ≡ table
+one_table {P} token_is list_is same = ap (λ (h : HandState (Beside P)). h.table) token_is ∙ (same ∙ sym (ap (λ (l : ListShape). l.table) list_is))
 
 -- what an operation that makes f of a word owes the table that it is made on, to say so much to its seat
 abbrev pub Goes : {P : Type 0} → TableId → TableId → (State (Unit {0}) (ListView P) → Type 0) → ℕ → ℕ → Me (Unit {0}) (ListView P) → ℕ → (ℕ → ℕ)

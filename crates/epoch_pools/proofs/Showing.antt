@@ -85,26 +85,25 @@ module _ {P : Type 0} (rested : P → P) (lists i : ℕ) (w : SeatLists P) (step
       → counted_of lists w.standing (held_in q) ≡ grant_in lists w
   both several e = counts_many lists w.standing (held_in q) several ∙ (e ∙ sym (counts_many lists w.standing (held_in w) several))
 
-  -- what is given back in a list where nothing counts leaves what stands beside it
-  back_else : lists ≢ 1 → is_here w.standing i ≡ false → given_back rested p.pass ≡ p.pass
-  back_else several e = let counted : is_counted lists w.standing i ≡ false =
-      ap (λ (t : Bool × Bool). t.0 || t.1 && is_whole w.standing lists) (λ k. (ne_eqb lists 1 several k, e k)) in
-      λ k. beside_of (ap (λ (b : Bool). if b then Free else w.standing) e k) (ap (λ (b : Bool). if b then rested w.pass else w.pass) counted k)
-
-  back_here : lists ≢ 1 → is_here w.standing i ≡ true → given_back rested p.pass ≡ beside_of Free (if is_whole w.standing lists then rested w.pass else w.pass)
-  back_here several e = let counted : is_counted lists w.standing i ≡ is_whole w.standing lists =
+  -- what is given back where something counts in this list, and where nothing does
+  back_is : lists ≢ 1 → (b : Bool) → is_here w.standing i ≡ b
+      → given_back rested p.pass ≡ beside_of (if b then Free else w.standing) (if b && is_whole w.standing lists then rested w.pass else w.pass)
+  back_is several b e = let counted : is_counted lists w.standing i ≡ (b && is_whole w.standing lists) =
       ap (λ (t : Bool × Bool). t.0 || t.1 && is_whole w.standing lists) (λ k. (ne_eqb lists 1 several k, e k)) in
       λ k. beside_of (ap (λ (b : Bool). if b then Free else w.standing) e k) (ap (λ (b : Bool). if b then rested w.pass else w.pass) counted k)
 
   abbrev was_free : Bool → Option Held → Standing
   was_free b o = if b && is_none o then Free else w.standing
 
+  -- where nothing counts in this list, standing and pass stay
+  stays_else : lists ≢ 1 → is_here w.standing i ≡ false → after ≡ p.pass
+  stays_else several e = stays (ap (λ (b : Bool). was_free b (held_at now.own)) e) (both several (same_else w.standing e))
+
   by_here : lists ≢ 1 → (b : Bool) → is_here w.standing i ≡ b → (before behind : Option Held) → held_in w i ≡ before → held_at now.own ≡ behind
       → after ≡ pass_kept (given_back rested) before behind p.pass
-  by_here several false e None behind x y = stays (ap (λ (b : Bool). was_free b (held_at now.own)) e) (both several (same_else w.standing e))
-  by_here several false e (Some h) (Some g) x y = stays (ap (λ (b : Bool). was_free b (held_at now.own)) e) (both several (same_else w.standing e))
-  by_here several false e (Some h) None x y =
-      stays (ap (λ (b : Bool). was_free b (held_at now.own)) e) (both several (same_else w.standing e)) ∙ sym (back_else several e)
+  by_here several false e None behind x y = stays_else several e
+  by_here several false e (Some h) (Some g) x y = stays_else several e
+  by_here several false e (Some h) None x y = stays_else several e ∙ sym (back_is several false e)
   by_here several true e None behind x y = absurd (on_held e x)
   by_here several true e (Some h) (Some g) x y = let one : held_at now.own ≡ Some h = ⊎_elim (λ (a : held_at now.own ≡ Some h). a)
       (λ (a : held_at now.own ≡ None). absurd (let z : ◌≡◌ {A = Option Held} (Some g) None = sym y ∙ a in cc)) (on h x) in
@@ -119,7 +118,7 @@ module _ {P : Type 0} (rested : P → P) (lists i : ℕ) (w : SeatLists P) (step
       ≡ (if is_whole w.standing lists then rested w.pass else w.pass) = ap (λ (o : Option Held). pass_kept rested (grant_in lists w) o w.pass)
       (ap (λ (t : Standing). counted_of lists t (held_in q)) lost ∙ counts_many lists Free (held_in q) several)
       ∙ (ap (λ (o : Option Held). pass_kept rested o None w.pass) grant ∙ by_whole (is_whole w.standing lists)) in
-      (λ k. beside_of (lost k) (pass k)) ∙ sym (back_here several e)
+      (λ k. beside_of (lost k) (pass k)) ∙ sym (back_is several true e)
     where
       by_whole : (b : Bool) → pass_kept rested (if b then Some h else None) None w.pass ≡ (if b then rested w.pass else w.pass)
       by_whole true = refl

@@ -107,11 +107,14 @@ or_last : (a b : Bool) → b ≡ true → (a || b) ≡ true
 or_last true b e = refl
 or_last false b e = e
 
+-- what a cursor in that list has looked at is known, as the record keeps it
+abbrev pub HasLooked : Option Looked → ℕ → Option Cursor → Type 0
+HasLooked looked list cursor = (c : Cursor) → cursor ≡ Some c → (l : Looked) × (looked ≡ Some l) × (l.nodes ≡ c.seen) × (c.cur ≡ 0 → l.ended ≡ true)
+    × (l.list ≡ list)
+
 -- what a cursor has looked at is in the record after a step, if it was before
-looked_kept : (t : Record) (before now : Option Cursor) (judging gained : Bool)
-    → ((c : Cursor) → before ≡ Some c → (l : Looked) × (t.looked ≡ Some l) × (l.nodes ≡ c.seen) × (c.cur ≡ 0 → l.ended ≡ true) × (l.list ≡ t.list))
-    → (c : Cursor) → now ≡ Some c → (l : Looked) × (looked_with t before now judging gained ≡ Some l) × (l.nodes ≡ c.seen) × (c.cur ≡ 0 → l.ended ≡ true)
-    × (l.list ≡ t.list)
+looked_kept : (t : Record) (before now : Option Cursor) (judging gained : Bool) → HasLooked t.looked t.list before
+    → HasLooked (looked_with t before now judging gained) t.list now
 looked_kept t before None judging gained old c e = absurd (cc)
 looked_kept t None (Some d) judging gained old c e = let same : d ≡ c = cc in (
   record { nodes = d.seen; judged = 0; ended = d.cur == 0; held = gained; list = t.list; step = t.taken },

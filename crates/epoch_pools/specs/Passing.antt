@@ -7,6 +7,8 @@ use Rattle.atomic_table.specs.Table.{Me}
 use Rattle.list_cuts.specs.Cut.{Regions, list_count, Takes, TakesOne}
 use Rattle.lock_core.specs.declared.range.Held.{Held}
 use Rattle.lock_core.specs.Machine.{held_at}
+use Rattle.epoch_pools.specs.declared.passing.LookKind.{LookKind}
+use Rattle.epoch_pools.specs.declared.passing.LookKind.TheVariants.{Plain, Count, Pass}
 use Rattle.epoch_pools.specs.declared.record.Record.{Record}
 use Rattle.epoch_pools.specs.declared.views.SeatPart.{SeatPart}
 use Rattle.epoch_pools.specs.declared.views.Beside.{Beside}
@@ -22,7 +24,19 @@ use Rattle.epoch_pools.specs.Running.{IsOneLeft}
 abbrev pub look_trace : Record → Record
 look_trace t = record t { taken = t.taken + 1; away = [] }
 
+-- whether a look of that kind is one of a seat that holds its range there too
+abbrev pub held_too : LookKind → Bool
+held_too Plain = false
+held_too (Count held) = held
+held_too (Pass up held) = held
+
 module _ {P : Type 0} where
+  -- the standing that a look of that kind leaves where it finds the list clear
+  abbrev pub standing_of : LookKind → SeatPart (Beside P) → Standing
+  standing_of Plain p = p.pass.standing
+  standing_of (Count held) p = Narrow p.pass.list
+  standing_of (Pass up held) p = Wide up
+
   -- the hand's list holds a narrow range, which doesn't count yet
   pub record MayCount (c : Regions) (p : SeatPart (Beside P)) : Type 0 where
     pub several : 1 < p.pass.lists

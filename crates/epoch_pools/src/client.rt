@@ -73,6 +73,22 @@ impl<G: Guard> List<G> {
             }
         }
     }
+
+    /// The same, where the step is the operation's on that word of the list to which the token is turned.
+    #[inline(always)]
+    fn act_on_client<M: Means<G>>(&self, token: &mut Token<G>, i: u32, act: ClientAct) -> u64
+        requires table { token.old.table ≡ self.now.table }
+        requires place { i < self.now.client }
+        requires allowed { IsAllowed G.holds G.allows M.note token.old.part.number (shown_grant token.old.part) (inner_pass token.old.part) (client_step act i) }
+        ensures table { token.new.table ≡ token.old.table }
+        ensures part { token.new.part ≡ client_part token.old.part i (inner_pass token.new.part) }
+        ensures made { IsAnswering act → IsMade G.holds G.allows M.note token.old.part.number (shown_grant token.old.part)
+            (inner_pass token.old.part) (client_step act i) result (inner_pass token.new.part) }
+        ensures stored { (found : ℕ) × IsMade G.holds G.allows M.note token.old.part.number (shown_grant token.old.part)
+            (inner_pass token.old.part) (client_step act i) found (inner_pass token.new.part) }
+    {
+        self.act_at_client::<M, Brand>(token, i, act)
+    }
 }
 
 /// Loads client word `i`, counted from 0, and returns its value.
@@ -85,7 +101,7 @@ pub fn client_load<G: Guard, M: Means<G>>(list: &List<G>, hand: &mut Hand<G>, i:
     ensures made { IsMade G.holds G.allows M.note hand.old.part.number (shown_grant hand.old.part) (inner_pass hand.old.part) (loads i) result
         (inner_pass hand.new.part) }
 {
-    list.act_at_client::<M, Brand>(&mut hand.token, i, ClientAct::Load)
+    list.act_on_client::<M>(&mut hand.token, i, ClientAct::Load)
 }
 
 /// Stores a value in client word `i`, counted from 0.
@@ -98,7 +114,7 @@ pub fn client_store<G: Guard, M: Means<G>>(list: &List<G>, hand: &mut Hand<G>, i
     ensures made { (found : ℕ) × IsMade G.holds G.allows M.note hand.old.part.number (shown_grant hand.old.part)
         (inner_pass hand.old.part) (stores i value) found (inner_pass hand.new.part) }
 {
-    list.act_at_client::<M, Brand>(&mut hand.token, i, ClientAct::Store { value });
+    list.act_on_client::<M>(&mut hand.token, i, ClientAct::Store { value });
 }
 
 /// Adds `by` to client word `i`, counted from 0, modulo 2^64, and returns the value before.
@@ -111,7 +127,7 @@ pub fn client_add<G: Guard, M: Means<G>>(list: &List<G>, hand: &mut Hand<G>, i: 
     ensures made { IsMade G.holds G.allows M.note hand.old.part.number (shown_grant hand.old.part) (inner_pass hand.old.part)
         (adds i by) result (inner_pass hand.new.part) }
 {
-    list.act_at_client::<M, Brand>(&mut hand.token, i, ClientAct::Add { by })
+    list.act_on_client::<M>(&mut hand.token, i, ClientAct::Add { by })
 }
 
 /// Puts `new` in place of `expected` in client word `i`, counted from 0. Where the word has another value, it returns
@@ -134,11 +150,7 @@ pub fn client_exchange<G: Guard, M: Means<G>>(
         (λ found. (found ≢ expected) × IsMade G.holds G.allows M.note hand.old.part.number (shown_grant hand.old.part)
         (inner_pass hand.old.part) (exchanges i expected new) found (inner_pass hand.new.part)) }
 {
-    let found = list.act_at_client::<M, Brand>(
-        &mut hand.token,
-        i,
-        ClientAct::Exchange { expected, new },
-    );
+    let found = list.act_on_client::<M>(&mut hand.token, i, ClientAct::Exchange { expected, new });
     if found == expected {
         Ok(())
     } else {

@@ -14,10 +14,8 @@ ghost use Rattle.epoch_pools.specs.Taking.{IsFree, IsLooking, IsHomeLook, IsHome
 ghost use Rattle.epoch_pools.specs.Looking.{IsAwaited, begun, come_back, homes_read, IsBeside};
 
 use crate::list::List;
-use crate::plays::Doing;
 use crate::token::Token;
 use lock_core::{Act, Guard, Layout, NODES, Step, View};
-use std::marker::Brand;
 use std::sync::ledger::Ledger;
 use view_lists::Nodes;
 use word_rows::Steps;
@@ -75,12 +73,9 @@ pub(crate) fn begin_anew(view: &mut View, seats: u32)
 }
 
 impl<G: Guard> List<G> {
-    /// A load that is this step. The step is there for its clauses alone.
+    /// A load that is this step.
     #[inline(always)]
-    fn get<D: Doing>(&self, token: &mut Token<G>, step: Step, word: u32) -> u64
-        requires doing { D.doing ≡ step }
-        requires seats { D.seats ≡ self.now.seats }
-        requires lists { (D.lists ≡ token.old.part.pass.lists) × (D.list ≡ token.old.part.pass.list) }
+    fn get(&self, token: &mut Token<G>, step: Step, word: u32) -> u64
         requires table { token.old.table ≡ self.now.table }
         requires enabled { Enables token.old.part step }
         requires rest { MayRest (may_give_back G.is_at_rest) token.old.part step }
@@ -90,8 +85,7 @@ impl<G: Guard> List<G> {
         ensures part { token.new.part ≡ part_after (given_back G.rested) token.old.part step result }
         ensures told { Told self.now.seats token.old.part step result }
     {
-        let _ = step;
-        self.act_at::<D>(token, word, Act::Load)
+        self.make_step(token, step, word, Act::Load)
     }
 
     /// ReadHome with a token. It returns what the home word of the node was.
@@ -110,7 +104,7 @@ impl<G: Guard> List<G> {
         ensures room { length token.old.part.core.ready + length token.old.part.core.homes < 16 }
     {
         let place = Layout::of(token.seat_count(), 0).home(node);
-        self.get::<Brand>(token, Step::ReadHome { node }, place)
+        self.get(token, Step::ReadHome { node }, place)
     }
 
     /// Reads the home word of a node, where it is used and isn't among the homes, and puts it to them where it came
@@ -204,6 +198,6 @@ impl<G: Guard> List<G> {
         ensures looked { IsEpochLook token.old.part token.new.part other }
     {
         let place = Layout::of(token.seats, 0).epoch(other);
-        self.get::<Brand>(token, Step::ReadEpoch { seat: other }, place)
+        self.get(token, Step::ReadEpoch { seat: other }, place)
     }
 }

@@ -5,7 +5,7 @@
 ghost use Rattle.std.specs.Prelude.{◌≡◌, ◌+◌, ◌<◌, ◌||◌, ◌==◌, true, false};
 ghost use Rattle.list_cuts.specs.Cut.{list_count};
 ghost use Rattle.epoch_pools.specs.declared.views.Standing.TheVariants.{Narrow, Wide};
-ghost use Rattle.epoch_pools.specs.Passing.{MayCount, MayPass, HoldsToo, IsLook, after_look, standing_by};
+ghost use Rattle.epoch_pools.specs.Passing.{MayCount, MayPass, HoldsToo, IsLook, after_look, standing_by, standing_of, held_too};
 
 use crate::hand::Hand;
 use crate::list::{List, lock_word_count};
@@ -16,11 +16,20 @@ use std::marker::Brand;
 use std::sync::ledger::Ledger;
 use word_rows::Steps;
 
+/// Which look is made: one by which nothing comes to count; that of a narrow range, which counts then; or that of a wide
+/// one, which has passed all lists below `up` then. `held` says that the seat holds the range in that list too.
+#[derive(Clone, Copy)]
+pub enum LookKind {
+    Plain,
+    Count { held: bool },
+    Pass { up: u32, held: bool },
+}
+
 impl<G: Guard> List<G> {
-    /// Loads the head of a list, as the look that is picked. It returns what the head was. The list below which all are
-    /// passed then is there for that pick alone.
+    /// Loads the head of a list, as the look that is picked. It returns what the head was. The kind is there for the pick
+    /// alone.
     #[inline(always)]
-    fn look_at<D: Look>(&self, token: &mut Token<G>, list: u32, up: u32) -> u64
+    fn look_at<D: Look>(&self, token: &mut Token<G>, list: u32, kind: LookKind) -> u64
         requires table { token.old.table ≡ self.now.table }
         requires cut { D.cut ≡ self.now.cut }
         requires lists { (D.lists ≡ token.old.part.pass.lists) × (D.list ≡ token.old.part.pass.list) }
@@ -30,10 +39,32 @@ impl<G: Guard> List<G> {
         ensures part { token.new.part ≡ after_look token.old.part (standing_by (D.too || result == 0) D.standing token.old.part) }
         ensures lists { token.old.part.pass.lists ≡ list_count self.now.cut }
     {
-        let _ = up;
+        let _ = kind;
         let head = (list * lock_word_count(token.seats)) as usize;
         self.table.shared.load::<Looks<G, D>>(&mut token.seat, head)
     }
+}
+
+/// Looks at a list with a hand. It returns what the head was. One step.
+#[inline(always)]
+fn look_from<G: Guard, L: Ledger>(
+    list: &List<G>,
+    hand: &mut Hand<G>,
+    at: u32,
+    kind: LookKind,
+    steps: &mut Steps<L>,
+) -> u64
+    requires table { hand.old.table ≡ list.now.table }
+    requires there { at < hand.old.part.pass.lists }
+    requires may { IsLook list.now.cut hand.old.part at (standing_of kind hand.old.part) (held_too kind) }
+    ensures table { hand.new.table ≡ hand.old.table }
+    ensures part { hand.new.part ≡ after_look hand.old.part (standing_by (held_too kind || result == 0) (standing_of kind hand.old.part) hand.old.part) }
+    ensures lists { hand.old.part.pass.lists ≡ list_count list.now.cut }
+    ensures counted { steps.new ≡ steps.old + 1 }
+{
+    let found = list.look_at::<Brand>(&mut hand.token, at, kind);
+    steps.tick();
+    found
 }
 
 /// Looks at list 0, and nothing comes to count by it, whatever it finds. It shows that the hand has as many lists as
@@ -45,8 +76,8 @@ pub fn glance<G: Guard, L: Ledger>(list: &List<G>, hand: &mut Hand<G>, steps: &m
     ensures lists { hand.old.part.pass.lists ≡ list_count list.now.cut }
     ensures counted { steps.new ≡ steps.old + 1 }
 {
-    list.look_at::<Brand>(&mut hand.token, 0, 0);
-    steps.tick();
+    let _lists = hand.lists();
+    look_from(list, hand, 0, LookKind::Plain, steps);
 }
 
 /// Looks at list 0 for the narrow range that the hand's list holds. Whether list 0 was empty: then the range counts
@@ -63,8 +94,7 @@ pub fn count_narrow<G: Guard, L: Ledger>(
     ensures part { hand.new.part ≡ after_look hand.old.part (standing_by result (Narrow hand.old.part.pass.list) hand.old.part) }
     ensures counted { steps.new ≡ steps.old + 1 }
 {
-    let found = list.look_at::<Brand>(&mut hand.token, 0, 0);
-    steps.tick();
+    let found = look_from(list, hand, 0, LookKind::Count { held: false }, steps);
     found == 0
 }
 
@@ -77,8 +107,7 @@ pub fn count_held<G: Guard, L: Ledger>(list: &List<G>, hand: &mut Hand<G>, steps
     ensures part { hand.new.part ≡ after_look hand.old.part (Narrow hand.old.part.pass.list) }
     ensures counted { steps.new ≡ steps.old + 1 }
 {
-    list.look_at::<Brand>(&mut hand.token, 0, 0);
-    steps.tick();
+    look_from(list, hand, 0, LookKind::Count { held: true }, steps);
 }
 
 /// Looks at a list for the wide range that list 0 holds, to which the hand is turned; below `up` no other list is still
@@ -98,8 +127,7 @@ pub fn pass_list<G: Guard, L: Ledger>(
     ensures part { hand.new.part ≡ after_look hand.old.part (standing_by result (Wide up) hand.old.part) }
     ensures counted { steps.new ≡ steps.old + 1 }
 {
-    let found = list.look_at::<Brand>(&mut hand.token, at, up);
-    steps.tick();
+    let found = look_from(list, hand, at, LookKind::Pass { up, held: false }, steps);
     found == 0
 }
 
@@ -118,6 +146,5 @@ pub fn pass_held<G: Guard, L: Ledger>(
     ensures part { hand.new.part ≡ after_look hand.old.part (Wide up) }
     ensures counted { steps.new ≡ steps.old + 1 }
 {
-    list.look_at::<Brand>(&mut hand.token, at, up);
-    steps.tick();
+    look_from(list, hand, at, LookKind::Pass { up, held: true }, steps);
 }

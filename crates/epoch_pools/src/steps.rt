@@ -10,35 +10,11 @@ ghost use Rattle.epoch_pools.specs.Hands.{IsListStep};
 
 use crate::hand::Hand;
 use crate::list::List;
-use crate::plays::Doing;
 use lock_core::{Guard, Op, Step, follow, op_of};
-use std::marker::Brand;
 use std::sync::ledger::Ledger;
 use word_rows::Steps;
 
 impl<G: Guard> Hand<G> {
-    #[inline(always)]
-    fn make_at<D: Doing>(&mut self, list: &List<G>, step: Step, op: Op) -> u64
-        requires doing { D.doing ≡ step }
-        requires seats { D.seats ≡ list.now.seats }
-        requires lists { (D.lists ≡ self.old.part.pass.lists) × (D.list ≡ self.old.part.pass.list) }
-        requires table { self.old.table ≡ list.now.table }
-        requires enabled { Enables self.old.part step }
-        requires rest { MayRest (may_give_back G.is_at_rest) self.old.part step }
-        requires op { IsOp step (line_for self.old.part step) op }
-        requires place { op.place < word_count self.old.part.seats }
-        ensures table { self.new.table ≡ self.old.table }
-        ensures made { self.new.part ≡ part_after (given_back G.rested) self.old.part step result }
-        ensures told { Told D.seats self.old.part step result }
-        ensures store { IsStoring step → result ≡ 0 }
-    {
-        let seats = self.seats();
-        let number = self.number();
-        let found = list.perform::<D>(&mut self.token, op);
-        follow(seats, number, &mut self.view, step, found);
-        found
-    }
-
     /// Makes one step of the lock with its operation, which is that of the hand's view.
     #[inline(always)]
     fn make_with<L: Ledger>(
@@ -59,7 +35,10 @@ impl<G: Guard> Hand<G> {
         ensures store { IsStoring step → result ≡ 0 }
         ensures counted { steps.new ≡ steps.old + 1 }
     {
-        let found = self.make_at::<Brand>(list, step, op);
+        let seats = self.seats();
+        let number = self.number();
+        let found = list.perform(&mut self.token, step, op);
+        follow(seats, number, &mut self.view, step, found);
         steps.tick();
         found
     }

@@ -11,11 +11,14 @@ use Rattle.lock_core.specs.declared.views.View.{View}
 use Rattle.epoch_pools.specs.declared.views.SeatPart.{SeatPart}
 use Rattle.epoch_pools.specs.Hands.{IsHandView, AreOthers, views_in, part_in, fresh, shown_of, new_hand}
 use Rattle.epoch_pools.specs.Beside.{shown}
+use Rattle.epoch_pools.specs.Running.{view}
 use Rattle.list_cuts.specs.Cut.{list_count}
 use Rattle.epoch_pools.proofs.Opening.{opens, next_seat, wait_on, lock_there, made_first, made_on, first_core, first_seat}
 use Rattle.epoch_pools.proofs.Opening.{first_hand, first_others_are, first_waiting, more_made, new_table, words_long}
 use Rattle.epoch_pools.proofs.Boxes.{view_first_of, view_removed}
+use Rattle.epoch_pools.proofs.list.open_cut.Given.{Over}
 use Rattle.epoch_pools.proofs.list.open_cut.Goals as goal
+use Rattle.epoch_pools.proofs.list.open_cut.Goals.{After-remove-seat}
 
 -- the words and the first views meet the table's rule
 pub open_words-requires-clause-rule : goal.open_words-requires-clause-rule
@@ -46,11 +49,16 @@ remove-view-requires g c = let more : 0 < length c.all.opened.items = search rul
     more_made (start_view c.args.seats) c.args.seats c.all.number (length c.all.opened.items) (vec_len c.all.views) (views_in c.all.views.items) more
     c.all.invariant.sum c.all.invariant.views long
 
+-- the seat that is taken out is that of the next number
+next : (g : Over) (c : After-remove-seat g) → (c.remove-seat.result.table_id ≡ c.in_ok-table.table.shared.table_id) × (c.remove-seat.result.me
+    ≡ (view (fresh (g.G.Guard.first c.args.client.now c.all.number) c.lists-lists.result c.args.seats c.all.number ∷ []), []))
+next g c = let more : 0 < length c.all.opened.items = search rules in
+    next_seat g.G.Guard.first _ c.lists-lists.result c.args.seats c.args.client.now c.all.number c.all.opened.items c.remove-seat.result
+    c.all.invariant.rest more c.remove-seat.ensures.value
+
 -- the token that is made has the part of its number
 pub invariant_of-push_reserved : goal.invariant_of-push_reserved
-invariant_of-push_reserved g c = let more : 0 < length c.all.opened.items = search rules in
-    let t = next_seat g.G.Guard.first _ c.lists-lists.result c.args.seats c.args.client.now c.all.number c.all.opened.items c.remove-seat.result
-    c.all.invariant.rest more c.remove-seat.ensures.value in let parts = ap (λ m. m.0.parts) t.1 in
+invariant_of-push_reserved g c = let t = next g (goal.at.invariant_of-push_reserved g c).After-remove-seat in let parts = ap (λ m. m.0.parts) t.1 in
     let own = ap (part_in (g.G.Guard.first [] 0)) parts in
     let less : c.all.number < c.args.seats = let s = c.all.invariant.sum in omega arith in (
       ap (λ m. m.1) t.1,
@@ -62,9 +70,7 @@ invariant_of-push_reserved g c = let more : 0 < length c.all.opened.items = sear
 
 -- the hand that is made has the first views of its number, and may rely on them
 pub invariant_of-push_reserved-in-all : goal.invariant_of-push_reserved-in-all
-invariant_of-push_reserved-in-all g c = let more : 0 < length c.all.opened.items = search rules in
-    let t = next_seat g.G.Guard.first _ c.lists-lists.result c.args.seats c.args.client.now c.all.number c.all.opened.items c.remove-seat.result
-    c.all.invariant.rest more c.remove-seat.ensures.value in
+invariant_of-push_reserved-in-all g c = let t = next g (goal.at.invariant_of-push_reserved-in-all g c).After-remove-seat in
     let own = ap (λ m. shown_of (g.G.Guard.first [] 0) c.lists-lists.result 0 m.0.parts) t.1 in
     let less : c.all.number < c.args.seats = let s = c.all.invariant.sum in omega arith in
     let some_list = c.lists-lists.ensures.some in
@@ -85,8 +91,7 @@ invariant_of-push_reserved-in-all g c = let more : 0 < length c.all.opened.items
 -- with one hand more the hands so far are new ones
 pub all-preserved : goal.all-preserved
 all-preserved g c = let i = c.all.invariant in let more : 0 < length c.all.opened.items = search rules in
-    let t = next_seat g.G.Guard.first _ c.lists-lists.result c.args.seats c.args.client.now c.all.number c.all.opened.items c.remove-seat.result i.rest
-    more c.remove-seat.ensures.value in
+    let t = next g (goal.at.all-preserved g c).After-remove-seat in
     let own = ap (λ m. shown_of (g.G.Guard.first [] 0) c.lists-lists.result 0 m.0.parts) t.1
     ∙ ap (λ n. shown n 0 (fresh (g.G.Guard.first c.args.client.now c.all.number) n c.args.seats c.all.number)) c.lists-lists.ensures.lists in
     let less : c.all.number < c.args.seats = let s = i.sum in omega arith in

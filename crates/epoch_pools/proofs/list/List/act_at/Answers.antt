@@ -1,7 +1,7 @@
 use Rattle.std.proofs.Common.{◌+◌, ◌%◌, ◌^◌, [], ◌∙◌, ap, sym, refl, eqb}
 use prog.Atomic.{either}
 use Rattle.epoch_pools.proofs.LockSteps.{IsLockCall, lock_goes, lock_puts, made_played, either_if}
-use Rattle.epoch_pools.proofs.Placing.{token_of}
+use Rattle.epoch_pools.proofs.Placing.{token_of, one_table}
 use Rattle.epoch_pools.proofs.list.List.act_at.Given.{Over}
 use Rattle.epoch_pools.proofs.list.List.act_at.Goals as goal
 use Rattle.epoch_pools.proofs.list.List.act_at.Goals.{After-place_of-place}
@@ -15,7 +15,7 @@ call g c = record {
   gains = g.G.Guard.gains;
   loses = g.G.Guard.loses;
   token = token_of _ c.token.invariant c.token.view_is c.requires.lists;
-  same = ap (λ s. s.table) c.token.view_is ∙ (c.requires.table ∙ sym (ap (λ s. s.table) c.self.view_is));
+  same = one_table c.token.view_is c.self.view_is c.requires.table;
   same_seats = c.self.invariant.same_seats ∙ (ap (λ s. s.seats) c.self.view_is ∙ sym c.requires.seats);
   may = c.requires.enabled;
   rests = c.requires.rest;

@@ -6,7 +6,7 @@ use Rattle.lock_core.specs.Client.{place_of}
 use Rattle.lock_core.specs.Words.{word_count}
 use Rattle.epoch_pools.specs.Hands.{cut_of}
 use Rattle.epoch_pools.proofs.ClientSteps.{IsClientCall, client_goes, client_stores, client_place, client_made, acts_on}
-use Rattle.epoch_pools.proofs.Placing.{token_of}
+use Rattle.epoch_pools.proofs.Placing.{token_of, one_table}
 use Rattle.epoch_pools.proofs.list.List.act_at_client.Given.{Over}
 use Rattle.epoch_pools.proofs.list.List.act_at_client.Goals as goal
 use Rattle.epoch_pools.proofs.list.List.act_at_client.Goals.{After-client_word-word}
@@ -19,7 +19,7 @@ call : (g : Over) (c : After-client_word-word g) → let key = c.self.inside.tab
 call g c = record {
   law = g.G.Guard.keeps;
   token = token_of _ c.token.invariant c.token.view_is c.requires.lists;
-  same = ap (λ s. s.table) c.token.view_is ∙ (c.requires.table ∙ sym (ap (λ s. s.table) c.self.view_is));
+  same = one_table c.token.view_is c.self.view_is c.requires.table;
   acting = c.requires.acting;
   there = client_place c.self.invariant c.self.view_is (ap place_of c.requires.acting ∙ acts_on c.args.act c.args.i) c.requires.place c.client_word-word.ensures;
   allowed = c.requires.allowed;

@@ -2,7 +2,8 @@ use Rattle.std.proofs.Common.{◌*◌, ◌<◌, [], ◌∙◌, ap, sym, subst, a
 use Rattle.std.proofs.lemmas.Nat.{mul-le}
 use Rattle.list_cuts.specs.Cut.{list_count}
 use Rattle.epoch_pools.specs.Hands.{ListShape, HandState}
-use Rattle.epoch_pools.proofs.LookSteps.{token_looks, head_there, part_looked, seat_looked}
+use Rattle.epoch_pools.proofs.Placing.{token_of, one_table}
+use Rattle.epoch_pools.proofs.LookSteps.{token_looks, head_there, part_looked}
 use Rattle.epoch_pools.proofs.list.List.look_at.Goals as goal
 
 -- there are few lists, and each has few words
@@ -14,31 +15,19 @@ overflow_mul-head g c =
 
 -- a look that the seat may make keeps the rule, and tells what it should
 pub load-requires : goal.load-requires
-load-requires g c = let shape = c.self.view_is in let part = ap (λ s. s.part) c.token.view_is in
-    let same = ap (λ s. s.table) c.token.view_is ∙ (c.requires.table ∙ sym (ap (λ s. s.table) shape)) in (
+load-requires g c = let shape = c.self.view_is in let token = token_of (g.G.Guard.first [] 0) c.token.invariant c.token.view_is c.requires.lists in
+    let same = one_table c.token.view_is shape c.requires.table in let there = ap (λ n. c.args.list * n) c.lock_word_count.ensures in (
       same,
-      head_there (g.G.Guard.first [] 0) c.token.inside.seat.me.0.parts _ _ c.token.inside.number c.token.inside.seats c.token.inside.lists
-          c.token.inside.list c.token.inside.first c.args.list _ c.args.token.now.part same c.token.invariant.2 part c.requires.there
-          (ap (λ n. c.args.list * n) c.lock_word_count.ensures),
+      head_there same token c.requires.there there,
       token_looks (g.G.Guard.first [] 0) c.args.self.now.cut _ _ g.G.Guard.holds g.G.Guard.rested g.G.Guard.gains
-          (subst (λ (s : ListShape). 0 < s.cut.count) shape c.self.invariant.is_cut.0) _ g.D.Look.cut _ (c.self.invariant.same_cut ∙ ap (λ s. s.cut) shape)
-          c.requires.cut (c.self.invariant.same_seats ∙ ap (λ s. s.seats) shape)
-          c.token.inside.number c.token.inside.seats c.token.inside.lists c.token.inside.list c.token.inside.first _ g.D.Look.lists g.D.Look.list
-          c.args.list g.D.Look.standing g.D.Look.too _ _ _ c.token.inside.seat.me c.args.token.now.part c.token.invariant.1 c.token.invariant.2 part
-          c.requires.lists.0 c.requires.lists.1 c.requires.may (ap (λ n. c.args.list * n) c.lock_word_count.ensures),
+          (subst (λ (s : ListShape). 0 < s.cut.count) shape c.self.invariant.is_cut.0) (c.self.invariant.same_cut ∙ ap (λ s. s.cut) shape)
+          c.requires.cut (c.self.invariant.same_seats ∙ ap (λ s. s.seats) shape) c.args.list g.D.Look.standing g.D.Look.too _ _ _ c.token.inside.seat.me token
+          c.requires.may there,
     )
-
--- the token is of the same seat still
-pub invariant_of-token : goal.invariant_of-token
-invariant_of-token g c = (
-  c.load.ensures.2.left.slots ∙ c.token.invariant.0,
-  c.load.ensures.2.left.one,
-  seat_looked c.load.ensures.2 c.token.invariant.2 (ap (λ t. t.words) c.load.ensures.0),
-)
 
 -- what belongs to the seat has the standing of the look
 pub returns-clause-part : goal.returns-clause-part
-returns-clause-part g c = part_looked c.load.ensures.2 (ap (λ s. s.part) c.token.view_is) c.requires.lists.0 c.requires.lists.1
+returns-clause-part g c = part_looked c.load.ensures.2 (token_of _ c.token.invariant c.token.view_is c.requires.lists)
 
 -- the table has as many lists as its cut
 pub returns-clause-lists : goal.returns-clause-lists

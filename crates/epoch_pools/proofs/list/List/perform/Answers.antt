@@ -3,5 +3,5 @@ use Rattle.epoch_pools.proofs.LockSteps.{writes_of}
 use Rattle.epoch_pools.proofs.list.List.perform.Goals as goal
 
 -- the operation makes of the word what the step's line does
-pub act_at-requires-clause-writes : goal.act_at-requires-clause-writes
-act_at-requires-clause-writes g c = writes_of g.D.Doing.doing (line_for c.args.token.now.part g.D.Doing.doing) c.args.op.act c.requires.op.1
+pub make_step-requires-clause-writes : goal.make_step-requires-clause-writes
+make_step-requires-clause-writes g c = writes_of c.args.step (line_for c.args.token.now.part c.args.step) c.args.op.act c.requires.op.1

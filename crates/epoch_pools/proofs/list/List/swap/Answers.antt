@@ -1,14 +1,14 @@
-use Rattle.lock_core.specs.declared.ops.Act.TheVariants.{Exchange}
-use Rattle.epoch_pools.proofs.LockSteps.{picked_writes, picked_says}
+use Rattle.std.proofs.Common.{sym}
+use Rattle.epoch_pools.proofs.LockSteps.{answer_says}
 use Rattle.epoch_pools.proofs.list.List.swap.Goals as goal
 
 -- an exchange is this step
-pub act_at-requires-clause-writes : goal.act_at-requires-clause-writes
-act_at-requires-clause-writes g c = picked_writes c.args.token.now.part (Exchange c.args.expected c.args.new) c.requires.doing c.requires.exchange
+pub make_step-requires-clause-writes : goal.make_step-requires-clause-writes
+make_step-requires-clause-writes g c = λ w _ _. sym (c.requires.exchange w)
 
--- so what it says is what this step says
+-- so what it says is said of what it returned
 pub returns-clause-part : goal.returns-clause-part
-returns-clause-part g c = (picked_says g.G.Guard.rested c.requires.doing c.requires.seats c.act_at.ensures.made).0
+returns-clause-part g c = (answer_says g.G.Guard.rested c.make_step.ensures.made).0
 
 pub returns-clause-told : goal.returns-clause-told
-returns-clause-told g c = (picked_says g.G.Guard.rested c.requires.doing c.requires.seats c.act_at.ensures.made).1
+returns-clause-told g c = (answer_says g.G.Guard.rested c.make_step.ensures.made).1

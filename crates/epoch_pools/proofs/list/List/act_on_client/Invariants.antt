@@ -1,5 +1,5 @@
 use Rattle.epoch_pools.specs.ClientActs.{client_step}
-use Rattle.epoch_pools.proofs.client.client_store.Given as goal
+use Rattle.epoch_pools.proofs.list.List.act_on_client.Given as goal
 
 -- the step that is made is that of the operation on that word
 abbrev pub ghosts-act_at_client : goal.ghosts-act_at_client

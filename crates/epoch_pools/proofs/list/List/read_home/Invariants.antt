@@ -1,5 +1,0 @@
-use Rattle.epoch_pools.proofs.list.List.read_home.Given as goal
-
--- the step that is made is the one given, in the list to which the token is turned
-abbrev pub ghosts-get : goal.ghosts-get
-ghosts-get g a = record { doing = a.step; seats = a.self.now.seats; lists = a.token.now.part.pass.lists; list = a.token.now.part.pass.list }
