@@ -67,8 +67,8 @@ words_before n a base place words value le = let at : base + place ≡ a + ((bas
 
 module _ {P N : Type 0} (begin : P) (holds : Grants → List ℕ → List P → Type 0)
     (allows : Grants → List ℕ → List P → ℕ → ClientStep → N → P → Type 0) (note : N) where
-  -- what the call that makes a step on client word i knows: the guard's law, its token and the table that both are of, that the guard allows the step that
-  -- this operation is, and its place in the table
+  -- what the call that makes a step on client word i knows: the guard's law, its token and the table that both are of,
+  -- that the guard allows the step that this operation is, and its place in the table
   pub record IsClientCall (parts : List (SeatLists P)) (lists list : ℕ) (id table : TableId) (p : SeatPart (Beside P)) (play_lists play_list : ℕ)
       (c : Regions) (seats clients : ℕ) (step : ClientStep) (act : ClientAct) (i word : ℕ) : Type 0 where
     pub law : (grants : Grants) (words : List ℕ) (passes : List P) (seat : ℕ) (step : ClientStep) (note : N) (after : P)
@@ -80,8 +80,8 @@ module _ {P N : Type 0} (begin : P) (holds : Grants → List ℕ → List P → 
     pub allowed : IsAllowed holds allows note p.number (shown_grant p) (inner_pass p) step
 
 module _ {P N : Type 0} {begin : P} {holds : Grants → List ℕ → List P → Type 0} {allows : Grants → List ℕ → List P → ℕ → ClientStep → N → P → Type 0} {note : N}
-    {me : Me (Unit {0}) (ListView P)} {token_lists token_list : ℕ} {id table : TableId} {p : SeatPart (Beside P)} {lists i : ℕ} {c : Regions} {seats clients : ℕ}
-    {step : ClientStep} {act : ClientAct} {word_of word : ℕ}
+    {me : Me (Unit {0}) (ListView P)} {token_lists token_list : ℕ} {id table : TableId} {p : SeatPart (Beside P)} {lists i : ℕ}
+    {c : Regions} {seats clients : ℕ} {step : ClientStep} {act : ClientAct} {word_of word : ℕ}
     (call : IsClientCall begin holds allows note me.0.parts token_lists token_list id table p lists i c seats clients step act word_of word) where
   -- one case for all client steps; f says what the step makes of the word
   client_keeps : (slots own : ℕ) (f : ℕ → ℕ) → ((words : List ℕ) → words_after words step ≡ set words (place_of step) (f (get_or words (place_of step) 0)))
@@ -91,7 +91,8 @@ module _ {P N : Type 0} {begin : P} {holds : Grants → List ℕ → List P → 
       let full : length w.cores ≡ lists = call.token.seat.full ∙ sym (same_lists call.token) in
       let word_is = call.there.1 in let below = call.there.2 in
       let allowed : IsAllowed holds allows note w.number (shown_grant (shown lists i w)) w.pass step =
-      subst (λ (x : SeatPart (Beside P)). IsAllowed holds allows note x.number (shown_grant x) (inner_pass x) step) (sym (play_shows call.token)) call.allowed in
+      subst (λ (x : SeatPart (Beside P)). IsAllowed holds allows note x.number (shown_grant x) (inner_pass x) step) (sym (play_shows call.token))
+      call.allowed in
       let parts = running.0 in let owner = running.1 in let r = running.2 in
       let base : ℕ = list_count c * word_count seats in let place = place_of step in let words = drop base s.words in
       let at' : get_elem? s.views id ≡ some (view (w ∷ [])) = at ∙ ap some is in

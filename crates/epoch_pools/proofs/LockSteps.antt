@@ -33,7 +33,8 @@ use Rattle.epoch_pools.specs.declared.views.ListView.{ListView}
 use Rattle.epoch_pools.specs.Standings.{is_here}
 use Rattle.epoch_pools.specs.Beside.{core_at, held_in, shown, given_back, may_give_back}
 use Rattle.epoch_pools.specs.Hands.{part_in, shown_of, IsSeatOf}
-use Rattle.epoch_pools.specs.Running.{takes_in, AreLists, view, line_in, lists_after, line_for, Enables, MayRest, part_after, Told, IsAnswer, IsLockPlay, IsRunningList}
+use Rattle.epoch_pools.specs.Running.{takes_in, AreLists, view, line_in, lists_after, line_for, Enables, MayRest, part_after, Told}
+use Rattle.epoch_pools.specs.Running.{IsAnswer, IsLockPlay, IsRunningList}
 use Rattle.epoch_pools.proofs.Placing.{part_here, placed, same_seat, IsKept, IsToken, Goes, untold, same_lists, list_there, play_shown, play_shows, many_seats}
 use Rattle.epoch_pools.proofs.Frames as frames
 use Rattle.epoch_pools.proofs.Slices.{further}
@@ -107,7 +108,8 @@ module _ {P : Type 0} (begin : P) (c : Regions) (seats clients : ℕ) (holds : G
         },
       )
 
--- what the call that makes a step knows: the guard's laws, its token and the table that both are of, that the seat may make the step, and its word
+-- what the call that makes a step knows: the guard's laws, its token and the table that both are of, that the seat may
+-- make the step, and its word
 pub record IsLockCall {P : Type 0} (begin : P) (holds : Grants → List ℕ → List P → Type 0) (rested : P → P) (is_at_rest : P → Type 0)
     (parts : List (SeatLists P)) (lists i : ℕ) (id other : TableId) (p : SeatPart (Beside P)) (play_lists play_list key_seats seats : ℕ) (step : Step)
     (word place : ℕ) : Type 0 where
@@ -146,9 +148,11 @@ module _ {P : Type 0} {begin : P} {holds : Grants → List ℕ → List P → Ty
               call.there ∙ (ap (λ n. p.pass.list * word_count p.seats + n) call.at
               ∙ (ap (λ (x : SeatPart (Beside P)). x.pass.list * word_count x.seats + (line_for x step).place) shows
               ∙ ap (λ n. play_list * word_count n + (line_for (shown play_lists play_list w) step).place) now)) in
-              subst (λ (z : ℕ × ℕ). Allows (IsRunningList c key_seats clients holds) slots own me z.0 f (IsLockPlay begin rested play_lists play_list z.1 step me))
+              subst (λ (z : ℕ × ℕ). Allows (IsRunningList c key_seats clients holds) slots own me z.0 f
+              (IsLockPlay begin rested play_lists play_list z.1 step me))
               (λ k. (sym where_is k, call.same_seats k))
-              (lock_keeps begin c key_seats clients holds rested is_at_rest call.gains call.loses play_lists play_list step f slots own me w (ap view call.token.one)
+              (lock_keeps begin c key_seats clients holds rested is_at_rest call.gains call.loses play_lists play_list step f slots own me w
+              (ap view call.token.one)
               (call.token.seat.full ∙ sym (same_lists call.token)) (list_there call.token)
               (subst (λ (x : SeatPart (Beside P)). Enables x step) shows call.may)
               (subst (λ (x : SeatPart (Beside P)). MayRest (may_give_back is_at_rest) x step) shows call.rests)

@@ -86,8 +86,8 @@ module _ {P : Type 0} (begin : P) (c : Regions) (seats clients : ℕ) (holds : G
   split_or false b e = inr e
 
   -- a look that leaves this of its seat, by whether it found the list clear
-  looks_to : (lists i : ℕ) (standing : Standing) (too : Bool) (slots id place : ℕ) (me : Me (Unit {0}) (ListView P)) (w : SeatLists P) (after : Bool → SeatLists P)
-      → me.0 ≡ view (w ∷ []) → length w.cores ≡ lists
+  looks_to : (lists i : ℕ) (standing : Standing) (too : Bool) (slots id place : ℕ) (me : Me (Unit {0}) (ListView P)) (w : SeatLists P)
+      (after : Bool → SeatLists P) → me.0 ≡ view (w ∷ []) → length w.cores ≡ lists
       → ((b : Bool) → ((after b).number ≡ w.number) × ((after b).seats ≡ w.seats) × (length (after b).cores ≡ length w.cores))
       → ((words : List ℕ) (parts : List (SeatLists P)) → AreLists (list_count c) seats (takes_in c) holds words parts → get_elem? parts w.number ≡ some w
       → w.seats ≡ seats → (b : Bool) → (b ≡ true → (too ≡ true) ⊎ (get_or words place 0 ≡ 0))
@@ -251,9 +251,9 @@ module _ {P : Type 0} (begin : P) (c : Regions) (seats clients : ℕ) (holds : G
       (token.seat.full ∙ sym (same_lists token)) (list_there token) look (there ∙ ap (λ n. at * word_count n) (sym token.seat.seats_are)))
 
 -- the head of a list is one of the table's words
-pub head_there : {P : Type 0} {begin : P} {parts : List (SeatLists P)} {id other : TableId} {lists i at place play_lists play_list : ℕ} {p : SeatPart (Beside P)}
-    → id ≡ other → (token : IsToken begin parts lists i id.words p play_lists play_list) → at < p.pass.lists → place ≡ at * word_count token.many
-    → place < other.words
+pub head_there : {P : Type 0} {begin : P} {parts : List (SeatLists P)} {id other : TableId} {lists i at place play_lists play_list : ℕ}
+    {p : SeatPart (Beside P)} → id ≡ other → (token : IsToken begin parts lists i id.words p play_lists play_list) → at < p.pass.lists
+    → place ≡ at * word_count token.many → place < other.words
 head_there {P} {begin} {parts} {id} {other} {lists} {i} {at} {place} {play_lists} {play_list} {p} same token less there =
     let lists_are : lists ≡ p.pass.lists = ap (λ (x : SeatPart (Beside P)). x.pass.lists) token.shown_is in let many = token.many in
     let behind : at * word_count many + word_count many ≤ lists * word_count many = further at lists (word_count many) (omega arith) in

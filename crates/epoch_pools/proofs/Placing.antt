@@ -1,6 +1,7 @@
 -- A step puts one new part at its seat's number and changes one word: what is to be shown for the table's rule to
 -- hold after it.
-use Rattle.std.proofs.Common.{◌≡◌, ◌≢◌, ◌<◌, ◌≤◌, ◌*◌, ℕ, zero, suc, Some, List, [], ◌∷◌, map, length, set, sym, refl, ap, ◌∙◌, subst, length-set, ⊎_elim, arith}
+use Rattle.std.proofs.Common.{◌≡◌, ◌≢◌, ◌<◌, ◌≤◌, ◌*◌, ℕ, zero, suc, Some, List, [], ◌∷◌, map, length, set, sym, refl, ap, ◌∙◌, subst}
+use Rattle.std.proofs.Common.{length-set, ⊎_elim, arith}
 use Rattle.std.specs.Prelude.{slice_index}
 use mathlib.Core.Option.{some, some-injective, some-ne-none}
 use mathlib.Core.Logic.{dite}
@@ -43,7 +44,8 @@ same_seat left same_number same_seats {number} {many} {lists} none s same =
     let words = subst (λ (n : ℕ). lists * word_count many ≤ n) (sym same) s.words_there in
     (left.slots ∙ none, left.one, assumption (same_number ∙ s.number_is, same_seats ∙ s.seats_are, left.full ∙ s.full, s))
 
--- what a call knows of its token: it has one part, that of its seat, which shows p in the list to which the token is turned, and the play names that list
+-- what a call knows of its token: it has one part, that of its seat, which shows p in the list to which the token is
+-- turned, and the play names that list
 pub record IsToken {P : Type 0} (begin : P) (parts : List (SeatLists P)) (lists i words : ℕ) (p : SeatPart (Beside P)) (play_lists play_list : ℕ) : Type 0 where
   pub number : ℕ
   pub many : ℕ
@@ -76,8 +78,9 @@ module _ {P : Type 0} {begin : P} {parts : List (SeatLists P)} {lists i words : 
   many_seats = ap (λ (x : SeatPart (Beside P)). x.seats) (sym t.shown_is) ∙ t.seat.seats_are
 
 -- so a token's invariant, its view and what the play names tell it
-abbrev pub token_of : {P : Type 0} (begin : P) {slots : List (ℕ × Unit {0})} {parts : List (SeatLists P)} {number many lists i first play_lists play_list : ℕ} {table : TableId}
-    {token : HandState (Beside P)} → (slots ≡ []) × (parts ≡ part_in begin parts ∷ []) × IsSeatOf (part_in begin parts) number many lists i first table.words
+abbrev pub token_of : {P : Type 0} (begin : P) {slots : List (ℕ × Unit {0})} {parts : List (SeatLists P)} {number many lists i first play_lists play_list : ℕ}
+    {table : TableId} {token : HandState (Beside P)}
+    → (slots ≡ []) × (parts ≡ part_in begin parts ∷ []) × IsSeatOf (part_in begin parts) number many lists i first table.words
     → record { table = table; part = shown_of begin lists i parts } ≡ token → (play_lists ≡ token.part.pass.lists) × (play_list ≡ token.part.pass.list)
     → IsToken begin parts lists i table.words token.part play_lists play_list
 token_of {P} begin known is named = record {
@@ -92,9 +95,9 @@ token_of {P} begin known is named = record {
 }
 
 -- and it is of the list's table
-pub one_table : {P : Type 0} {id table : TableId} {part : SeatPart (Beside P)} {token : HandState (Beside P)} {seats client : ℕ} {cut : Regions} {list : ListShape}
-    → record { table = id; part = part } ≡ token → record { table = table; seats = seats; client = client; cut = cut } ≡ list → token.table ≡ list.table
-    → id ≡ table
+pub one_table : {P : Type 0} {id table : TableId} {part : SeatPart (Beside P)} {token : HandState (Beside P)} {seats client : ℕ} {cut : Regions}
+    {list : ListShape} → record { table = id; part = part } ≡ token → record { table = table; seats = seats; client = client; cut = cut } ≡ list
+    → token.table ≡ list.table → id ≡ table
 one_table {P} token_is list_is same = ap (λ (h : HandState (Beside P)). h.table) token_is ∙ (same ∙ sym (ap (λ (l : ListShape). l.table) list_is))
 
 -- what an operation that makes f of a word owes the table that it is made on, to say so much to its seat

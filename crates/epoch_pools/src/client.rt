@@ -79,7 +79,8 @@ impl<G: Guard> List<G> {
     fn act_on_client<M: Means<G>>(&self, token: &mut Token<G>, i: u32, act: ClientAct) -> u64
         requires table { token.old.table ≡ self.now.table }
         requires place { i < self.now.client }
-        requires allowed { IsAllowed G.holds G.allows M.note token.old.part.number (shown_grant token.old.part) (inner_pass token.old.part) (client_step act i) }
+        requires allowed { IsAllowed G.holds G.allows M.note token.old.part.number (shown_grant token.old.part) (inner_pass token.old.part)
+            (client_step act i) }
         ensures table { token.new.table ≡ token.old.table }
         ensures part { token.new.part ≡ client_part token.old.part i (inner_pass token.new.part) }
         ensures made { IsAnswering act → IsMade G.holds G.allows M.note token.old.part.number (shown_grant token.old.part)

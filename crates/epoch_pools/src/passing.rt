@@ -16,8 +16,8 @@ use std::marker::Brand;
 use std::sync::ledger::Ledger;
 use word_rows::Steps;
 
-/// Which look is made: one by which nothing comes to count; that of a narrow range, which counts then; or that of a wide
-/// one, which has passed all lists below `up` then. `held` says that the seat holds the range in that list too.
+/// Which look is made: one by which nothing comes to count; that of a narrow range, which counts then; or that of a
+/// wide one, which has passed all lists below `up` then. `held` says that the seat holds the range in that list too.
 #[derive(Clone, Copy)]
 pub enum LookKind {
     Plain,
@@ -26,8 +26,8 @@ pub enum LookKind {
 }
 
 impl<G: Guard> List<G> {
-    /// Loads the head of a list, as the look that is picked. It returns what the head was. The kind is there for the pick
-    /// alone.
+    /// Loads the head of a list, as the look that is picked. It returns what the head was. The kind is there for the
+    /// pick alone.
     #[inline(always)]
     fn look_at<D: Look>(&self, token: &mut Token<G>, list: u32, kind: LookKind) -> u64
         requires table { token.old.table ≡ self.now.table }

@@ -12,7 +12,8 @@ use Rattle.epoch_pools.proofs.list.List.act_at_client.Goals as goal
 use Rattle.epoch_pools.proofs.list.List.act_at_client.Goals.{After-client_word-word}
 
 -- what the call knows of its token, the table, the step and the client word
-call : (g : Over) (c : After-client_word-word g) → let key = c.self.inside.table.shared.key in let start = list_count (cut_of key.shares.items) * word_count key.seats in
+call : (g : Over) (c : After-client_word-word g) → let key = c.self.inside.table.shared.key in
+    let start = list_count (cut_of key.shares.items) * word_count key.seats in
     IsClientCall (g.G.Guard.first [] 0) g.G.Guard.holds g.G.Guard.allows g.M.Means.note c.token.inside.seat.me.0.parts c.token.inside.lists
     c.token.inside.list c.token.inside.seat.table_id c.self.inside.table.shared.table_id c.args.token.now.part g.C.Acting.lists g.C.Acting.list
     (cut_of key.shares.items) key.seats (length key.words.items - start) g.C.Acting.acting c.args.act c.args.i c.client_word-word.result
@@ -21,7 +22,8 @@ call g c = record {
   token = token_of _ c.token.invariant c.token.view_is c.requires.lists;
   same = one_table c.token.view_is c.self.view_is c.requires.table;
   acting = c.requires.acting;
-  there = client_place c.self.invariant c.self.view_is (ap place_of c.requires.acting ∙ acts_on c.args.act c.args.i) c.requires.place c.client_word-word.ensures;
+  there = client_place c.self.invariant c.self.view_is (ap place_of c.requires.acting ∙ acts_on c.args.act c.args.i) c.requires.place
+      c.client_word-word.ensures;
   allowed = c.requires.allowed;
 }
 
