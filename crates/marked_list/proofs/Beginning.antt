@@ -22,7 +22,7 @@ use Rattle.marked_list.specs.Order.{OwnMayWalk, IsInside}
 use Rattle.marked_list.specs.Leaves.{IsSamePools, IsNewWalk}
 use Rattle.marked_list.specs.Walking.{seen_of, arrival_at, HasRoom, MayBeginWalk, IsAtOddHead, IsCursorMade, IsSettled, IsFailed, Outcome}
 use Rattle.marked_list.specs.Causes.{judged_in}
-use Rattle.marked_list.proofs.Lines.{enables, line_is, Made, made_by, same_walk, same_judged, on_made}
+use Rattle.marked_list.proofs.Lines.{enables, line_is, Made, made_by, IsStepFrom, made_of, same_walk, same_judged, on_made}
 use Rattle.marked_list.proofs.Arriving.{may_walk_free, done_not, came_outcome}
 use Rattle.marked_list.proofs.Moments.{seat_count, found_even}
 use Rattle.marked_list.proofs.Unlinking.{failed}
@@ -103,9 +103,9 @@ module _ {P : Type 0} (p : SeatPart P) (head : IsAtOddHead p.core) where
   pub may_settle : Enables p Settle
   may_settle = enables p Settle settle_plan settle_line
 
-  module _ (rested : P → P) (q : SeatPart P) (w : ℕ) (made : q ≡ part_after rested p Settle w) where
+  module _ {rested : P → P} {q : SeatPart P} {w : ℕ} (made : IsStepFrom rested p q Settle w) where
     m' : Made rested p q Settle settle_plan w
-    m' = made_by rested p q Settle settle_plan w settle_line made
+    m' = made_of settle_line made
 
     abbrev settled_by : Bool → View
     settled_by b = if b then settled p.core head.cursor else dropped p.core
@@ -129,7 +129,7 @@ module _ {P : Type 0} (p : SeatPart P) (head : IsAtOddHead p.core) where
         (placed ∙ ap (λ (o : Option ℕ). cell_place p.seats (cell_of o)) head.prev) wanted had
 
     -- the same, in the words of the cursor that was read before the step
-    module _ (d : Cursor) (is : p.core.cursor ≡ Some d) where
+    module _ {d : Cursor} (is : p.core.cursor ≡ Some d) where
       same : d ≡ head.cursor
       same = let e : ◌≡◌ {A = Option Cursor} (Some d) (Some head.cursor) = sym is ∙ head.is in cc
 
@@ -145,7 +145,7 @@ module _ {P : Type 0} (p : SeatPart P) (head : IsAtOddHead p.core) where
           (placed ∙ (λ i. cell_place (many i) (cell_of (same i).prev))) (wanted ∙ ap (λ (x : Cursor). x.cur) same) had
 
 -- the first node: at once, or once the head is settled
-module _ {P : Type 0} (p q : SeatPart P) (w : ℕ) (may : MayBeginWalk p.core) (out : IsCursorMade p q w) where
+module _ {P : Type 0} {p q : SeatPart P} {w : ℕ} (may : MayBeginWalk p.core) (out : IsCursorMade p q w) where
   abbrev begun_cursor : Cursor
   begun_cursor = record { prev = start_of p.core.own; cur = w; next = None; lo = None; seen = seen_after 0 w }
 

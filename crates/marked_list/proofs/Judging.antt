@@ -27,7 +27,7 @@ use Rattle.lock_core.proofs.Verdicts.{judges_by_conflict_law}
 use Rattle.epoch_pools.specs.declared.record.Met.{Met}
 use Rattle.epoch_pools.specs.declared.views.SeatPart.{SeatPart}
 use Rattle.epoch_pools.specs.Record.{met_at}
-use Rattle.epoch_pools.specs.Running.{Enables, line_for, part_after, Told}
+use Rattle.epoch_pools.specs.Running.{Enables, line_for, Told}
 use Rattle.epoch_pools.specs.Hands.{IsHandView}
 use Rattle.marked_list.specs.declared.answers.Walked.TheVariants.{Place}
 use Rattle.marked_list.specs.Order.{OwnMayWalk, IsAhead, IsInside, StandsAt, KnowsNext, StandsInConflict}
@@ -37,7 +37,7 @@ use Rattle.marked_list.specs.Answers.{Arrives}
 use Rattle.marked_list.specs.Walking.{seen_of, has_arrived, arrival_at, judgement_at, conflict_with, KnowsLo, CursorCame}
 use Rattle.marked_list.specs.Walking.{IsOthers, IsAtOthers, IsNotSpent, HasRoom, Outcome, IsLoad}
 use Rattle.marked_list.specs.Scanning.{IsSeen, PassesFrom, found_with}
-use Rattle.marked_list.proofs.Lines.{enables, line_is, Made, made_by, same_walk, same_judged, more_judged, on_made}
+use Rattle.marked_list.proofs.Lines.{enables, line_is, Made, IsStepFrom, made_of, same_walk, same_judged, more_judged, on_made}
 use Rattle.marked_list.proofs.Arriving.{may_walk_free, may_walk_ends, nodes_seen, came_outcome}
 use Rattle.marked_list.proofs.Passing.{judged_on_from, scanning_at}
 use Rattle.marked_list.proofs.Moments.{found_other, found_range, found_own}
@@ -57,12 +57,12 @@ module _ {P : Type 0} (p : SeatPart P) (st : StandsAt p.core) where
   pub may_walk : Enables p Walk
   may_walk = enables p Walk walk_plan walk_line
 
-  module _ (rested : P → P) (q : SeatPart P) (w : ℕ) (made : q ≡ part_after rested p Walk w) where
+  module _ {rested : P → P} {q : SeatPart P} {w : ℕ} (made : IsStepFrom rested p q Walk w) where
     abbrev next_cursor : Cursor
     next_cursor = record st.cursor { next = Some w; lo = None }
 
     m : Made rested p q Walk walk_plan w
-    m = made_by rested p q Walk walk_plan w walk_line made
+    m = made_of walk_line made
 
     core_next : q.core ≡ record p.core { cursor = Some next_cursor }
     core_next = m.core ∙ ap (λ (o : Option Cursor). walked p.core o w) st.is
@@ -91,15 +91,15 @@ module _ {P : Type 0} (p : SeatPart P) (st : StandsAt p.core) where
     next_walked = m.walked
 
     -- where the word that was loaded has no mark, the node is another seat's, or the own linked one
-    pub next_others : (seats : ℕ) → Told seats p Walk w → w % 2 ≡ 0 → IsAtOthers q
-    next_others seats told even c y is node = let same : next_cursor ≡ c = let e = sym (ap (λ (v : View). v.cursor) core_next) ∙ is in cc in
+    pub next_others : {seats : ℕ} → Told seats p Walk w → w % 2 ≡ 0 → IsAtOthers q
+    next_others told even c y is node = let same : next_cursor ≡ c = let e = sym (ap (λ (v : View). v.cursor) core_next) ∙ is in cc in
         let y_is : st.node ≡ y = let e = sym st.at ∙ (ap (λ (x : Cursor). plain_node_of x.cur) same ∙ node) in cc in
         let o = found_other p w st.cursor st.node (told.moment (λ x. x)) (ap (λ (x : Plan). x.place) (line_is p Walk walk_plan walk_line)) st.is st.at even in
         subst (IsOthers q.number q.core.own) y_is (subst (λ (own : Own). IsOthers q.number own st.node) (sym (ap (λ (v : View). v.own) core_next))
         (subst (λ a. IsOthers a p.core.own st.node) (sym m.number) o))
 
 -- the lower end
-module _ {P : Type 0} (p : SeatPart P) (n : ℕ) (k : KnowsNext p.core n) (even : n % 2 ≡ 0) where
+module _ {P : Type 0} (p : SeatPart P) {n : ℕ} (k : KnowsNext p.core n) (even : n % 2 ≡ 0) where
   abbrev lo_plan : Plan
   lo_plan = loads (lo_place p.seats k.stands.node) (lo_read p.core k.stands.cursor)
 
@@ -110,12 +110,12 @@ module _ {P : Type 0} (p : SeatPart P) (n : ℕ) (k : KnowsNext p.core n) (even 
   pub may_read_lo : Enables p ReadLo
   may_read_lo = enables p ReadLo lo_plan lo_line
 
-  module _ (rested : P → P) (q : SeatPart P) (w : ℕ) (made : q ≡ part_after rested p ReadLo w) where
+  module _ {rested : P → P} {q : SeatPart P} {w : ℕ} (made : IsStepFrom rested p q ReadLo w) where
     abbrev lo_cursor : Cursor
     lo_cursor = record k.stands.cursor { lo = Some w }
 
     lo_made : Made rested p q ReadLo lo_plan w
-    lo_made = made_by rested p q ReadLo lo_plan w lo_line made
+    lo_made = made_of lo_line made
 
     core_lo : q.core ≡ record p.core { cursor = Some lo_cursor }
     core_lo = lo_made.core
@@ -250,7 +250,7 @@ names_node seats i v sound few c is knows = by_next c.next refl knows
     by_next (Some n) e k = let far = sound.next_node c n is e in let there = (sound.sized.cursor c is).cur in (omega arith, omega arith)
 
 -- the higher end, and the judgement
-module _ {P : Type 0} (p : SeatPart P) (n lo : ℕ) (k : KnowsLo p.core n lo) (even : n % 2 ≡ 0) where
+module _ {P : Type 0} (p : SeatPart P) {n lo : ℕ} (k : KnowsLo p.core n lo) (even : n % 2 ≡ 0) where
   abbrev st : StandsAt p.core
   st = k.knows.stands
 
@@ -264,9 +264,9 @@ module _ {P : Type 0} (p : SeatPart P) (n lo : ℕ) (k : KnowsLo p.core n lo) (e
   pub may_read_hi : Enables p ReadHi
   may_read_hi = enables p ReadHi hi_plan hi_line
 
-  module _ (rested : P → P) (q : SeatPart P) (w : ℕ) (made : q ≡ part_after rested p ReadHi w) where
+  module _ {rested : P → P} {q : SeatPart P} {w : ℕ} (made : IsStepFrom rested p q ReadHi w) where
     hi_made : Made rested p q ReadHi hi_plan w
-    hi_made = made_by rested p q ReadHi hi_plan w hi_line made
+    hi_made = made_of hi_line made
 
     abbrev verdict : Verdict
     verdict = verdict_of p.core.own lo w
@@ -306,7 +306,7 @@ module _ {P : Type 0} (p : SeatPart P) (n lo : ℕ) (k : KnowsLo p.core n lo) (e
     met_now : q.trace.met ≡ Some (met_with lo)
     met_now = hi_made.met ∙ (ap (λ (o : Option Cursor). met_at p.trace o w) st.is ∙ ap (λ (l : Option ℕ). Some (met_with (unwrap_or l 0))) k.lo)
 
-    module _ (seats : ℕ) (told : Told seats p ReadHi w) where
+    module _ {seats : ℕ} (told : Told seats p ReadHi w) where
       hi_at : (line_for p ReadHi).place ≡ hi_place p.seats st.node
       hi_at = ap (λ (x : Plan). x.place) (line_is p ReadHi hi_plan hi_line)
 
@@ -398,6 +398,6 @@ module _ {P : Type 0} (p : SeatPart P) (n lo : ℕ) (k : KnowsLo p.core n lo) (e
         )
 
         -- the same, in the words of the cursor that was read before the step
-        pub past_passes : (d : Cursor) → p.core.cursor ≡ Some d → PassesFrom p.trace.walked (judged_in p.trace.looked) q (found_with d.cur lo w)
-        past_passes d is = let same : st.cursor ≡ d = let e : ◌≡◌ {A = Option Cursor} (Some st.cursor) (Some d) = sym st.is ∙ is in cc in
+        pub past_passes : {d : Cursor} → p.core.cursor ≡ Some d → PassesFrom p.trace.walked (judged_in p.trace.looked) q (found_with d.cur lo w)
+        past_passes {d} is = let same : st.cursor ≡ d = let e : ◌≡◌ {A = Option Cursor} (Some st.cursor) (Some d) = sym st.is ∙ is in cc in
             subst (λ (c : Cursor). PassesFrom p.trace.walked (judged_in p.trace.looked) q (found_with c.cur lo w)) same past_found

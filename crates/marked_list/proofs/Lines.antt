@@ -23,6 +23,10 @@ enables p step plan line = ap is_some (plan_of_line p.seats p.number p.core step
 pub line_is : {P : Type 0} (p : SeatPart P) (step : Step) (plan : Plan) → IsLine p.seats p.number p.core step plan → line_for p step ≡ plan
 line_is p step plan line = ap (λ (o : Option Plan). unwrap_or o (loads 0 (λ _. p.core))) (plan_of_line p.seats p.number p.core step plan line)
 
+-- a cursor that was read of a view is the view's
+pub cursor_read : {v w : View} {c : Cursor} → w ≡ v → w.cursor ≡ Some c → v.cursor ≡ Some c
+cursor_read same is = ap (λ (v : View). v.cursor) (sym same) ∙ is
+
 -- what a step with that plan, which found that value, leaves
 pub record Made {P : Type 0} (rested : P → P) (p q : SeatPart P) (step : Step) (plan : Plan) (found : ℕ) : Type 0 where
   -- the hand is of the same seat
@@ -55,6 +59,15 @@ pub made_by : {P : Type 0} (rested : P → P) (p q : SeatPart P) (step : Step) (
     → IsLine p.seats p.number p.core step plan → q ≡ part_after rested p step found → Made rested p q step plan found
 made_by {P} rested p q step plan found line made = subst (λ (x : Plan). Made rested p q step x found) (line_is p step plan line)
     (subst (λ (x : SeatPart P). Made rested p x step (line_for p step) found) (sym made) assumption)
+
+-- the step found that value, and q is what it leaves of p
+pub record IsStepFrom {P : Type 0} (rested : P → P) (p q : SeatPart P) (step : Step) (found : ℕ) : Type 0 where
+  pub made : q ≡ part_after rested p step found
+
+-- so it leaves what the plan of its line says
+pub made_of : {P : Type 0} {rested : P → P} {p q : SeatPart P} {step : Step} {plan : Plan} {found : ℕ} → IsLine p.seats p.number p.core step plan
+    → IsStepFrom rested p q step found → Made rested p q step plan found
+made_of {P} {rested} {p} {q} {step} {plan} {found} line s = made_by rested p q step plan found line s.made
 
 -- where nothing was held the pass stays
 pub pass_stays : {P : Type 0} (rested : P → P) (before now : Option Held) (pass : P) → before ≡ None → pass_kept rested before now pass ≡ pass

@@ -24,12 +24,12 @@ use Rattle.epoch_pools.specs.Hands.{IsHandView}
 use Rattle.epoch_pools.specs.Record.{low_end, cursor_word, own_word, looked_on, looked_with, is_judging, gained_by}
 use Rattle.epoch_pools.specs.Running.{Enables, part_after, pass_kept}
 use Rattle.marked_list.specs.declared.answers.Lost.{Lost}
-use Rattle.marked_list.specs.Order.{HasEnds, StandsAtPlace, MayFill, MayAim, MayLink, MayMark, MayQuickUnlink}
+use Rattle.marked_list.specs.Order.{HasEnds, StandsAtPlace, MayFill, MayAim, MayLink, MayQuickLink, MayMark, MayQuickUnlink}
 use Rattle.marked_list.specs.Leaves.{IsCall, IsSameLook}
 use Rattle.marked_list.specs.Causes.{IsLost, nodes_in}
 use Rattle.marked_list.specs.Walking.{seen_of}
 use Rattle.marked_list.specs.Answers.{aimed_own, linked_own, IsAimed, IsMarkCall, IsQuickCall}
-use Rattle.marked_list.proofs.Lines.{enables, Made, made_by, pass_stays, same_looked, call_made, walk_on_walk}
+use Rattle.marked_list.proofs.Lines.{enables, Made, made_by, IsStepFrom, made_of, pass_stays, same_looked, call_made, walk_on_walk}
 use Rattle.marked_list.proofs.Following.{lost_from}
 use Rattle.marked_list.proofs.Unlinking.{gone_looked, lost_made}
 
@@ -130,7 +130,7 @@ linked_is todo own e =
     (λ i. Linked e.node.node (record { lo = unwrap_or (sym e.low i) 0; hi = unwrap_or (sym e.high i) 0 }) e.node.mode
     (todo e.node.mode)) ∙ ap (linked_own todo) (sym e.is)
 
-module _ {P : Type 0} (p q : SeatPart P) (a : IsAimed p q) where
+module _ {P : Type 0} {p q : SeatPart P} (a : IsAimed p q) where
   module _ (may : MayLink p.core) where
     abbrev full : Filled
     full = record may.own.node { aimed = Some may.place.cursor.cur }
@@ -152,9 +152,9 @@ module _ {P : Type 0} (p q : SeatPart P) (a : IsAimed p q) where
     pub may_link : Enables q Link
     may_link = enables q Link link_plan link_line
 
-    module _ (rested : P → P) (r : SeatPart P) (w : ℕ) (made : r ≡ part_after rested q Link w) where
+    module _ {rested : P → P} {r : SeatPart P} {w : ℕ} (made : IsStepFrom rested q r Link w) where
       link_made : Made rested q r Link link_plan w
-      link_made = made_by rested q r Link link_plan w link_line made
+      link_made = made_of link_line made
 
       abbrev linked_by : Bool → View
       linked_by b = if b then linked q.core full.node may.own.lo may.own.hi full.mode (todo_of full.mode) else dropped q.core
@@ -175,7 +175,7 @@ module _ {P : Type 0} (p q : SeatPart P) (a : IsAimed p q) where
       pub link_call : IsCall 2 p r
       link_call = call_on p q r a.call (call_made link_made (ap held_at own_link))
 
-      module _ (d : Cursor) (is : q.core.cursor ≡ Some d) where
+      module _ {d : Cursor} (is : q.core.cursor ≡ Some d) where
         same_place : d ≡ may.place.cursor
         same_place = let e : ◌≡◌ {A = Option Cursor} (Some d) (Some may.place.cursor) = sym is ∙ cursor_link in cc
 
@@ -199,7 +199,13 @@ module _ {P : Type 0} (p q : SeatPart P) (a : IsAimed p q) where
               link_made.core ∙ (ap linked_by apart ∙ ap (λ (v : View). record v { cursor = None }) a.core),
             )
 
-  module _ (own : HasEnds p.core.own) (none : p.core.cursor ≡ None) (even : p.core.epoch % 2 ≡ 0) where
+  module _ (order : MayQuickLink p.core) (view : IsHandView p) where
+    abbrev own : HasEnds p.core.own
+    own = order.own
+
+    none : p.core.cursor ≡ None
+    none = view.sound.outside order.even
+
     abbrev ended : Filled
     ended = record own.node { aimed = Some 0 }
 
@@ -210,15 +216,15 @@ module _ {P : Type 0} (p q : SeatPart P) (a : IsAimed p q) where
     quick_plan = exchanges 0 0 (2 * suc ended.node + 1) (quick_linked q.core ended.node own.lo own.hi ended.mode) q.core
 
     quick_line : IsLine q.seats q.number q.core QuickLink quick_plan
-    quick_line = quick_link ended own.lo own.hi own_quick own.low own.high refl (ap (λ (v : View). v.epoch % 2) a.core ∙ even)
+    quick_line = quick_link ended own.lo own.hi own_quick own.low own.high refl (ap (λ (v : View). v.epoch % 2) a.core ∙ order.even)
 
     -- a node that was aimed at the end, outside the epoch, may be linked by the fast path
     pub may_quick_link : Enables q QuickLink
     may_quick_link = enables q QuickLink quick_plan quick_line
 
-    module _ (rested : P → P) (r : SeatPart P) (w : ℕ) (made : r ≡ part_after rested q QuickLink w) where
+    module _ {rested : P → P} {r : SeatPart P} {w : ℕ} (made : IsStepFrom rested q r QuickLink w) where
       quick_made : Made rested q r QuickLink quick_plan w
-      quick_made = made_by rested q r QuickLink quick_plan w quick_line made
+      quick_made = made_of quick_line made
 
       abbrev quick_by : Bool → View
       quick_by b = if b then quick_linked q.core ended.node own.lo own.hi ended.mode else q.core

@@ -15,14 +15,14 @@ use Rattle.epoch_pools.specs.declared.record.Lost.{Lost as LostStep}
 use Rattle.epoch_pools.specs.declared.record.Record.{Record}
 use Rattle.epoch_pools.specs.declared.views.SeatPart.{SeatPart}
 use Rattle.epoch_pools.specs.Record.{asked_after, expected_by, lost_by, cursor_word, looked_with, is_judging, gained_by}
-use Rattle.epoch_pools.specs.Running.{Enables, part_after}
+use Rattle.epoch_pools.specs.Running.{Enables}
 use Rattle.epoch_pools.specs.Hands.{IsHandView, quiet_after}
 use Rattle.marked_list.specs.declared.answers.Lost.{Lost}
 use Rattle.marked_list.specs.Order.{StandsAt, KnowsNext}
 use Rattle.marked_list.specs.Leaves.{IsSamePools, IsLaterInWalk, IsSameWalk, HasJudged}
 use Rattle.marked_list.specs.Causes.{IsLost, IsWalkLoss, nodes_in}
 use Rattle.marked_list.specs.Walking.{seen_of, arrival_at, HasRoom, CursorCame, Outcome, IsFailed, IsUnlinked}
-use Rattle.marked_list.proofs.Lines.{enables, Made, made_by, same_looked, judges_none, same_walk, same_judged, on_made, call_made}
+use Rattle.marked_list.proofs.Lines.{enables, Made, IsStepFrom, made_of, same_looked, judges_none, same_walk, same_judged, on_made, call_made}
 use Rattle.marked_list.proofs.Arriving.{may_walk_free, nodes_seen, came_outcome}
 
 -- an exchange that found another value is in the record
@@ -76,7 +76,7 @@ module _ {P : Type 0} {rested : P → P} {p q : SeatPart P} {step : Step} {plan 
           (gained_by p.core (plan.view w))) (ap (λ (v : View). v.cursor) gone)
           ∙ gone_looked p.trace p.core.cursor (is_judging step) (gained_by p.core (plan.view w)))) ∙ nodes_seen p view c is
 
-module _ {P : Type 0} (p : SeatPart P) (n : ℕ) (k : KnowsNext p.core n) (odd : n % 2 ≡ 1) where
+module _ {P : Type 0} (p : SeatPart P) {n : ℕ} (k : KnowsNext p.core n) (odd : n % 2 ≡ 1) where
   abbrev st : StandsAt p.core
   st = k.stands
 
@@ -90,9 +90,9 @@ module _ {P : Type 0} (p : SeatPart P) (n : ℕ) (k : KnowsNext p.core n) (odd :
   pub may_unlink : Enables p Unlink
   may_unlink = enables p Unlink unlink_plan unlink_line
 
-  module _ (rested : P → P) (q : SeatPart P) (w : ℕ) (made : q ≡ part_after rested p Unlink w) where
+  module _ {rested : P → P} {q : SeatPart P} {w : ℕ} (made : IsStepFrom rested p q Unlink w) where
     m : Made rested p q Unlink unlink_plan w
-    m = made_by rested p q Unlink unlink_plan w unlink_line made
+    m = made_of unlink_line made
 
     abbrev view_by : Bool → View
     view_by b = if b then unlinked p.core st.cursor st.node (n - 1) else dropped p.core
@@ -118,15 +118,15 @@ module _ {P : Type 0} (p : SeatPart P) (n : ℕ) (k : KnowsNext p.core n) (odd :
         by_value false e = failed m st.is tt refl refl (ap view_by e) e (may_walk_free p.core.own st.own) st.inside.hand view room l placed wanted had
 
     -- the same, in the words of the cursor that was read before the step
-    pub unlink_lost : q.core.hand ≡ None → IsHandView p → HasRoom p → (d : Cursor) → p.core.cursor ≡ Some d → (s : ℕ)
+    pub unlink_lost : q.core.hand ≡ None → IsHandView p → HasRoom p → {d : Cursor} → p.core.cursor ≡ Some d → (s : ℕ)
         → s ≡ q.seats → (l : Lost) → l.place ≡ cell_place s (cell_of d.prev) → l.expected ≡ d.cur → l.found ≡ w → IsFailed p q l
-    unlink_lost hand view room d is s seats l placed wanted had =
+    unlink_lost hand view room {d} is s seats l placed wanted had =
         let same : d ≡ st.cursor = let e : ◌≡◌ {A = Option Cursor} (Some d) (Some st.cursor) = sym is ∙ st.is in cc in
         let many : s ≡ p.seats = seats ∙ m.seats in
         unlink_none hand view room l (placed ∙ (λ i. cell_place (many i) (cell_of (same i).prev))) (wanted ∙ ap (λ (x : Cursor). x.cur) same) had
 
 -- the node is given home
-module _ {P : Type 0} (p q r : SeatPart P) (x : ℕ) (u : IsUnlinked p q x) (made : r ≡ quiet_after q GiveHome (gave_home q.core)) where
+module _ {P : Type 0} {p q r : SeatPart P} {x : ℕ} (u : IsUnlinked p q x) (made : r ≡ quiet_after q GiveHome (gave_home q.core)) where
   core_home : r.core ≡ gave_home q.core
   core_home = ap (λ (z : SeatPart P). z.core) made
 
