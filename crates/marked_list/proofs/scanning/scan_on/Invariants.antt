@@ -1,25 +1,18 @@
-use Rattle.std.proofs.Common.{◌≡◌, ◌+◌, ◌*◌, ◌-◌, ◌≤◌}
+use Rattle.std.proofs.Common.{◌≡◌, ◌+◌, ◌-◌, ◌≤◌}
 use Rattle.lock_core.specs.declared.views.Own.TheVariants.{Nothing}
-use Rattle.marked_list.specs.Order.{StandsAt}
-use Rattle.marked_list.specs.Leaves.{IsLaterInWalk, IsSameWalk}
 use Rattle.marked_list.specs.Causes.{judged_in}
 use Rattle.marked_list.specs.Walking.{seen_of}
+use Rattle.marked_list.proofs.Following.{HasComeTo}
 use Rattle.marked_list.proofs.scanning.scan_on.Given as goal
 
--- the cursor is at a node, and each look behind it was at a marked node and made from one to three steps
+-- the cursor is at a node, and each look behind it was at a marked node and made at least one step
 abbrev pub invariant-nodes : goal.invariant-nodes
 invariant-nodes g l = record {
   table : l.hand.table ≡ l.initial.hand.table;
-  most : l.most ≡ 16 * l.hand.part.seats + 1;
-  few : l.hand.part.seats ≤ 16;
-  stands : StandsAt l.hand.part.core;
+  come : HasComeTo l.initial.hand.part l.hand.part l.most;
   own : l.hand.part.core.own ≡ Nothing;
-  seen : seen_of l.hand.part.core.cursor ≤ l.most;
-  later : IsLaterInWalk l.initial.hand.part l.hand.part;
-  walk : IsSameWalk l.initial.hand.part l.hand.part;
   least : l.initial.hand.part.trace.taken + seen_of l.hand.part.core.cursor ≤ l.hand.part.trace.taken + seen_of l.initial.hand.part.core.cursor;
   judged : judged_in l.hand.part.trace.looked ≡ judged_in l.initial.hand.part.trace.looked;
-  taken : l.hand.part.trace.taken + 3 * seen_of l.initial.hand.part.core.cursor ≤ l.initial.hand.part.trace.taken + 3 * seen_of l.hand.part.core.cursor;
   counted : l.steps + l.initial.hand.part.trace.taken ≡ l.initial.steps + l.hand.part.trace.taken;
 }
 
