@@ -22,4 +22,5 @@ returns-clause-spliced g c =
 -- block 0 has at most 64 rows still
 pub returns-clause-short : goal.returns-clause-short
 returns-clause-short g c =
-    stays_short c.args.blocks _ _ c.make_room-to.result.block (length c.args.more.now) (omega arith) c.make_room-to.ensures.first c.make_room-to.ensures.short c.insert_all.ensures.grown c.insert_all.ensures.others
+    stays_short c.args.blocks _ _ c.make_room-to.result.block (length c.args.more.now) (omega arith) c.make_room-to.ensures.first
+    c.make_room-to.ensures.short c.insert_all.ensures.grown c.insert_all.ensures.others

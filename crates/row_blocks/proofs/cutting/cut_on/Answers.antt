@@ -8,7 +8,8 @@ use Rattle.row_blocks.proofs.cutting.cut_on.Goals as goal
 pub returns-then-end-first-clause-spliced : goal.returns-then-end-first-clause-spliced
 returns-then-end-first-clause-spliced g c =
     let was = c.cut_blocks-end.ensures in
-    let begin = count_told c.args.blocks _ _ _ was.before ∙ ap (count_to c.args.blocks (g.W.Loads.words c.args.words.now c.args.hand.now)) c.if-end-first.true in
+    let one = g.W.Loads.words c.args.words.now c.args.hand.now in
+    let begin = count_told c.args.blocks _ _ _ was.before ∙ ap (count_to c.args.blocks one) c.if-end-first.true in
     same_splice [] was.spliced refl begin refl
 
 -- or of whole blocks, and of the one behind them

@@ -65,4 +65,5 @@ returns-clause-spliced g c =
     let same = same_layout lay.layout in
     let before = same.before c.lay-to-2.result.block in
     let rank_two = lay.rank in
-    laid_then _ more [] _ (c.args.gone - length more) (omega arith) lay.spliced c.cut.ensures.spliced (omega arith) (omega arith) (omega arith) (append-nil more)
+    laid_then _ more [] _ (c.args.gone - length more) (omega arith) lay.spliced c.cut.ensures.spliced (omega arith) (omega arith) (omega arith)
+    (append-nil more)

@@ -46,7 +46,8 @@ changed-requires-clause-room g c =
 -- a change has named bits alone
 pub changed-requires-clause-named : goal.changed-requires-clause-named
 changed-requires-clause-named g c =
-    judged-named _ c.args.call.now c.in-Changes.change (areas_named (g.R.Rows.words c.args.old.now c.args.hand.now)) c.requires.named c.in-Changes.ensures.judged
+    judged-named _ c.args.call.now c.in-Changes.change (areas_named (g.R.Rows.words c.args.old.now c.args.hand.now)) c.requires.named
+    c.in-Changes.ensures.judged
 
 -- and is the plan, as it is made after the looks
 pub returns-in-Changes-clause-plan : goal.returns-in-Changes-clause-plan
@@ -68,12 +69,14 @@ returns-in-Changes-clause-few g c =
 pub returns-in-Changes-clause-changes : goal.returns-in-Changes-clause-changes
 returns-in-Changes-clause-changes g c =
     let undecided : plain_reply c.args.call.now ≡ None = search rules in
-    change_made _ c.args.call.now c.in-Changes.change c.changed.result.reply c.changed.result.cut c.changed.new.new.items undecided c.in-Changes.ensures.judged c.changed.ensures.changes
+    change_made _ c.args.call.now c.in-Changes.change c.changed.result.reply c.changed.result.cut c.changed.new.new.items undecided
+    c.in-Changes.ensures.judged c.changed.ensures.changes
 
 -- a refused change leaves them
 pub returns-in-Changes-clause-refused : goal.returns-in-Changes-clause-refused
 returns-in-Changes-clause-refused g c =
-    change_refused _ c.args.call.now c.in-Changes.change c.changed.result.reply c.changed.result.cut c.changed.new.new.items c.in-Changes.ensures.judged c.changed.ensures.changes
+    change_refused _ c.args.call.now c.in-Changes.change c.changed.result.reply c.changed.result.cut c.changed.new.new.items
+    c.in-Changes.ensures.judged c.changed.ensures.changes
 
 -- a call that its arguments decide takes no load
 pub returns-in-Some-clause-loads : goal.returns-in-Some-clause-loads

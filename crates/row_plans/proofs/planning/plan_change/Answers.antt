@@ -178,5 +178,6 @@ returns-clause-steps g c =
     let gone = gone_through g (goal.at.returns-clause-steps g c).After-put_second-last in
     let run = come_between _ _ _ _ _ _ _ (g.R.Rows.are_rows c.args.old.now c.args.hand.now c.requires.may).show c.begin-begun.ensures.come.before
     gone.before c.begin-begun.ensures.before in
-    let at = ap (g.R.Rows.number c.args.old.now c.args.hand.now) (c.put_second-last.ensures.at ∙ c.put_to-next.ensures.at) in let before = c.begin-begun.ensures.before in
+    let at = ap (g.R.Rows.number c.args.old.now c.args.hand.now) (c.put_second-last.ensures.at ∙ c.put_to-next.ensures.at) in
+    let before = c.begin-begun.ensures.before in
     omega (arith, c.begin-begun.ensures.steps, c.put_to-next.ensures.steps, c.put_second-last.ensures.steps, c.join_on.ensures.steps)
