@@ -1,4 +1,4 @@
-use Rattle.std.proofs.Common.{ℕ, ◌+◌, ◌-◌, ◌*◌, ◌≤◌}
+use Rattle.std.proofs.Common.{◌+◌, ◌-◌, ◌*◌, ◌≤◌}
 use Rattle.row_blocks.specs.Moves.{IsCopied}
 use Rattle.row_blocks.proofs.Steps.{HasStepped}
 use Rattle.row_blocks.proofs.moves.copy.Given as goal

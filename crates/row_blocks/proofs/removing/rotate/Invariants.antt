@@ -1,4 +1,4 @@
-use Rattle.std.proofs.Common.{ℕ, ◌+◌, ◌-◌, ◌*◌, ◌≤◌}
+use Rattle.std.proofs.Common.{◌+◌, ◌-◌, ◌*◌, ◌≤◌}
 use Rattle.row_blocks.specs.Blocks.{AreBodies}
 use Rattle.row_blocks.specs.Moves.{IsRotated}
 use Rattle.row_blocks.proofs.Steps.{HasStepped}

@@ -1,4 +1,4 @@
-use Rattle.std.proofs.Common.{◌<◌, refl, arith}
+use Rattle.std.proofs.Common.{refl, arith}
 use Rattle.row_plans.proofs.PlanLeft.{as_they_were}
 use Rattle.row_plans.proofs.plan.unchanged.Goals as goal
 
