@@ -119,7 +119,8 @@ pub row_before : (rows : List ℕ) (kinds : ℕ → Option Kind) (i : ℕ) {star
     → i < length rows → start ≡ row_start (get_or rows i 0) → kind ≡ row_kind (get_or rows i 0) → 0 < start → kinds (start - 1) ≢ kind
 row_before rows kinds i show lt s k = rw (s, k) (row_before_by rows kinds i show lt)
 
--- a search for the highest place has come down to a row: the page before it is of another kind, and no place ends behind it
+-- a search for the highest place has come down to a row: the page before it is of another kind, and no place ends
+-- behind it
 pub record HasCome (rows : List ℕ) (kinds : ℕ → Option Kind) (i window pages start end : ℕ) (kind : Option Kind) : Type 0 where
   pub row : RowPages rows kinds i start end kind
   pub before : 0 < start → kinds (start - 1) ≢ kind
