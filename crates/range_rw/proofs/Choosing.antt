@@ -2,14 +2,13 @@
 -- what that leaves of the list is what it leaves of the seat.
 use Rattle.std.proofs.Common.{◌≡◌, ◌≢◌, ◌↔◌, ℕ, zero, suc, ◌+◌, ◌-◌, ◌*◌, ◌<◌, ◌%◌, Bool, true, false, inr, inl, refl}
 use Rattle.std.proofs.Common.{sym, ap, ◌∙◌, subst, arith, eq-eqb, eqb-true}
-use Rattle.std.specs.Prelude.{map, get_or, Option, Some, None, ◌&&◌, ◌||◌, ◌==◌, if◌then◌else◌}
+use Rattle.std.specs.Prelude.{map, get_or, Option, Result, Some, None, OnOk, OnErr, ◌&&◌, ◌||◌, ◌==◌, if◌then◌else◌}
 use mathlib.Core.Logic.{dite}
 use native.Mathlib.Decide.{ℕ_discrete}
 use Rattle.atomic_table.specs.Seated.{TableId}
 use Rattle.lock_core.specs.Range.{Interval}
 use Rattle.lock_core.specs.declared.range.Held.{Held}
 use Rattle.list_cuts.specs.Cut.{Regions, list_count, TakesOne, TakesTwo}
-use Rattle.list_cuts.proofs.Cutting.{takes_there, takes_behind}
 use Rattle.lock_core.specs.declared.views.View.{View}
 use Rattle.lock_core.specs.declared.views.Own.TheVariants.{Nothing}
 use Rattle.lock_core.specs.Machine.{held_at, numbers_from}
@@ -28,8 +27,8 @@ use Rattle.range_rw.specs.Contract.{SeatState, Pools, IsLongRefusal, IsReadyLeft
 use Rattle.range_rw.specs.Contract.{AsksOnly, OpenScan, WorksIn, TellsList, KeepsOthers, StandsIn, pools_at, in_list}
 use Rattle.range_rw.specs.Seats.{counted_in, pools_of, scan_of, walk_of, placed_scan, placed_in, seat_state_in, seat_state_of}
 use Rattle.range_rw.specs.Trying.{IsLaterInTry}
-use Rattle.range_rw.specs.Several.{list_state, IsLaterInLists, IsFreeSeat, HoldsAlone, IsCauseIn, ShowsOthers}
-use Rattle.range_rw.proofs.Pieces.{own_at, own_each, only_stays, ready_stays, here_state, rests_free}
+use Rattle.range_rw.specs.Several.{list_state, HasLeft, IsLaterInLists, IsFreeSeat, HoldsAlone, IsCauseIn, IsHoldCall, IsWorkFor, ShowsOthers}
+use Rattle.range_rw.proofs.Pieces.{err_free, ok_on, own_at, own_each, only_stays, ready_stays, here_state, rests_free}
 use Rattle.range_rw.proofs.Taking.{cause_within}
 use Rattle.range_rw.proofs.Asking.{asks_from}
 use Rattle.range_rw.proofs.Moves.{lists_on, narrow_counts, wide_counts}
@@ -41,6 +40,16 @@ pub record Here {P : Type 0} (p q : SeatPart (Beside P)) : Type 0 where
   pub later : IsLaterInTry p q
   pub outside : IsOutside q.core
   pub cursor : q.core.cursor ≡ None
+
+-- where a range stands, by how it counts: with one list in that, with several in the one that it takes, or in list 0
+pub stands_first : {c : Regions} {range : Interval} {s : Standing} → TakesOne c range 0 → s ≡ Free → StandsIn c range (counted_in s)
+stands_first {c} {range} {s} one is = subst (λ t. StandsIn c range (counted_in t)) (sym is) (inl one)
+
+pub stands_narrow : {c : Regions} {range : Interval} {at : ℕ} {s : Standing} → TakesOne c range at → s ≡ Narrow at → StandsIn c range (counted_in s)
+stands_narrow {c} {range} {at} {s} one is = subst (λ t. StandsIn c range (counted_in t)) (sym is) (inl one)
+
+pub stands_wide : {c : Regions} {range : Interval} {n : ℕ} {s : Standing} → TakesTwo c range → s ≡ Wide n → StandsIn c range (counted_in s)
+stands_wide {c} {range} {n} {s} two is = subst (λ t. StandsIn c range (counted_in t)) (sym is) (inr (two, refl))
 
 module _ {P : Type 0} where
   -- a seat that holds nothing may sweep the list to which it is turned
@@ -56,9 +65,9 @@ module _ {P : Type 0} where
       → is_counted q.pass.lists q.pass.standing q.pass.list ≡ true
   alone_narrow {at} {asked} {q} h s = ap (λ t. is_counted q.pass.lists t q.pass.list) s ∙ narrow_counts q.pass.lists at q.pass.list h.turned
 
-  pub alone_wide : {asked : Held} {q : SeatPart (Beside P)} → HoldsAlone 0 asked q → q.pass.standing ≡ Wide q.pass.lists
+  pub alone_wide : {at : ℕ} {asked : Held} {q : SeatPart (Beside P)} → at ≡ 0 → HoldsAlone at asked q → q.pass.standing ≡ Wide q.pass.lists
       → is_counted q.pass.lists q.pass.standing q.pass.list ≡ true
-  alone_wide {asked} {q} h s = ap (λ t. is_counted q.pass.lists t q.pass.list) s ∙ wide_counts q.pass.lists q.pass.list h.turned
+  alone_wide {at} {asked} {q} e h s = ap (λ t. is_counted q.pass.lists t q.pass.list) s ∙ wide_counts q.pass.lists q.pass.list (h.turned ∙ e)
 
   -- with one list all that is held counts
   pub one_counts : (b : Beside P) → b.lists ≡ 1 → is_counted b.lists b.standing b.list ≡ true
@@ -75,11 +84,11 @@ module _ {P : Type 0} where
     here_rests = record { outside = h.outside.even; cursor = h.cursor; hand = h.outside.hand }
 
     -- what a call of a try leaves of the list it leaves of the seat
-    pub here_later : IsLaterInLists p q
+    here_later : IsLaterInLists p q
     here_later = try_lists p q h.later
 
     -- nothing that counted before counts by another list
-    pub here_standing : q.pass.standing ≡ Free
+    here_standing : q.pass.standing ≡ Free
     here_standing = ap (λ (b : Beside P). b.standing) h.later.pass ∙ h.free.standing
 
     pub here_ready : IsReadyLeft p.core.ready q.core.ready → (j : ℕ) → IsReadyLeft (shown_core p j).ready (shown_core q j).ready
@@ -100,10 +109,10 @@ module _ {P : Type 0} where
     )
 
     -- with one list there is no other
-    pub here_others : (c : Regions) (range : Interval) → p.pass.list ≡ 0 → ShowsOthers c range p q
+    here_others : (c : Regions) (range : Interval) → p.pass.list ≡ 0 → ShowsOthers c range p q
     here_others c range first j none = here_only j (λ e. none (inl (e ∙ first)))
 
-    pub here_alone : {asked : Held} → held_at q.core.own ≡ Some asked → HoldsAlone q.pass.list asked q
+    here_alone : {asked : Held} → held_at q.core.own ≡ Some asked → HoldsAlone q.pass.list asked q
     here_alone {asked} held = record {
       rests = here_rests;
       turned = λ i. q.pass.list;
@@ -111,28 +120,27 @@ module _ {P : Type 0} where
       others = λ j away. ap (λ (v : View). v.own) (here_only j (λ e. away (e ∙ sym here_list))) ∙ h.free.free j;
     }
 
-    pub here_free : q.core.own ≡ Nothing → IsFreeSeat q
+    here_free : q.core.own ≡ Nothing → IsFreeSeat q
     here_free own = record {
       rests = here_rests;
       free = own_each p.pass.list q here_list own (λ j away. ap (λ (v : View). v.own) (here_only j away) ∙ h.free.free j);
       standing = here_standing;
     }
 
--- where a range stands, by how it counts: with one list in that, with several in the one that it takes, or in list 0
-pub stands_first : {c : Regions} {range : Interval} {s : Standing} → TakesOne c range 0 → s ≡ Free → StandsIn c range (counted_in s)
-stands_first {c} {range} {s} one is = subst (λ t. StandsIn c range (counted_in t)) (sym is) (inl one)
-
-pub stands_narrow : {c : Regions} {range : Interval} {at : ℕ} {s : Standing} → TakesOne c range at → s ≡ Narrow at → StandsIn c range (counted_in s)
-stands_narrow {c} {range} {at} {s} one is = subst (λ t. StandsIn c range (counted_in t)) (sym is) (inl one)
-
-pub stands_wide : {c : Regions} {range : Interval} {n : ℕ} {s : Standing} → TakesTwo c range → s ≡ Wide n → StandsIn c range (counted_in s)
-stands_wide {c} {range} {n} {s} two is = subst (λ t. StandsIn c range (counted_in t)) (sym is) (inr (two, refl))
-
--- with several lists the one that a range takes alone is behind list 0, and there
-pub narrow_list : {c : Regions} {range : Interval} {at : ℕ} (lists : ℕ) → 0 < c.count → lists ≡ list_count c → list_count c ≢ 1 → TakesOne c range at
-    → (0 < at) × (at < lists)
-narrow_list {c} {range} {at} lists some all many one =
-    let less = takes_there c range at some one.takes in (takes_behind c range at some many one.takes, omega arith)
+    -- so with one list, which each range takes alone, what is held there is granted, and what is refused leaves nothing
+    pub here_call : {A E : Type 0} {r : Result A E} (c : Regions) (asked : Held) → p.pass.list < p.pass.lists → p.pass.lists ≡ 1 → TakesOne c asked.range 0
+        → AsksOnly asked p.trace.asked q.trace.asked → OnOk r (held_at q.core.own ≡ Some asked) → OnErr r (q.core.own ≡ Nothing)
+        → IsHoldCall c asked p q r
+    here_call {A} {E} {r} c asked there one takes asks held free = record {
+      work = record { later = here_later; asks = asks; only = here_others c asked.range (omega arith) };
+      held = ok_on r (λ own. record {
+        held = here_alone own;
+        counts = one_counts q.pass (let l = here_later.lists in omega arith);
+        one = λ e. here_standing;
+        stands = stands_first takes here_standing;
+      }) held;
+      free = err_free r here_free free;
+    }
 
 -- leaving an epoch leaves the ready nodes of every list
 pub left_ready : {P : Type 0} (p m : SeatPart (Beside P)) → IsLaterInTry p m → m.core.ready ≡ p.core.ready
@@ -144,6 +152,15 @@ pub record Left {P : Type 0} (was at now : TableId) (p m q : SeatPart (Beside P)
   pub later : IsLaterInTry p m
   pub ready : (j : ℕ) → (shown_core m j).ready ≡ (shown_core p j).ready
   pub lists : q.pass.lists ≡ m.pass.lists
+
+-- by what leaving it and the call behind it leave
+pub left_by : {P : Type 0} (was at now : TableId) {p m q : SeatPart (Beside P)} {c : Regions} {lists : ℕ} → HasLeft c lists p m → IsLaterInLists m q
+    → Left was at now p m q
+left_by was at now {p} {m} left on = record {
+  later = left.later;
+  ready = left_ready p m left.later left.ready;
+  lists = on.lists;
+}
 
 module _ {P : Type 0} {was at now : TableId} {p m q : SeatPart (Beside P)} (left : Left was at now p m q) where
   walk_on : {b s : SeatState P} (c d : SeatState P) → b.trace.taken ≡ m.trace.taken → (s.trace.looked ≡ q.trace.looked) × (s.trace.taken ≡ q.trace.taken) →
@@ -239,14 +256,13 @@ pub record Called {P : Type 0} (c : Regions) (range : Held) (before after : Seat
   pub only : before.scan ≡ None → KeepsOthers c range.range before after
 
 -- by what its hand shows before, once it is outside its epoch, and after
-pub called_by : {P : Type 0} {was now : TableId} {p m q : SeatPart (Beside P)} {c : Regions} {range : Held} → now ≡ was → IsLaterInTry p m
-    → (p.core.epoch % 2 ≡ 0 → m ≡ p) → m.pass.lists ≡ list_count c → m.trace.asked ≡ p.trace.asked → IsLaterInLists m q
-    → AsksOnly range m.trace.asked q.trace.asked → ShowsOthers c range.range m q
-    → Called c range (seat_state_of (record { table = was; part = p })) (seat_state_of (record { table = now; part = q }))
-called_by {P} {was} {now} {p} {m} {q} {c} {range} same left stays lists asked later asks only =
-    let first = try_lists p m left in let all = lists_on first later in
+pub called_by : {P : Type 0} {was now : TableId} {p m q : SeatPart (Beside P)} {c : Regions} {lists : ℕ} {range : Held} → now ≡ was → HasLeft c lists p m
+    → IsWorkFor c range m q → Called c range (seat_state_of (record { table = was; part = p })) (seat_state_of (record { table = now; part = q }))
+called_by {P} {was} {now} {p} {m} {q} {c} {lists} {range} same left work =
+    let first = try_lists p m left.later in let all = lists_on first work.later in
     record {
       call = lists_call was now p q same all;
-      asks = asks_from asked asks;
-      only = λ closed. others_kept was now p m q c range.range (sym first.lists ∙ lists) all.lists (stays (closed_even p closed)) only;
+      asks = asks_from left.asked work.asks;
+      only = λ closed. others_kept was now p m q c range.range (sym first.lists ∙ (sym left.lists.shown ∙ left.lists.many)) all.lists
+          (left.same (closed_even p closed)) work.only;
     }

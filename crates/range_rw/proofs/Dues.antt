@@ -1,25 +1,35 @@
 -- What follows where a range has a list still to look at, alike for a narrow range and for a wide one.
+use Rattle.std.proofs.Common.{◌≡◌, ◌≢◌, ◌⊎◌, ◌↔◌, ℕ, ◌+◌, ◌<◌, ◌≤◌, Bool, true, false, Result, Ok, Err, zero, suc, inl, inr, ⊎_elim}
+use Rattle.std.proofs.Common.{sym, ap, ◌∙◌, subst, refl, arith}
 use Rattle.std.specs.Prelude.{Some}
-use Rattle.std.proofs.lemmas.Option.{same_Some}
-use Rattle.std.proofs.Common.{◌≡◌, ◌≢◌, ◌⊎◌, ℕ, ◌<◌, ◌≤◌, false, zero, suc, inl, inr, ⊎_elim, sym, ap, ◌∙◌, subst, refl, arith}
-use Rattle.list_cuts.specs.Cut.{Regions, Takes, TakesOne}
+use mathlib.Core.Logic.{dite}
+use native.Mathlib.Decide.{dec_le, ℕ_discrete}
+use Rattle.atomic_table.specs.Seated.{TableId}
+use Rattle.list_cuts.specs.Cut.{Regions, TakesOne}
 use Rattle.lock_core.specs.Range.{Interval}
 use Rattle.lock_core.specs.declared.range.Held.{Held}
+use Rattle.lock_core.specs.declared.views.View.{View}
+use Rattle.lock_core.specs.declared.views.Own.TheVariants.{Nothing}
+use Rattle.lock_core.specs.Machine.{held_at}
 use Rattle.epoch_pools.specs.declared.views.SeatPart.{SeatPart}
 use Rattle.epoch_pools.specs.declared.views.Beside.{Beside}
 use Rattle.epoch_pools.specs.declared.views.Standing.{Standing}
 use Rattle.epoch_pools.specs.declared.views.Standing.TheVariants.{Free, Narrow, Wide}
-use Rattle.epoch_pools.specs.Passing.{MayPass, after_look}
+use Rattle.epoch_pools.specs.Passing.{after_look, standing_by}
 use Rattle.epoch_pools.specs.Standings.{is_counted, standing_back, passed_by}
 use Rattle.epoch_pools.specs.Beside.{shown_core}
 use Rattle.epoch_pools.specs.Hands.{IsResting, turned}
-use Rattle.lock_core.specs.declared.views.View.{View}
-use Rattle.lock_core.specs.Machine.{held_at}
-use Rattle.lock_core.specs.declared.views.Own.TheVariants.{Nothing}
-use Rattle.range_rw.specs.Several.{IsLaterInLists, IsPiece, HoldsAlone, HoldsIn}
-use Rattle.range_rw.specs.Looks.{MayLook, IsDue, IsNarrowDue, IsWideDue, standing_for}
-use Rattle.range_rw.proofs.Moves.{narrow_beside, narrow_back, wide_beside, wide_back, lists_on, turn_on, turn_asks, look_on, look_asks, look_shows}
-use Rattle.range_rw.proofs.Moves.{holds_on, holds_turned, holds_looked}
+use Rattle.marked_list.specs.Causes.{IsSpent}
+use Rattle.range_rw.specs.declared.refusals.NotHeld.{NotHeld}
+use Rattle.range_rw.specs.Contract.{AsksOnly, IsLongRefusal, IsReadyLeft, WorksIn}
+use Rattle.range_rw.specs.Several.{IsLaterInLists, IsPiece, MayLinkIn, MayGiveIn, IsLinkedIn, IsFreedIn, IsFreeSeat, HoldsAlone, HoldsIn, IsCauseAt}
+use Rattle.range_rw.specs.Several.{HasLists, HasPassed, TakesNone, IsGranted, IsWorkFor}
+use Rattle.range_rw.specs.Looks.{MayLook, IsDue, IsNarrowDue, IsWideDue, IsHome, LooksAt, LooksAtAll, standing_for}
+use Rattle.range_rw.proofs.Asking.{asks_from, asks_on, asks_stay}
+use Rattle.range_rw.proofs.Pieces.{err_free, err_on, ok_on}
+use Rattle.range_rw.proofs.Moves.{narrow_beside, narrow_back, wide_beside, wide_back, free_beside, lists_on, turn_on, turn_asks, look_on, look_asks, look_shows}
+use Rattle.range_rw.proofs.Moves.{holds_on, holds_turned, holds_looked, piece_free, ready_each, ready_from, some_held, cause_on}
+use Rattle.range_rw.proofs.Choosing.{alone_there, alone_narrow, alone_wide, stands_narrow, stands_wide}
 
 -- a wide range stands as having passed
 pub standing_wide : (own up : ℕ) → own ≡ 0 → standing_for own up ≡ Wide up
@@ -85,19 +95,38 @@ module _ {P : Type 0} {c : Regions} {range : Interval} {own at up : ℕ} {p : Se
       (sym (standing_wide own up w.first)) (wide_back up at (λ e. let a = w.low in omega arith)))
       due
 
--- a wide range that may pass a list has it due
-pub due_wide : {P : Type 0} {c : Regions} {at up : ℕ} {p : SeatPart (Beside P)} (asked : Held) → 0 < at → held_at p.core.own ≡ Some asked
-    → MayPass c p at up → IsDue c asked.range p 0 at up
-due_wide {P} {c} {at} {up} {p} asked low held may = inr (record {
-  first = refl;
-  low = low;
-  standing = may.standing;
-  from = may.from;
-  below = may.below;
-  most = may.most;
-  others = subst (λ (h : Held). (other : ℕ) → passed_by p.pass.standing ≤ other → other < up → other ≢ at → Takes c h.range other → ⊥)
-      (same_Some may.range asked (sym may.held ∙ held)) may.others;
-})
+-- a narrow range of which nothing counts has list 0 due
+pub due_first : {P : Type 0} {c : Regions} {range : Interval} {own lists up : ℕ} {p : SeatPart (Beside P)} → IsHome c range lists own → lists ≡ p.pass.lists
+    → own ≢ 0 → p.pass.standing ≡ Free → IsDue c range p own 0 up
+due_first home many differ free =
+    inl (record { low = omega arith; there = let t = home.there in omega arith; first = refl; takes = home.narrow differ; free = free })
+
+-- a wide range has the next list due that it takes
+pub due_next : {P : Type 0} (c : Regions) (at up : ℕ) (range : Interval) (p : SeatPart (Beside P)) → 1 ≤ at → HasPassed c range at p
+    → TakesNone c range (at + 1) up → at + 1 ≤ up → up ≤ p.pass.lists → IsDue c range p 0 at up
+due_next c at up range p low passed none next most = inr (⊎_elim
+    (λ (x : (p.pass.standing ≡ Free) × TakesNone c range 0 at). record {
+      first = refl;
+      low = low;
+      standing = inl x.0;
+      from = subst (λ (s : Standing). passed_by s ≤ at) (sym x.0) (omega arith);
+      below = omega arith;
+      most = most;
+      others = λ other from below differ t. dite (dec_le (suc other) at)
+          (λ less. x.1 other (omega arith) less t)
+          (λ no. none other (omega arith) below t);
+    })
+    (λ (e : p.pass.standing ≡ Wide at). record {
+      first = refl;
+      low = low;
+      standing = inr (at, e);
+      from = subst (λ (s : Standing). passed_by s ≤ at) (sym e) (omega arith);
+      below = omega arith;
+      most = most;
+      others = λ other from below differ t.
+          none other (let f : at ≤ other = subst (λ (s : Standing). passed_by s ≤ other) e from in omega arith) below t;
+    })
+    passed)
 
 -- the seat may look there, where its hand is turned to the list that holds the range
 pub may_look : {P : Type 0} {c : Regions} {own at up : ℕ} {p : SeatPart (Beside P)} (asked : Held) → IsDue c asked.range p own at up
@@ -133,47 +162,210 @@ may_look {P} {c} {own} {at} {up} {p} asked due way held = ⊎_elim
     })
     due
 
+-- a node may be linked in the list that is looked at
+pub due_links : {P : Type 0} {c : Regions} {asked : Held} {own at up : ℕ} {p : SeatPart (Beside P)} → IsDue c asked.range p own at up
+    → HoldsIn own asked p → MayLinkIn at p
+due_links {P} {c} {asked} {own} {at} due holds =
+    record { there = due_there due; resting = holds.rests; free = holds.others at (due_differ due) }
+
+-- calls after which a range is held and stands as before: they ask for nothing, and leave the ready nodes of the list
+-- `at`, and each other list
+pub record Quiet {P : Type 0} (at : ℕ) (p m : SeatPart (Beside P)) : Type 0 where
+  pub later : IsLaterInLists p m
+  pub asked : m.trace.asked ≡ p.trace.asked
+  pub standing : m.pass.standing ≡ p.pass.standing
+  pub ready : (shown_core m at).ready ≡ (shown_core p at).ready
+  pub only : (j : ℕ) → j ≢ at → shown_core m j ≡ shown_core p j
+
 -- another list than the one that holds the range is swept, and the hand turns back
 pub record Swept {P : Type 0} (home other : ℕ) (asked : Held) (p w t : SeatPart (Beside P)) : Type 0 where
   pub differ : other ≢ home
   pub holds : HoldsIn home asked p
-  pub sweep : IsPiece other p w
-  pub standing : w.pass.standing ≡ p.pass.standing
-  pub free : w.core.own ≡ Nothing
+  pub sweep : IsFreedIn other p.pass.standing p w
   pub turn : t ≡ turned w home
   pub stays : (j : ℕ) → shown_core t j ≡ shown_core w j
   pub rests : IsResting t.core
 
-module _ {P : Type 0} {home other : ℕ} {asked : Held} {p w t : SeatPart (Beside P)} (swept : Swept home other asked p w t) where
+pub swept_by : {P : Type 0} {c : Regions} {asked : Held} {own at up : ℕ} {p w t : SeatPart (Beside P)} → IsDue c asked.range p own at up → HoldsIn own asked p
+    → IsFreedIn at p.pass.standing p w → t ≡ turned w own → ((j : ℕ) → shown_core t j ≡ shown_core w j) → IsResting t.core → Swept own at asked p w t
+swept_by due holds sweep turn stays rests =
+    record { differ = due_differ due; holds = holds; sweep = sweep; turn = turn; stays = stays; rests = rests }
+
+-- a list in which the call doesn't work isn't one in which it works
+works_not : {c : Regions} {range : Interval} {at j : ℕ} → WorksIn c range at → (WorksIn c range j → ⊥) → j ≢ at
+works_not {c} {range} works none e = none (subst (WorksIn c range) (sym e) works)
+
+-- the call works in the list that holds the range
+pub home_works : {c : Regions} {range : Interval} {lists own : ℕ} → IsHome c range lists own → WorksIn c range own
+home_works {c} {range} {lists} {own} home = dite (ℕ_discrete own 0) (λ e. inl e) (λ far. inr (home.narrow far).takes)
+
+module _ {P : Type 0} where
   -- the range is held as before, and the hand is turned to it
-  pub swept_alone : HoldsAlone home asked t
-  swept_alone = holds_turned swept.turn swept.stays swept.rests (holds_on (λ e. swept.differ (sym e)) swept.holds swept.sweep swept.free)
+  pub swept_alone : {home other : ℕ} {asked : Held} {p w t : SeatPart (Beside P)} → Swept home other asked p w t → HoldsAlone home asked t
+  swept_alone swept = holds_turned swept.turn swept.stays swept.rests (holds_on (λ e. swept.differ (sym e)) swept.holds swept.sweep.piece swept.sweep.free)
 
-  pub swept_lists : t.pass.lists ≡ p.pass.lists
-  swept_lists = ap (λ (x : SeatPart (Beside P)). x.pass.lists) swept.turn ∙ swept.sweep.later.lists
+  -- the sweep and the turn are such calls
+  pub swept_quiet : {home other : ℕ} {asked : Held} {p w t : SeatPart (Beside P)} → Swept home other asked p w t → Quiet other p t
+  swept_quiet {home} {other} {asked} {p} {w} swept = record {
+    later = lists_on swept.sweep.piece.later (turn_on w swept.turn);
+    asked = turn_asks w swept.turn ∙ swept.sweep.asked;
+    standing = ap (λ (x : SeatPart (Beside P)). x.pass.standing) swept.turn ∙ swept.sweep.standing;
+    ready = ap (λ (v : View). v.ready) (swept.stays other) ∙ swept.sweep.ready;
+    only = λ j away. swept.stays j ∙ swept.sweep.piece.only j away;
+  }
 
-  pub swept_standing : t.pass.standing ≡ p.pass.standing
-  swept_standing = ap (λ (x : SeatPart (Beside P)). x.pass.standing) swept.turn ∙ swept.standing
+  -- and so is a look that found the list not empty
+  pub look_quiet : (s : Standing) {at : ℕ} {p q : SeatPart (Beside P)} {b : Bool} → q ≡ after_look p (standing_by b s p) → b ≡ false → Quiet at p q
+  look_quiet s {at} {p} is isnt = record {
+    later = look_on p is;
+    asked = look_asks p is;
+    standing = ap (λ (x : SeatPart (Beside P)). x.pass.standing) is ∙ ap (λ (y : Bool). standing_by y s p) isnt;
+    ready = ap (λ (v : View). v.ready) (look_shows p is at);
+    only = λ j away. look_shows p is j;
+  }
 
-  -- and then the list is looked at
-  module _ {s : Standing} {h : SeatPart (Beside P)} (look : h ≡ after_look t s) where
-    pub looked_later : IsLaterInLists p h
-    looked_later = lists_on (lists_on swept.sweep.later (turn_on w swept.turn)) (look_on t look)
+  -- such calls one after another
+  pub quiet_on : {at : ℕ} {p m q : SeatPart (Beside P)} → Quiet at p m → Quiet at m q → Quiet at p q
+  quiet_on a b = record {
+    later = lists_on a.later b.later;
+    asked = b.asked ∙ a.asked;
+    standing = b.standing ∙ a.standing;
+    ready = b.ready ∙ a.ready;
+    only = λ j away. b.only j away ∙ a.only j away;
+  }
 
-    pub looked_alone : HoldsAlone home asked h
-    looked_alone = holds_looked look swept_alone
+  -- what a look comes to behind them
+  pub looks_from : {A : Type 0} {first next : TableId} {own at : ℕ} {asked : Held} {s : Standing} {p m q : SeatPart (Beside P)} {r : Result A NotHeld}
+      → next ≡ first → Quiet at p m → LooksAt next own at asked s m q r → LooksAt first own at asked s p q r
+  looks_from {A} {first} {next} {own} {at} {asked} {s} {p} {m} {q} {r} same quiet rest = record {
+    later = lists_on quiet.later rest.later;
+    asks = asks_from quiet.asked rest.asks;
+    ready = ready_from quiet.ready rest.ready;
+    only = λ j away. rest.only j away ∙ quiet.only j away;
+    done = rest.done;
+    kept = err_free r (λ h. (h.0, h.1 ∙ quiet.standing)) rest.kept;
+    cause = err_on _ _ r (cause_on at q same quiet.later quiet.ready asked) rest.cause;
+    long = rest.long;
+  }
 
-    looked_shows : (j : ℕ) → shown_core h j ≡ shown_core w j
-    looked_shows j = look_shows t look j ∙ swept.stays j
+  -- one that found the list empty: the range is held as it was, and counts there
+  pub look_clear : {A : Type 0} {x : A} {table : TableId} {own at : ℕ} {asked : Held} {s : Standing} {p q : SeatPart (Beside P)} {b : Bool}
+      → HoldsAlone own asked p → q ≡ after_look p (standing_by b s p) → b ≡ true → LooksAt table own at asked s p q (Ok x)
+  look_clear {A} {x} {table} {own} {at} {asked} {s} {p} {q} alone is clear = record {
+    later = look_on p is;
+    asks = asks_stay (look_asks p is);
+    ready = inr (inl (ap (λ (v : View). v.ready) (look_shows p is at)));
+    only = λ j away. look_shows p is j;
+    done = (holds_looked is alone, ap (λ (x : SeatPart (Beside P)). x.pass.standing) is ∙ ap (λ (y : Bool). standing_by y s p) clear);
+    kept = tt;
+    cause = tt;
+    long = tt;
+  }
 
-    -- each other list is as it was
-    pub looked_only : (j : ℕ) → j ≢ other → shown_core h j ≡ shown_core p j
-    looked_only j away = looked_shows j ∙ swept.sweep.only j away
+  -- what it comes to where a piece of work in that list refuses, and leaves the seat no node there
+  pub look_refused : {A : Type 0} {table : TableId} {own at : ℕ} {asked : Held} {s : Standing} {p q : SeatPart (Beside P)} {why : NotHeld} → at ≢ own
+      → HoldsIn own asked p → IsPiece at p q → AsksOnly asked p.trace.asked q.trace.asked → q.pass.standing ≡ p.pass.standing → q.core.own ≡ Nothing
+      → IsReadyLeft (shown_core p at).ready (shown_core q at).ready → IsCauseAt table at p q asked why → (IsLongRefusal why ↔ IsSpent q)
+      → LooksAt {A = A} table own at asked s p q (Err why)
+  look_refused differ holds piece asks standing free ready cause long = record {
+    later = piece.later;
+    asks = asks;
+    ready = ready;
+    only = piece.only;
+    done = tt;
+    kept = (holds_on (λ e. differ (sym e)) holds piece free, standing);
+    cause = cause;
+    long = (λ l. (long.0 l).0, λ spent. long.1 (spent, ap held_at free));
+  }
 
-    -- a sweep that leaves the ready nodes leaves them
-    pub looked_ready : (shown_core w other).ready ≡ (shown_core p other).ready → (shown_core h other).ready ≡ (shown_core p other).ready
-    looked_ready same = ap (λ (v : View). v.ready) (looked_shows other) ∙ same
+  -- ---- what works for a range
 
-    -- and asks for nothing
-    pub looked_asks : w.trace.asked ≡ p.trace.asked → h.trace.asked ≡ p.trace.asked
-    looked_asks same = look_asks t look ∙ (turn_asks w swept.turn ∙ same)
+  -- nothing yet
+  pub work_first : {c : Regions} {asked : Held} {p : SeatPart (Beside P)} → IsWorkFor c asked p p
+  work_first = record {
+    later = record { number = refl; seats = refl; lists = refl; pass = refl; client = refl; taken = omega arith };
+    asks = asks_stay refl;
+    only = λ j none. refl;
+  }
+
+  -- calls one after another
+  pub work_on : {c : Regions} {asked : Held} {p m q : SeatPart (Beside P)} → IsWorkFor c asked p m → IsWorkFor c asked m q → IsWorkFor c asked p q
+  work_on a b = record { later = lists_on a.later b.later; asks = asks_on a.asks b.asks; only = λ j none. b.only j none ∙ a.only j none }
+
+  -- a look at a list in which it works
+  pub work_look : {A : Type 0} {table : TableId} {c : Regions} {own at : ℕ} {asked : Held} {s : Standing} {p q : SeatPart (Beside P)} {r : Result A NotHeld}
+      → WorksIn c asked.range at → LooksAt table own at asked s p q r → IsWorkFor c asked p q
+  work_look works looks = record { later = looks.later; asks = looks.asks; only = λ j none. looks.only j (works_not works none) }
+
+  -- a turn
+  pub work_turned : {c : Regions} {at : ℕ} {asked : Held} {p t : SeatPart (Beside P)} → t ≡ turned p at → ((j : ℕ) → shown_core t j ≡ shown_core p j)
+      → IsWorkFor c asked p t
+  work_turned {c} {at} {asked} {p} is stays = record { later = turn_on p is; asks = asks_stay (turn_asks p is); only = λ j none. stays j }
+
+  -- the link there, and that it is given back
+  pub work_link : {A E : Type 0} {c : Regions} {at : ℕ} {asked : Held} {p q : SeatPart (Beside P)} {r : Result A E} → WorksIn c asked.range at
+      → IsLinkedIn at asked p q r → IsWorkFor c asked p q
+  work_link works link = record { later = link.piece.later; asks = link.asks; only = λ j none. link.piece.only j (works_not works none) }
+
+  pub work_freed : {c : Regions} {at : ℕ} {asked : Held} {s : Standing} {p q : SeatPart (Beside P)} → WorksIn c asked.range at → IsFreedIn at s p q
+      → IsWorkFor c asked p q
+  work_freed works freed =
+      record { later = freed.piece.later; asks = asks_stay freed.asked; only = λ j none. freed.piece.only j (works_not works none) }
+
+  -- ---- a range in the list that holds it
+
+  -- there are the lists still
+  pub lists_still : {c : Regions} {lists : ℕ} {p q : SeatPart (Beside P)} → HasLists c lists p → IsLaterInLists p q → HasLists c lists q
+  lists_still has later = record { shown = has.shown ∙ sym later.lists; many = has.many; regions = has.regions }
+
+  -- a node may be linked there, where the seat holds nothing
+  pub home_links : {c : Regions} {range : Interval} {lists own : ℕ} {p : SeatPart (Beside P)} → IsHome c range lists own → lists ≡ p.pass.lists
+      → IsFreeSeat p → MayLinkIn own p
+  home_links {c} {range} {lists} {own} home many free =
+      record { there = let t = home.there in omega arith; resting = free.rests; free = free.free own }
+
+  -- where that is refused the seat holds nothing
+  pub link_free : {A E : Type 0} {own : ℕ} {asked : Held} {p q : SeatPart (Beside P)} {e : E} → IsFreeSeat p → IsLinkedIn {A = A} own asked p q (Err e)
+      → IsFreeSeat q
+  link_free free link = piece_free link.piece link.free (link.standing ∙ free.standing) (λ j away. free.free j)
+
+  -- a range that doesn't count may be given back there
+  pub kept_gives : {own : ℕ} {asked : Held} {q : SeatPart (Beside P)} → own < q.pass.lists → HoldsIn own asked q
+      → is_counted q.pass.lists q.pass.standing own ≡ false → MayGiveIn own q
+  kept_gives there holds beside = record { there = there; resting = holds.rests; holds = some_held holds.held; beside = beside }
+
+  -- and the seat holds nothing then
+  pub given_free : {own : ℕ} {asked : Held} {q g : SeatPart (Beside P)} → HoldsIn own asked q → standing_back q.pass.standing own ≡ Free
+      → IsFreedIn own (standing_back q.pass.standing own) q g → IsFreeSeat g
+  given_free holds back freed = piece_free freed.piece freed.free (freed.standing ∙ back) holds.others
+
+  -- what counts there is granted
+  pub home_granted : {c : Regions} {asked : Held} {lists own : ℕ} {q : SeatPart (Beside P)} → IsHome c asked.range lists own → lists ≡ q.pass.lists
+      → HoldsAlone own asked q → q.pass.standing ≡ standing_for own q.pass.lists → IsGranted c asked q
+  home_granted {c} {asked} {lists} {own} {q} home many alone stands = record {
+    held = alone_there alone;
+    counts = dite (ℕ_discrete own 0)
+        (λ e. alone_wide e alone (stands ∙ standing_wide own q.pass.lists e))
+        (λ far. alone_narrow alone (stands ∙ standing_narrow own q.pass.lists far));
+    one = λ e. absurd (let s = home.several in omega arith);
+    stands = dite (ℕ_discrete own 0)
+        (λ e. stands_wide (home.wide e) (stands ∙ standing_wide own q.pass.lists e))
+        (λ far. stands_narrow (home.narrow far) (stands ∙ standing_narrow own q.pass.lists far));
+  }
+
+  -- a look at list 0 is all that a narrow range has to look at
+  pub looks_narrow : {A : Type 0} {table : TableId} {c : Regions} {own looks : ℕ} {asked : Held} {p q : SeatPart (Beside P)} {r : Result A NotHeld} → own ≢ 0
+      → 1 < p.pass.lists → p.pass.standing ≡ Free → LooksAt table own 0 asked (standing_for own 0) p q r → LooksAtAll table c own looks asked p q r
+  looks_narrow {A} {table} {c} {own} {looks} {asked} {p} {q} {r} differ several free one = record {
+    work = work_look (inl refl) one;
+    home = one.only own differ;
+    ready = λ _. ready_each 0 p q one.ready one.only;
+    done = ok_on r (λ d. (d.0, d.1 ∙ (standing_narrow own 0 differ ∙ sym (standing_narrow own q.pass.lists differ)))) one.done;
+    kept = err_free r (λ k. (
+      k.0,
+      ap (λ (s : Standing). is_counted q.pass.lists s own) (k.1 ∙ free) ∙ free_beside q.pass.lists own (λ e. let l = one.later.lists in omega arith),
+      ap (λ (s : Standing). standing_back s own) (k.1 ∙ free),
+    )) one.kept;
+    cause = err_on _ _ r (λ why x none. (0, (λ e. differ (sym e)), omega arith, inl refl, x)) one.cause;
+    long = one.long;
+  }

@@ -134,6 +134,23 @@ unheld own h = ap held_at h.is ∙ (ap (λ (t : Todo). held_at (Linked h.node.no
 pub may_validate_on : {P : Type 0} (p : SeatPart P) → IsInside p.core → HasToValidate p.core.own → p.core.cursor ≡ None → MayValidate p.seats p.core
 may_validate_on p in_epoch own none = record { inside = in_epoch; own = own; begins = inl none }
 
+-- the mark of a node by which nothing is held stays inside the epoch, or outside
+pub marked_on : {P : Type 0} {rested : P → P} {q r : SeatPart P} (node : ℕ) → IsMarkCall rested q r → held_at q.core.own ≡ None
+    → r.core ≡ marked q.core node → q.core.hand ≡ None → IsLaterInEpoch q r
+marked_on node mark none core bare = record {
+  later = record {
+    number = mark.number;
+    seats = mark.seats;
+    pass = mark.free none;
+    client = mark.client;
+    taken = let t = mark.taken in omega arith;
+  };
+  epoch = ap (λ (v : View). v.epoch) core;
+  hand = ap (λ (v : View). v.hand) core ∙ bare;
+  ready = ap (λ (v : View). v.ready) core;
+  asked = mark.asked;
+}
+
 module _ {P : Type 0} (p q : SeatPart P) (a : Walked) (own : HasToValidate p.core.own) (on : IsLaterInWalk p q)
     (answer : Answers p.trace.taken p.core.own q a) (new : IsNewWalk p.trace.taken q) where
   -- a validation that comes to its end holds what was asked for
@@ -169,7 +186,7 @@ module _ {P : Type 0} (p q : SeatPart P) (a : Walked) (own : HasToValidate p.cor
       }
 
       -- then the hand has no own node, and the answer refuses the try
-      pub marked_ends : ValidateEnds p r a
+      marked_ends : ValidateEnds p r a
       marked_ends = by_answer a isnt (refuses_on p.trace.taken p.trace.taken (asked_of p.core.own) (asked_of p.core.own) q r a (omega arith) refl keeps
           refused.1)
         where
@@ -180,24 +197,16 @@ module _ {P : Type 0} (p q : SeatPart P) (a : Walked) (own : HasToValidate p.cor
           by_answer (Long visits) n x = (ap (λ (v : View). v.own) core_marked, x)
 
       -- validation and mark stay in one epoch
-      pub marked_still : IsLaterInEpoch p r
-      marked_still = still_on p q r (walk_still p q on) (record {
-        later = record {
-          number = mark.number;
-          seats = mark.seats;
-          pass = mark.free unheld_now;
-          client = mark.client;
-          taken = let t = mark.taken in omega arith;
-        };
-        epoch = ap (λ (v : View). v.epoch) core_marked;
-        hand = ap (λ (v : View). v.hand) core_marked ∙ on.hand;
-        ready = ap (λ (v : View). v.ready) core_marked;
-        asked = mark.asked;
-      })
+      marked_still : IsLaterInEpoch p r
+      marked_still = still_on p q r (walk_still p q on) (marked_on own.node.node mark unheld_now core_marked on.hand)
 
       -- Long comes exactly where the walk is spent, also behind the mark
-      pub marked_long : (IsLong a ↔ IsSpent q) → (IsLong a ↔ IsSpent r)
+      marked_long : (IsLong a ↔ IsSpent q) → (IsLong a ↔ IsSpent r)
       marked_long long = long_after q r a mark.look mark.seats unheld_now (ap (λ (v : View). held_at v.own) core_marked) long
+
+      -- all of it
+      pub marked_all : (IsLong a ↔ IsSpent q) → IsLaterInEpoch p r × ValidateEnds p r a × (IsLong a ↔ IsSpent r)
+      marked_all long = (marked_still, marked_ends, marked_long long)
 
 -- ---- the two together
 

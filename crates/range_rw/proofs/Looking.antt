@@ -14,7 +14,7 @@ use Rattle.marked_list.specs.Answers.{IsMarkCall}
 use Rattle.range_rw.specs.Trying.{IsLaterInEpoch}
 use Rattle.range_rw.specs.Patience.{is_forward, reads_on, LookEnds, PatientEnds}
 use Rattle.range_rw.proofs.Later.{still_on, inside_still}
-use Rattle.range_rw.proofs.Insertion.{unheld}
+use Rattle.range_rw.proofs.Insertion.{unheld, marked_on}
 
 forward_is : (t : Todo) → is_forward t ≡ true → t ≡ Forward
 forward_is Forward e = refl
@@ -45,21 +45,13 @@ module _ {P : Type 0} (p q : SeatPart P) (own : HasToValidate p.core.own) (still
     core_marked = mark.core own.node (stays ∙ own.is)
 
     -- then the hand has no own node
-    pub patient_none : PatientEnds p r b
+    patient_none : PatientEnds p r b
     patient_none = subst (λ (c : Bool). PatientEnds p r c) (sym isnt) (ap (λ (v : View). v.own) core_marked)
 
     -- validation, looks and mark stay in one epoch
-    pub patient_still : IsLaterInEpoch p r
-    patient_still = still_on p q r still (record {
-      later = record {
-        number = mark.number;
-        seats = mark.seats;
-        pass = mark.free (ap held_at stays ∙ unheld p.core.own own);
-        client = mark.client;
-        taken = let t = mark.taken in omega arith;
-      };
-      epoch = ap (λ (v : View). v.epoch) core_marked;
-      hand = ap (λ (v : View). v.hand) core_marked ∙ still.hand;
-      ready = ap (λ (v : View). v.ready) core_marked;
-      asked = mark.asked;
-    })
+    patient_still : IsLaterInEpoch p r
+    patient_still = still_on p q r still (marked_on own.node.node mark (ap held_at stays ∙ unheld p.core.own own) core_marked still.hand)
+
+    -- both
+    pub patient_both : IsLaterInEpoch p r × PatientEnds p r b
+    patient_both = (patient_still, patient_none)

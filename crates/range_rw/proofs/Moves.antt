@@ -1,11 +1,11 @@
 -- How a seat goes on from list to list in one call: a turn and a look leave every list as it was, and a piece of work
 -- leaves each other list. So a range that one list holds stays held there while its seat works in another.
-use Rattle.std.proofs.Common.{◌≡◌, ◌≢◌, ◌⊎◌, ◌↔◌, ℕ, ◌+◌, ◌*◌, ◌<◌, ◌≤◌, Bool, true, false, suc, inl, inr, ⊎_elim, refl, sym, ap, ◌∙◌, subst, arith}
+use Rattle.std.proofs.Common.{◌≡◌, ◌≢◌, ◌⊎◌, ◌↔◌, ℕ, ◌+◌, ◌*◌, ◌<◌, ◌≤◌, Bool, true, false, Ok, suc, inl, inr, ⊎_elim, refl, sym, ap, ◌∙◌, subst, arith}
 use Rattle.std.proofs.Common.{eqb-true, eq-eqb, ne_eqb}
 use Rattle.std.specs.Prelude.{List, Option, Some, None, ◌==◌, ◌&&◌, ◌||◌, if◌then◌else◌}
 use mathlib.Core.Logic.{dite}
-use native.Mathlib.Decide.{dec_le, ℕ_discrete}
-use Rattle.list_cuts.specs.Cut.{Regions, first_list, list_count, Takes, TakesOne, TakesTwo}
+use native.Mathlib.Decide.{ℕ_discrete}
+use Rattle.list_cuts.specs.Cut.{Regions, first_list, list_count, Takes, TakesTwo}
 use Rattle.list_cuts.proofs.Cutting.{takes_there, none_before}
 use Rattle.atomic_table.specs.Seated.{TableId}
 use Rattle.lock_core.specs.Range.{Interval}
@@ -17,14 +17,16 @@ use Rattle.epoch_pools.specs.declared.views.SeatPart.{SeatPart}
 use Rattle.epoch_pools.specs.declared.views.Beside.{Beside}
 use Rattle.epoch_pools.specs.declared.views.Standing.{Standing}
 use Rattle.epoch_pools.specs.declared.views.Standing.TheVariants.{Free, Narrow, Wide}
-use Rattle.epoch_pools.specs.Standings.{is_here, is_whole, is_counted, standing_back, passed_by}
+use Rattle.epoch_pools.specs.Standings.{is_here, is_whole, is_counted, standing_back}
 use Rattle.epoch_pools.specs.Beside.{shown_core}
-use Rattle.epoch_pools.specs.Hands.{IsResting, turned}
-use Rattle.epoch_pools.specs.Passing.{after_look, MayCount, MayPass, HoldsToo}
+use Rattle.epoch_pools.specs.Hands.{HandState, IsResting, turned}
+use Rattle.epoch_pools.specs.Passing.{after_look, HoldsToo}
 use Rattle.range_rw.specs.Contract.{AsksOnly, IsReadyLeft}
 use Rattle.marked_list.specs.Causes.{nodes_in, IsSpent}
 use Rattle.range_rw.specs.declared.refusals.NotHeld.{NotHeld}
-use Rattle.range_rw.specs.Several.{IsLaterInLists, IsPiece, IsFreeSeat, HoldsAlone, HoldsIn, HasSpent, HasPassed, TakesNone, list_state, IsCauseAt, KeepsCauses}
+use Rattle.range_rw.specs.Several.{IsCounted, IsLaterInLists, IsPiece, IsFreedIn, IsFreeSeat, HoldsAlone, HoldsIn, HasSpent, HasPassed}
+use Rattle.range_rw.specs.Several.{TakesNone, list_state, IsCauseAt, KeepsCauses}
+use Rattle.range_rw.specs.Looks.{LooksAt}
 use Rattle.range_rw.proofs.Asking.{asks_kept}
 use Rattle.range_rw.proofs.Pieces.{own_at, own_each}
 use Rattle.range_rw.proofs.Taking.{cause_within}
@@ -86,14 +88,6 @@ ready_from {before} {mid} {after} same left = subst (λ l. IsReadyLeft l after) 
 pub some_held : {o : Option Held} {range : Held} → o ≡ Some range → o ≢ None
 some_held {o} {range} is none = absurd (let z : ◌≡◌ {A = Option Held} (Some range) None = sym is ∙ none in cc)
 
--- a seat that held nothing has linked a range in one list, and perhaps looked at another
-pub record Linking {P : Type 0} (at : ℕ) (asked : Held) (p q : SeatPart (Beside P)) : Type 0 where
-  pub later : IsLaterInLists p q
-  pub alone : HoldsAlone at asked q
-  pub ready : IsReadyLeft (shown_core p at).ready (shown_core q at).ready
-  pub only : (j : ℕ) → j ≢ at → shown_core q j ≡ shown_core p j
-  pub asks : AsksOnly asked p.trace.asked q.trace.asked
-
 -- a range that its list holds is linked in another list too, and the hand turns back
 pub record Crossing {P : Type 0} (home other : ℕ) (asked : Held) (p l t : SeatPart (Beside P)) : Type 0 where
   pub differ : home ≢ other
@@ -107,9 +101,7 @@ pub record Crossing {P : Type 0} (home other : ℕ) (asked : Held) (p l t : Seat
 -- then the look is made, the other node is given back, and the hand turns back once more
 pub record Return {P : Type 0} (home other : ℕ) (t : SeatPart (Beside P)) (s : Standing) (h g u : SeatPart (Beside P)) : Type 0 where
   pub look : h ≡ after_look t s
-  pub give : IsPiece other h g
-  pub standing : g.pass.standing ≡ standing_back h.pass.standing other
-  pub free : g.core.own ≡ Nothing
+  pub give : IsFreedIn other (standing_back h.pass.standing other) h g
   pub back : standing_back s other ≡ s
   pub turn : u ≡ turned g home
   pub stays : (j : ℕ) → shown_core u j ≡ shown_core g j
@@ -146,6 +138,18 @@ module _ {P : Type 0} where
   pub look_shows : (p : SeatPart (Beside P)) {q : SeatPart (Beside P)} {s : Standing} → q ≡ after_look p s → (j : ℕ) → shown_core q j ≡ shown_core p j
   look_shows p {q} {s} is j = ap (λ (x : SeatPart (Beside P)). shown_core x j) is
 
+  -- calls one after another are counted where each is
+  pub counted_on : {h m k : HandState (Beside P)} {a b c : ℕ} → IsCounted h m a b → IsCounted m k b c → IsCounted h k a c
+  counted_on x y = record { table = y.table ∙ x.table; steps = let u = x.steps in let v = y.steps in omega arith }
+
+  -- a turn, which is no step, and a look, which is one
+  pub counted_turn : {h k : HandState (Beside P)} {a at : ℕ} → k.table ≡ h.table → k.part ≡ turned h.part at → IsCounted h k a a
+  counted_turn same is = record { table = same; steps = let e = ap (λ (x : SeatPart (Beside P)). x.trace.taken) is in omega arith }
+
+  pub counted_look : {h k : HandState (Beside P)} {a b : ℕ} {s : Standing} → k.table ≡ h.table → k.part ≡ after_look h.part s → b ≡ a + 1
+      → IsCounted h k a b
+  counted_look same is one = record { table = same; steps = let e = ap (λ (x : SeatPart (Beside P)). x.trace.taken) is in omega arith }
+
   -- what a hand holds in one list alone, it holds there however it is turned
   pub holds_in : {at : ℕ} {asked : Held} {p : SeatPart (Beside P)} → HoldsAlone at asked p → HoldsIn at asked p
   holds_in {at} {asked} {p} h = record { rests = h.rests; held = ap (λ (v : View). held_at v.own) (own_at p at h.turned) ∙ h.held; others = h.others }
@@ -181,12 +185,6 @@ module _ {P : Type 0} where
     others = λ j away. ap (λ (v : View). v.own) (look_shows t is j) ∙ a.others j away;
   }
 
-  -- a narrow range that its list holds may be counted, where nothing counts yet
-  pub may_count : (c : Regions) (at : ℕ) (asked : Held) (t : SeatPart (Beside P)) → 1 < t.pass.lists → t.pass.standing ≡ Free → HoldsAlone at asked t
-      → TakesOne c asked.range at → MayCount c t
-  may_count c at asked t several free a takes =
-      record { several = several; standing = free; range = asked; held = a.held; takes = subst (TakesOne c asked.range) (sym a.turned) takes }
-
   -- a piece of work after which a list holds the range, where the seat held nothing
   pub piece_alone : {at : ℕ} {asked : Held} {p l : SeatPart (Beside P)} → IsFreeSeat p → IsPiece at p l → held_at l.core.own ≡ Some asked
       → HoldsAlone at asked l
@@ -217,20 +215,13 @@ module _ {P : Type 0} where
       (λ e. subst (λ n. IsReadyLeft (shown_core p n).ready (shown_core q n).ready) (sym e) (ready_from same left))
       (λ away. subst (λ (v : View). IsReadyLeft (shown_core p j).ready v.ready) (sym (only j away)) (before j))
 
-  -- and so where two lists' went on, one after the other
-  pub ready_both : (home other : ℕ) (p l q : SeatPart (Beside P)) → home ≢ other → IsReadyLeft (shown_core p home).ready (shown_core l home).ready
-      → ((j : ℕ) → j ≢ home → shown_core l j ≡ shown_core p j) → IsReadyLeft (shown_core l other).ready (shown_core q other).ready
-      → ((j : ℕ) → j ≢ other → shown_core q j ≡ shown_core l j) → (j : ℕ) → IsReadyLeft (shown_core p j).ready (shown_core q j).ready
-  ready_both home other p l q differ left only later only_later = ready_next other p l q
-      (ap (λ (v : View). v.ready) (only other (λ same. differ (sym same)))) later only_later (ready_each home p l left only)
-
-  -- where list 0 went on first, and then each other list while list 0 stayed
-  pub ready_all : (p l q : SeatPart (Beside P)) → IsReadyLeft (shown_core p 0).ready (shown_core l 0).ready
-      → ((j : ℕ) → j ≢ 0 → shown_core l j ≡ shown_core p j) → ((j : ℕ) → IsReadyLeft (shown_core l j).ready (shown_core q j).ready)
-      → shown_core q 0 ≡ shown_core l 0 → (j : ℕ) → IsReadyLeft (shown_core p j).ready (shown_core q j).ready
-  ready_all p l q left only later first j = dite (ℕ_discrete j 0)
+  -- where one list went on first, and then each other list while that one stayed
+  pub ready_all : (at : ℕ) (p l q : SeatPart (Beside P)) → IsReadyLeft (shown_core p at).ready (shown_core l at).ready
+      → ((j : ℕ) → j ≢ at → shown_core l j ≡ shown_core p j) → ((j : ℕ) → IsReadyLeft (shown_core l j).ready (shown_core q j).ready)
+      → shown_core q at ≡ shown_core l at → (j : ℕ) → IsReadyLeft (shown_core p j).ready (shown_core q j).ready
+  ready_all at p l q left only later home j = dite (ℕ_discrete j at)
       (λ e. subst (λ n. IsReadyLeft (shown_core p n).ready (shown_core q n).ready) (sym e)
-      (subst (λ (v : View). IsReadyLeft (shown_core p 0).ready v.ready) (sym first) left))
+      (subst (λ (v : View). IsReadyLeft (shown_core p at).ready v.ready) (sym home) left))
       (λ away. ready_from (ap (λ (v : View). v.ready) (only j away)) (later j))
 
   -- a last piece that leaves the ready nodes of its list
@@ -247,24 +238,6 @@ module _ {P : Type 0} where
   spent_kept n q look seats free long =
       (λ l. (look ∙ (long.0 l ∙ ap (λ k. 16 * k + 1) (sym seats)), ap held_at free), λ s. long.1 (sym look ∙ (s.0 ∙ ap (λ k. 16 * k + 1) seats)))
 
-  -- ---- a range is linked in one list, and then counted, or given back
-
-  -- the piece of work that links it
-  pub linked_in : {at : ℕ} {asked : Held} {p l : SeatPart (Beside P)} → IsFreeSeat p → IsPiece at p l → held_at l.core.own ≡ Some asked
-      → IsReadyLeft (shown_core p at).ready (shown_core l at).ready → AsksOnly asked p.trace.asked l.trace.asked → Linking at asked p l
-  linked_in {at} {asked} {p} {l} free piece held ready asks =
-      record { later = piece.later; alone = piece_alone free piece held; ready = ready; only = piece.only; asks = asks }
-
-  -- a look behind it
-  pub linked_looked : {at : ℕ} {asked : Held} {p l n : SeatPart (Beside P)} {s : Standing} → Linking at asked p l → n ≡ after_look l s → Linking at asked p n
-  linked_looked {at} {asked} {p} {l} {n} {s} way is = record {
-    later = lists_on way.later (look_on l is);
-    alone = holds_looked is way.alone;
-    ready = subst (λ (v : View). IsReadyLeft (shown_core p at).ready v.ready) (sym (look_shows l is at)) way.ready;
-    only = λ j away. look_shows l is j ∙ way.only j away;
-    asks = asks_kept way.asks (look_asks l is);
-  }
-
   -- the cause of a refusal by what follows is one of the whole, where the list's ready nodes were left so far
   pub cause_on : {first next : TableId} (at : ℕ) {p m : SeatPart (Beside P)} (q : SeatPart (Beside P)) → next ≡ first → IsLaterInLists p m
       → (shown_core m at).ready ≡ (shown_core p at).ready → (asked : Held) (why : NotHeld) → IsCauseAt next at m q asked why → IsCauseAt first at p q asked why
@@ -273,48 +246,17 @@ module _ {P : Type 0} where
       (λ none. sym ready ∙ none) refl refl refl refl refl refl refl (omega arith) at asked why cause)
 
   -- and so it is behind the link of a range in another list, also once that is given back
-  pub linked_cause : {first next last : TableId} {at : ℕ} {asked : Held} {p n : SeatPart (Beside P)} → next ≡ first → last ≡ next → Linking at asked p n
-      → (i : ℕ) → i ≢ at → (s u : SeatPart (Beside P)) → KeepsCauses last at s u → (why : NotHeld) → IsCauseAt next i n s asked why
+  pub linked_cause : {first next last : TableId} {at : ℕ} {p l : SeatPart (Beside P)} → next ≡ first → last ≡ next → IsPiece at p l
+      → (i : ℕ) → i ≢ at → (s u : SeatPart (Beside P)) → KeepsCauses last at s u → (asked : Held) (why : NotHeld) → IsCauseAt next i l s asked why
       → IsCauseAt first i p u asked why
-  linked_cause {first} {next} {last} {at} {asked} {p} {n} same there way i away s u keeps why cause = subst (λ (t : TableId). IsCauseAt t i p u asked why)
-      (there ∙ same) (keeps p i asked why away (subst (λ (t : TableId). IsCauseAt t i p s asked why) (sym (there ∙ same)) (cause_on i s same way.later
-      (ap (λ (v : View). v.ready) (way.only i away)) asked why cause)))
+  linked_cause {first} {next} {last} {at} {p} {l} same there piece i away s u keeps asked why cause = subst (λ (t : TableId). IsCauseAt t i p u asked why)
+      (there ∙ same) (keeps p i asked why away (subst (λ (t : TableId). IsCauseAt t i p s asked why) (sym (there ∙ same)) (cause_on i s same piece.later
+      (ap (λ (v : View). v.ready) (piece.only i away)) asked why cause)))
 
   -- where the standing stays, what was passed stays passed
   pub passed_on : (c : Regions) (at : ℕ) (range : Interval) (p q : SeatPart (Beside P)) → q.pass.standing ≡ p.pass.standing
       → HasPassed c range at p → HasPassed c range at q
   passed_on c at range p q same x = subst (λ (s : Standing). ((s ≡ Free) × TakesNone c range 0 at) ⊎ (s ≡ Wide at)) (sym same) x
-
-  -- the next list that a wide range takes may be passed
-  pub pass_next : (c : Regions) (at up : ℕ) (asked : Held) (p : SeatPart (Beside P)) → at < p.pass.lists → 1 ≤ at → HoldsAlone 0 asked p
-      → HasPassed c asked.range at p → TakesNone c asked.range (at + 1) up → at + 1 ≤ up → up ≤ p.pass.lists → MayPass c p at up
-  pass_next c at up asked p there low a passed none next most = ⊎_elim
-      (λ (x : (p.pass.standing ≡ Free) × TakesNone c asked.range 0 at). record {
-        several = omega arith;
-        first = a.turned;
-        standing = inl x.0;
-        range = asked;
-        held = a.held;
-        from = subst (λ (s : Standing). passed_by s ≤ at) (sym x.0) (omega arith);
-        below = omega arith;
-        most = most;
-        others = λ other from below differ t. dite (dec_le (suc other) at)
-            (λ less. x.1 other (omega arith) less t)
-            (λ no. none other (omega arith) below t);
-      })
-      (λ (e : p.pass.standing ≡ Wide at). record {
-        several = omega arith;
-        first = a.turned;
-        standing = inr (at, e);
-        range = asked;
-        held = a.held;
-        from = subst (λ (s : Standing). passed_by s ≤ at) (sym e) (omega arith);
-        below = omega arith;
-        most = most;
-        others = λ other from below differ t.
-            none other (let f : at ≤ other = subst (λ (s : Standing). passed_by s ≤ other) e from in omega arith) below t;
-      })
-      passed
 
   -- once there is no list left, a range that takes some has passed all
   pub all_passed : (c : Regions) (at : ℕ) (range : Interval) (p : SeatPart (Beside P)) → 0 < c.count → at ≡ list_count c → TakesTwo c range
@@ -369,22 +311,22 @@ module _ {P : Type 0} where
 
     -- and what is so once the look is made and that node is given back
     module _ {s : Standing} {h g u : SeatPart (Beside P)} (after : Return home other t s h g u) where
-      pub both_later : IsLaterInLists p u
-      both_later = lists_on (lists_on (lists_on (lists_on over.link.later (turn_on l over.turn)) (look_on t after.look)) after.give.later)
+      both_later : IsLaterInLists p u
+      both_later = lists_on (lists_on (lists_on (lists_on over.link.later (turn_on l over.turn)) (look_on t after.look)) after.give.piece.later)
           (turn_on g after.turn)
 
       -- that the link in the other list asked for this range is all
-      pub both_asks : AsksOnly asked p.trace.asked l.trace.asked → g.trace.asked ≡ h.trace.asked → AsksOnly asked p.trace.asked u.trace.asked
-      both_asks asks give = asks_kept asks (turn_asks g after.turn ∙ (give ∙ (look_asks t after.look ∙ turn_asks l over.turn)))
+      both_asks : AsksOnly asked p.trace.asked l.trace.asked → AsksOnly asked p.trace.asked u.trace.asked
+      both_asks asks = asks_kept asks (turn_asks g after.turn ∙ (after.give.asked ∙ (look_asks t after.look ∙ turn_asks l over.turn)))
 
       -- each list but the other one is as it was
-      pub both_only : (j : ℕ) → j ≢ other → shown_core u j ≡ shown_core p j
-      both_only j away = after.stays j ∙ (after.give.only j away ∙ (look_shows t after.look j ∙ (over.stays j ∙ over.link.only j away)))
+      both_only : (j : ℕ) → j ≢ other → shown_core u j ≡ shown_core p j
+      both_only j away = after.stays j ∙ (after.give.piece.only j away ∙ (look_shows t after.look j ∙ (over.stays j ∙ over.link.only j away)))
 
       both_free : (shown_core u other).own ≡ Nothing
-      both_free = ap (λ (v : View). v.own) (after.stays other ∙ own_at g other after.give.turned) ∙ after.free
+      both_free = ap (λ (v : View). v.own) (after.stays other ∙ own_at g other after.give.piece.turned) ∙ after.give.free
 
-      pub both_alone : HoldsAlone home asked u
+      both_alone : HoldsAlone home asked u
       both_alone = record {
         rests = after.rests;
         turned = ap (λ (x : SeatPart (Beside P)). x.pass.list) after.turn;
@@ -395,12 +337,25 @@ module _ {P : Type 0} where
             (λ elsewhere. ap (λ (v : View). v.own) (both_only j elsewhere) ∙ over.holds.others j away);
       }
 
-      pub both_counts : u.pass.standing ≡ s
+      both_counts : u.pass.standing ≡ s
       both_counts = ap (λ (x : SeatPart (Beside P)). x.pass.standing) after.turn
-          ∙ (after.standing ∙ (ap (λ (x : SeatPart (Beside P)). standing_back x.pass.standing other) after.look ∙ after.back))
+          ∙ (after.give.standing ∙ (ap (λ (x : SeatPart (Beside P)). standing_back x.pass.standing other) after.look ∙ after.back))
 
       -- the ready nodes of the other list are those that the link left there
-      pub both_ready : (shown_core g other).ready ≡ (shown_core h other).ready → IsReadyLeft (shown_core p other).ready (shown_core l other).ready → IsReadyLeft
-          (shown_core p other).ready (shown_core u other).ready
-      both_ready given left = subst (IsReadyLeft (shown_core p other).ready) (sym (ap (λ (v : View). v.ready) (after.stays other) ∙ (given ∙ ap
+      both_ready : IsReadyLeft (shown_core p other).ready (shown_core l other).ready → IsReadyLeft (shown_core p other).ready (shown_core u other).ready
+      both_ready left = subst (IsReadyLeft (shown_core p other).ready) (sym (ap (λ (v : View). v.ready) (after.stays other) ∙ (after.give.ready ∙ ap
           (λ (v : View). v.ready) (look_shows t after.look other ∙ over.stays other)))) left
+
+      -- so the range counts at that list
+      pub both_looked : {A : Type 0} {x : A} {table : TableId} → AsksOnly asked p.trace.asked l.trace.asked
+          → IsReadyLeft (shown_core p other).ready (shown_core l other).ready → LooksAt table home other asked s p u (Ok x)
+      both_looked {A} {x} {table} asks left = record {
+        later = both_later;
+        asks = both_asks asks;
+        ready = both_ready left;
+        only = both_only;
+        done = (both_alone, both_counts);
+        kept = tt;
+        cause = tt;
+        long = tt;
+      }

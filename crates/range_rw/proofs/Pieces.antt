@@ -21,11 +21,12 @@ use Rattle.epoch_pools.specs.Hands.{IsResting, turned}
 use Rattle.marked_list.specs.Order.{IsOutside, MaySweep}
 use Rattle.marked_list.specs.Answers.{IsMarkCall}
 use Rattle.range_rw.specs.declared.refusals.NotHeld.{NotHeld}
-use Rattle.range_rw.specs.Contract.{SeatState, IsReadyLeft, IsListCause}
+use Rattle.range_rw.specs.Contract.{AsksOnly, SeatState, IsReadyLeft, IsListCause}
 use Rattle.range_rw.specs.Seats.{IsSettled, IsBetween, pools_of, seat_state_in}
 use Rattle.range_rw.specs.Trying.{IsLaterInTry}
 use Rattle.range_rw.specs.Releasing.{GivesBack}
-use Rattle.range_rw.specs.Several.{list_state, IsCauseAt, IsPiece, KeepsCauses}
+use Rattle.range_rw.specs.Several.{list_state, IsCauseAt, IsLinkedIn, IsPiece, KeepsCauses, MayGiveIn, MayLinkIn}
+use Rattle.range_rw.proofs.Asking.{asks_from}
 use Rattle.range_rw.proofs.Taking.{cause_within}
 
 -- what is so of each refusal is so of a result's
@@ -71,6 +72,17 @@ pub rests_free : (v : View) → IsResting v → v.own ≡ Nothing → MaySweep v
 rests_free v rests none = record { outside = record { even = rests.outside; hand = rests.hand }; own = none }
 
 module _ {P : Type 0} where
+  -- a hand that was turned to a list in which a node may be linked may sweep there
+  pub turned_free : {at : ℕ} {p t : SeatPart (Beside P)} → MayLinkIn at p → t ≡ turned p at → IsResting t.core → MaySweep t.core
+  turned_free {at} {p} {t} may is rests = rests_free t.core rests (ap (λ (x : SeatPart (Beside P)). x.core.own) is ∙ may.free)
+
+  -- one that was turned to a list in which a range may be given back holds that range, which doesn't count
+  pub turned_holds : {at : ℕ} {p t : SeatPart (Beside P)} → MayGiveIn at p → t ≡ turned p at → held_at t.core.own ≢ None
+  turned_holds may is = subst (λ (v : View). held_at v.own ≢ None) (sym (ap (λ (x : SeatPart (Beside P)). x.core) is)) may.holds
+
+  pub turned_beside : {at : ℕ} {p t : SeatPart (Beside P)} → MayGiveIn at p → t ≡ turned p at → is_counted t.pass.lists t.pass.standing t.pass.list ≡ false
+  turned_beside may is = subst (λ (x : SeatPart (Beside P)). is_counted x.pass.lists x.pass.standing x.pass.list ≡ false) (sym is) may.beside
+
   -- the list to which the hand is turned is shown as its view, and each other one as what stands beside
   pub own_at : (p : SeatPart (Beside P)) (i : ℕ) → p.pass.list ≡ i → shown_core p i ≡ p.core
   own_at p i e = ap (λ (b : Bool). if b then p.core else core_at i p.pass.others) (eq-eqb i p.pass.list (sym e))
@@ -131,6 +143,17 @@ module _ {P : Type 0} where
 
     pub try_standing : IsLaterInTry t q → q.pass.standing ≡ p.pass.standing
     try_standing l = ap (λ (b : Beside P). b.standing) l.pass ∙ ap (λ (x : SeatPart (Beside P)). x.pass.standing) is
+
+    -- so one that is to hold a range is one that links it there
+    pub try_linked : {A E : Type 0} {asked : Held} {r : Result A E} → IsLaterInTry t q → IsOutside q.core → q.core.cursor ≡ None
+        → AsksOnly asked t.trace.asked q.trace.asked → OnOk r (held_at q.core.own ≡ Some asked) → OnErr r (q.core.own ≡ Nothing) → IsLinkedIn at asked p q r
+    try_linked l o none asks held free = record {
+      piece = try_piece l o none;
+      asks = asks_from (ap (λ (x : SeatPart (Beside P)). x.trace.asked) is) asks;
+      standing = try_standing l;
+      held = held;
+      free = free;
+    }
 
     -- what it leaves of the ready nodes
     pub ready_piece : q.pass.list ≡ at → IsReadyLeft t.core.ready q.core.ready → IsReadyLeft (shown_core p at).ready (shown_core q at).ready

@@ -6,6 +6,7 @@ use Rattle.std.specs.Prelude.{Option, Some, None, IsSome, ◌==◌, ◌&&◌, �
 use mathlib.Core.Logic.{dite}
 use native.Mathlib.Decide.{ℕ_discrete}
 use Rattle.atomic_table.specs.Seated.{TableId}
+use Rattle.list_cuts.specs.Cut.{Regions}
 use Rattle.lock_core.specs.Grants.{Grants}
 use Rattle.lock_core.specs.Client.{ClientStep, IsAllowed, IsMade}
 use Rattle.lock_core.specs.declared.range.Held.{Held}
@@ -25,9 +26,9 @@ use Rattle.epoch_pools.proofs.Counting.{counts_one, counts_many}
 use Rattle.marked_list.specs.Scanning.{IsScanning}
 use Rattle.range_rw.specs.Contract.{SeatState, IsLockCall, IsRelease, ready_in, pools_at}
 use Rattle.range_rw.specs.Seats.{IsSettled, IsSeated, counted_in, pools_of, walk_of, scan_of, placed_in, seat_state_of}
-use Rattle.range_rw.specs.Trying.{IsLaterInTry}
+use Rattle.range_rw.specs.Trying.{IsBare, IsLaterInTry}
 use Rattle.range_rw.specs.Releasing.{GivesBack}
-use Rattle.range_rw.specs.Several.{IsLaterInLists, IsFreeSeat, HoldsAlone}
+use Rattle.range_rw.specs.Several.{HasLeft, IsLaterInLists, IsFreeSeat, IsGranted}
 use Rattle.range_rw.proofs.Pieces.{own_at, own_each, only_stays, ready_stays, settled_by}
 
 -- a settled own node of a seat that holds nothing is none
@@ -118,12 +119,25 @@ module _ {P : Type 0} where
   pub held_some : (p : SeatPart (Beside P)) → IsSeated p → IsSome (shown_grant p) → held_at p.core.own ≢ None
   held_some p s some none = absurd (let z : ◌≡◌ {A = Bool} false true = subst IsSome (seated_grant p s ∙ none) some in cc)
 
+  pub seat_holds : (h : HandState (Beside P)) {s : SeatState P} → seat_state_of h ≡ s → IsSeated h.part → IsSome s.held → held_at h.part.core.own ≢ None
+  seat_holds h is seated some = held_some h.part seated (subst (λ (x : SeatState P). IsSome x.held) (sym is) some)
+
+  -- what its own node holds it shows
+  pub seat_shows : (h : HandState (Beside P)) {s : SeatState P} {v : View} → seat_state_of h ≡ s → IsSeated h.part → v ≡ h.part.core → s.held ≡ held_at v.own
+  seat_shows h is seated view =
+      sym (ap (λ (x : SeatState P). x.held) is) ∙ (seated_grant h.part seated ∙ ap (λ (x : View). held_at x.own) (sym view))
+
   -- and one that holds nothing has no node of its own there
   pub seated_none : (p : SeatPart (Beside P)) → IsSeated p → shown_grant p ≡ None → held_at p.core.own ≡ None
   seated_none p s none = sym (seated_grant p s) ∙ none
 
   pub seated_own : (p : SeatPart (Beside P)) → IsSeated p → shown_grant p ≡ None → p.core.own ≡ Nothing
   seated_own p s none = free_own p.core.own s.current.own (seated_none p s none)
+
+  -- so it may leave its epoch
+  pub seat_bare : (h : HandState (Beside P)) {s : SeatState P} → seat_state_of h ≡ s → IsSeated h.part → s.held ≡ None → IsBare h.part
+  seat_bare h is seated none =
+      record { own = seated_own h.part seated (ap (λ (x : SeatState P). x.held) is ∙ none); given = seated.current.hand }
 
   -- a hand that is outside its epoch has no open scan
   pub rests_closed : (q : SeatPart (Beside P)) → IsResting q.core → placed_in q.pass.lists q.pass.list (scan_of q) ≡ None
@@ -153,23 +167,22 @@ module _ {P : Type 0} where
       }
 
   -- and so is one that holds a range which counts
-  pub alone_seated : (at : ℕ) (range : Held) (p : SeatPart (Beside P)) → p.pass.list < p.pass.lists → HoldsAlone at range p
-      → is_counted p.pass.lists p.pass.standing p.pass.list ≡ true → (p.pass.lists ≡ 1 → p.pass.standing ≡ Free) → IsSeated p
-  alone_seated at range p there a counts one =
+  pub alone_seated : {c : Regions} {range : Held} {p : SeatPart (Beside P)} → p.pass.list < p.pass.lists → IsGranted c range p → IsSeated p
+  alone_seated {c} {range} {p} there grant =
+      let a = grant.held in
       let some : held_at p.core.own ≢ None = λ none. absurd (let z : ◌≡◌ {A = Option Held} (Some range) None = sym a.held ∙ none in cc) in
       record {
         there = there;
         current = record { own = settled_by p.core.own some; hand = a.rests.hand; cursor = inl a.rests.cursor };
-        others = λ j away. a.others j (λ e. away (e ∙ sym a.turned));
-        counts = λ _. counts;
+        others = a.others;
+        counts = λ _. grant.counts;
         free = λ none. absurd (some none);
-        one = one;
+        one = grant.one;
       }
 
   -- what such a seat holds is that range, and what one holds that has none in any list is nothing
-  pub alone_grant : {at : ℕ} {range : Held} {p : SeatPart (Beside P)} → p.pass.list < p.pass.lists → HoldsAlone at range p
-      → is_counted p.pass.lists p.pass.standing p.pass.list ≡ true → (p.pass.lists ≡ 1 → p.pass.standing ≡ Free) → shown_grant p ≡ Some range
-  alone_grant {at} {range} {p} there a counts one = seated_grant p (alone_seated at range p there a counts one) ∙ a.held
+  pub alone_grant : {c : Regions} {range : Held} {p : SeatPart (Beside P)} → p.pass.list < p.pass.lists → IsGranted c range p → shown_grant p ≡ Some range
+  alone_grant {c} {range} {p} there grant = seated_grant p (alone_seated there grant) ∙ grant.held.held
 
   pub free_grant : {p : SeatPart (Beside P)} → p.pass.list < p.pass.lists → IsFreeSeat p → shown_grant p ≡ None
   free_grant {p} there f = seated_grant p (free_seated p there f) ∙ none_here p f
@@ -183,6 +196,12 @@ module _ {P : Type 0} where
         (only_stays p q (ap (λ (b : Beside P). b.list) same) (ap (λ (b : Beside P). b.others) same) j away) ∙ s.others j away);
     standing = ap (λ (b : Beside P). b.standing) same ∙ s.free none;
   }
+
+  -- as it does once it has left its epoch
+  pub seat_left : (h : HandState (Beside P)) {s : SeatState P} {c : Regions} {lists : ℕ} {m : SeatPart (Beside P)} → seat_state_of h ≡ s → IsSeated h.part
+      → s.held ≡ None → HasLeft c lists h.part m → IsFreeSeat m
+  seat_left h {s} {c} {lists} {m} is seated none left = seated_free h.part m seated
+      (seated_none h.part seated (ap (λ (x : SeatState P). x.held) is ∙ none)) left.later.pass left.free left.rests
 
   -- a step on a client word leaves all of it
   pub client_seated : (p q : SeatPart (Beside P)) (i : ℕ) (pass : P) → q ≡ client_part p i pass → IsSeated p → IsSeated q
@@ -273,7 +292,7 @@ module _ {P : Type 0} where
     }
 
 module _ {P N : Type 0} (holds : Grants → List ℕ → List P → Type 0) (allows : Grants → List ℕ → List P → ℕ → ClientStep → N → P → Type 0) (note : N)
-    (h : HandState (Beside P)) (s : SeatState P) (is : seat_state_of h ≡ s) where
+    (h : HandState (Beside P)) {s : SeatState P} (is : seat_state_of h ≡ s) where
   -- a step on a client word that the seat may take its hand may take
   pub seat_allowed : (step : ClientStep) → IsAllowed holds allows note s.number s.held s.pass step
       → IsAllowed holds allows note h.part.number (shown_grant h.part) (inner_pass h.part) step

@@ -229,6 +229,13 @@ module _ {P : Type 0} where
     pub opened_spent : was.nodes ≡ was.most → seen_of p.core.cursor ≡ 16 * p.seats + 1
     opened_spent spent = sym (walk_nodes (16 * p.seats + 1) p.core.cursor p.trace.looked) ∙ (ap (λ (w : OpenScan). w.nodes) is ∙ (spent ∙ opened_most))
 
+    -- so it is while the hand is as it was
+    pub spent_still : {q : SeatPart (Beside P)} → q ≡ p → was.nodes ≡ was.most → seen_of q.core.cursor ≡ 16 * q.seats + 1
+    spent_still same spent = subst (λ (x : SeatPart (Beside P)). seen_of x.core.cursor ≡ 16 * x.seats + 1) (sym same) (opened_spent spent)
+
+    pub most_still : {q : SeatPart (Beside P)} → q ≡ p → TooLong (16 * q.seats + 1) ≡ TooLong was.most
+    most_still same = ap (λ (x : SeatPart (Beside P)). TooLong (16 * x.seats + 1)) same ∙ ap (λ n. TooLong n) (sym opened_most)
+
   -- at the answer that the end was read the cursor stands there
   pub end_at : (p q : SeatPart (Beside P)) (a : Passed) → Passes p q a → a ≡ ListEnd → IsAtEnd q.core.cursor
   end_at p q a x e = (subst (λ (y : Passed). Passes p q y) e x).0.end

@@ -1,12 +1,19 @@
 -- What giving a range back leaves of a hand: it has no node of its own, and owes none its home; the pass is rested, and
 -- an open scan stays. The fast path unlinks the node and gives it home, or finds the head changed and leaves the range
 -- held. Kogan, Dice and Issa 2020.
-use Rattle.std.specs.Prelude.{◌≡◌, ◌+◌, ◌≤◌, Bool, true, false, None}
+use Rattle.std.specs.Prelude.{◌≡◌, ◌≢◌, ◌+◌, ◌≤◌, Bool, true, false, None}
 use Rattle.lock_core.specs.declared.views.Own.TheVariants.{Nothing}
+use Rattle.lock_core.specs.Machine.{held_at}
 use Rattle.epoch_pools.specs.declared.views.SeatPart.{SeatPart}
-use Rattle.range_rw.specs.Seats.{scan_of}
+use Rattle.range_rw.specs.Seats.{IsBetween, scan_of}
 
 module _ {P : Type 0} where
+  -- between two calls a hand holds a range, with a pass with which it may be given back
+  pub record MayRelease (is_at_rest : P → Type 0) (p : SeatPart P) : Type 0 where
+    pub between : IsBetween p.core
+    pub holds : held_at p.core.own ≢ None
+    pub rest : is_at_rest p.pass
+
   -- the range was given back, in one step or two
   pub record GivesBack (rested : P → P) (p q : SeatPart P) : Type 0 where
     pub number : q.number ≡ p.number

@@ -2,22 +2,25 @@
 -- to it, and all other lists are shown as before, so what is said of one list is said of the seat. A seat that holds
 -- nothing holds nothing in any list, and nothing counts; one that holds a range holds it in one list alone, and it
 -- counts. This project's own profile.
-use Rattle.std.specs.Prelude.{◌≡◌, ◌≢◌, ◌⊎◌, ℕ, ◌+◌, ◌*◌, ◌<◌, ◌≤◌, Some}
+use Rattle.std.specs.Prelude.{◌≡◌, ◌≢◌, ◌⊎◌, ◌↔◌, ℕ, ◌+◌, ◌*◌, ◌%◌, ◌<◌, ◌≤◌, true, false, Some, None, Result, IfErr, OnOk, OnErr}
 use Rattle.atomic_table.specs.Seated.{TableId}
-use Rattle.list_cuts.specs.Cut.{Regions, Takes, TakesOne}
+use Rattle.list_cuts.specs.Cut.{Regions, list_count, Takes, TakesOne}
 use Rattle.lock_core.specs.Range.{Interval}
 use Rattle.lock_core.specs.declared.range.Held.{Held}
 use Rattle.lock_core.specs.declared.views.Own.TheVariants.{Nothing}
 use Rattle.lock_core.specs.Machine.{held_at}
 use Rattle.epoch_pools.specs.declared.views.SeatPart.{SeatPart}
 use Rattle.epoch_pools.specs.declared.views.Beside.{Beside}
+use Rattle.epoch_pools.specs.declared.views.Standing.{Standing}
 use Rattle.epoch_pools.specs.declared.views.Standing.TheVariants.{Free, Wide}
+use Rattle.epoch_pools.specs.Standings.{is_counted}
 use Rattle.epoch_pools.specs.Beside.{shown_core}
-use Rattle.epoch_pools.specs.Hands.{IsResting}
-use Rattle.marked_list.specs.Causes.{nodes_in}
+use Rattle.epoch_pools.specs.Hands.{HandState, IsResting}
+use Rattle.marked_list.specs.Causes.{nodes_in, IsSpent}
 use Rattle.range_rw.specs.declared.refusals.NotHeld.{NotHeld}
-use Rattle.range_rw.specs.Contract.{SeatState, IsListCause, WorksIn}
-use Rattle.range_rw.specs.Seats.{seat_state_in}
+use Rattle.range_rw.specs.Contract.{SeatState, AsksOnly, IsListCause, IsLongRefusal, IsReadyLeft, StandsIn, WorksIn}
+use Rattle.range_rw.specs.Seats.{counted_in, seat_state_in}
+use Rattle.range_rw.specs.Trying.{IsLaterInTry}
 
 -- the range takes one list alone, whichever it is
 abbrev pub TakesAlone : Regions → Interval → Type 0
@@ -31,6 +34,29 @@ module _ {P : Type 0} where
   -- the seat as list i has it: its view of that list, with the pools that it has there
   abbrev pub list_state : TableId → SeatPart (Beside P) → ℕ → SeatState P
   list_state table p i = seat_state_in table (record { number = p.number; seats = p.seats; core = shown_core p i; pass = p.pass; trace = p.trace })
+
+  -- calls on a hand: it is of the same table, and the caller's count of steps rises as its record's does
+  pub record IsCounted (h k : HandState (Beside P)) (before after : ℕ) : Type 0 where
+    pub table : k.table ≡ h.table
+    pub steps : after + h.part.trace.taken ≡ before + k.part.trace.taken
+
+  -- so many lists there are, as a table's cut and a hand of it both say
+  pub record HasLists (c : Regions) (lists : ℕ) (p : SeatPart (Beside P)) : Type 0 where
+    pub shown : lists ≡ p.pass.lists
+    pub many : lists ≡ list_count c
+    pub regions : 0 < c.count
+
+  -- what leaving the epoch leaves, if the hand was inside one: it rests, without a node of its own, and asks for nothing.
+  -- There are so many lists
+  pub record HasLeft (c : Regions) (n : ℕ) (p q : SeatPart (Beside P)) : Type 0 where
+    pub later : IsLaterInTry p q
+    pub asked : q.trace.asked ≡ p.trace.asked
+    pub free : q.core.own ≡ Nothing
+    pub rests : IsResting q.core
+    pub ready : q.core.ready ≡ p.core.ready
+    pub same : p.core.epoch % 2 ≡ 0 → q ≡ p
+    pub lists : HasLists c n q
+    pub few : q.trace.taken ≤ p.trace.taken + 1
 
   -- what every call leaves, in whichever lists it works
   pub record IsLaterInLists (p q : SeatPart (Beside P)) : Type 0 where
@@ -48,6 +74,36 @@ module _ {P : Type 0} where
     pub turned : q.pass.list ≡ at
     pub only : (j : ℕ) → j ≢ at → shown_core q j ≡ shown_core p j
     pub rests : IsResting q.core
+
+  -- a node may be linked in that list, to which the hand may turn and in which the seat has none
+  pub record MayLinkIn (at : ℕ) (p : SeatPart (Beside P)) : Type 0 where
+    pub there : at < p.pass.lists
+    pub resting : IsResting p.core
+    pub free : (shown_core p at).own ≡ Nothing
+
+  -- that list holds a range which doesn't count through it, so it may be given back there with any pass
+  pub record MayGiveIn (at : ℕ) (p : SeatPart (Beside P)) : Type 0 where
+    pub there : at < p.pass.lists
+    pub resting : IsResting p.core
+    pub holds : held_at (shown_core p at).own ≢ None
+    pub beside : is_counted p.pass.lists p.pass.standing at ≡ false
+
+  -- a piece of work in that list by which a range was to be held there: it asks for no other, and nothing comes to count.
+  -- Where it is refused the seat has no node there
+  pub record IsLinkedIn {A E : Type 0} (at : ℕ) (asked : Held) (p q : SeatPart (Beside P)) (result : Result A E) : Type 0 where
+    pub piece : IsPiece at p q
+    pub asks : AsksOnly asked p.trace.asked q.trace.asked
+    pub standing : q.pass.standing ≡ p.pass.standing
+    pub held : OnOk result (held_at q.core.own ≡ Some asked)
+    pub free : OnErr result (q.core.own ≡ Nothing)
+
+  -- one after which the seat has no node there, and stands so: it asks for nothing, and the ready nodes there stay
+  pub record IsFreedIn (at : ℕ) (stands : Standing) (p q : SeatPart (Beside P)) : Type 0 where
+    pub piece : IsPiece at p q
+    pub asked : q.trace.asked ≡ p.trace.asked
+    pub standing : q.pass.standing ≡ stands
+    pub free : q.core.own ≡ Nothing
+    pub ready : (shown_core q at).ready ≡ (shown_core p at).ready
 
   -- the seat holds nothing in any list, and nothing counts
   pub record IsFreeSeat (p : SeatPart (Beside P)) : Type 0 where
@@ -88,6 +144,35 @@ module _ {P : Type 0} where
   -- the last walk has looked at as many nodes as it may
   abbrev pub HasSpent : SeatPart (Beside P) → Type 0
   HasSpent q = nodes_in q.trace.looked ≡ 16 * q.seats + 1
+
+  -- the seat holds that range, which counts: in the list that it takes alone, or in list 0. With one list nothing else
+  -- stands for it
+  pub record IsGranted (c : Regions) (asked : Held) (q : SeatPart (Beside P)) : Type 0 where
+    pub held : HoldsAlone q.pass.list asked q
+    pub counts : is_counted q.pass.lists q.pass.standing q.pass.list ≡ true
+    pub one : q.pass.lists ≡ 1 → q.pass.standing ≡ Free
+    pub stands : StandsIn c asked.range (counted_in q.pass.standing)
+
+  -- what every call leaves that works for a range: the seat is the same, asks for no other range, and has each list as
+  -- before in which a try for it doesn't work
+  pub record IsWorkFor (c : Regions) (asked : Held) (p q : SeatPart (Beside P)) : Type 0 where
+    pub later : IsLaterInLists p q
+    pub asks : AsksOnly asked p.trace.asked q.trace.asked
+    pub only : ShowsOthers c asked.range p q
+
+  -- a call that is to hold it: the seat holds it then, or nothing
+  pub record IsHoldCall {A E : Type 0} (c : Regions) (asked : Held) (p q : SeatPart (Beside P)) (result : Result A E) : Type 0 where
+    pub work : IsWorkFor c asked p q
+    pub held : OnOk result (IsGranted c asked q)
+    pub free : OnErr result (IsFreeSeat q)
+
+  -- the same of a try: each list's ready nodes are as before, or without the first, and a refusal has a cause in one of
+  -- the lists. It is `Long` exactly where the last walk is spent
+  pub record IsTryCall {A : Type 0} (table : TableId) (c : Regions) (asked : Held) (p q : SeatPart (Beside P)) (result : Result A NotHeld) : Type 0 where
+    pub call : IsHoldCall c asked p q result
+    pub ready : (j : ℕ) → IsReadyLeft (shown_core p j).ready (shown_core q j).ready
+    pub cause : IfErr result (IsCauseIn table c p q asked)
+    pub long : IfErr result (λ why. IsLongRefusal why ↔ IsSpent q)
 
   -- how far a wide range is: nothing is passed yet, and it takes no list before this one; or all below it are passed
   abbrev pub HasPassed : Regions → Interval → ℕ → SeatPart (Beside P) → Type 0

@@ -4,33 +4,32 @@
 //! range there too, looks, and gives that node back. Each function works in one list, to which it turns the hand; a
 //! reader may rely on a refusal leaving nothing held, and on its cause being that of a try in one list. This project's
 //! own profile.
-ghost use Rattle.std.specs.Prelude.{◌≡◌, ◌≢◌, ◌<◌, ◌≤◌, ◌+◌, ◌*◌, ◌%◌, ◌↔◌, ℕ, true, false, Some, None, IfErr, OnOk, OnErr};
+ghost use Rattle.std.specs.Prelude.{◌≡◌, ◌≢◌, ◌<◌, ◌≤◌, ◌+◌, ◌*◌, ◌%◌, ◌↔◌, ℕ, None, Some, IfErr, OnOk};
 ghost use Rattle.lock_core.specs.declared.range.Held.{Held};
 ghost use Rattle.lock_core.specs.declared.views.Own.TheVariants.{Nothing};
-ghost use Rattle.lock_core.specs.Machine.{held_at};
-ghost use Rattle.list_cuts.specs.Cut.{list_count, Takes, TakesOne, TakesTwo};
-ghost use Rattle.epoch_pools.specs.declared.views.Standing.TheVariants.{Free, Narrow, Wide};
-ghost use Rattle.epoch_pools.specs.Standings.{standing_back, is_counted};
+ghost use Rattle.list_cuts.specs.Cut.{list_count, Takes, TakesTwo};
+ghost use Rattle.epoch_pools.specs.declared.views.Standing.TheVariants.{Free};
+ghost use Rattle.epoch_pools.specs.Standings.{standing_back};
 ghost use Rattle.epoch_pools.specs.Beside.{shown_core};
 ghost use Rattle.epoch_pools.specs.Hands.{IsResting};
-ghost use Rattle.epoch_pools.specs.Passing.{MayPass, HoldsToo, after_look, standing_by};
+ghost use Rattle.epoch_pools.specs.Passing.{HoldsToo, after_look, standing_by};
 ghost use Rattle.marked_list.specs.Causes.{nodes_in, IsSpent};
-ghost use Rattle.range_rw.specs.Contract.{AsksOnly, IsLongRefusal, IsReadyLeft, StandsIn, TakesMany, try_steps};
-ghost use Rattle.range_rw.specs.Seats.{counted_in};
-ghost use Rattle.range_rw.specs.Trying.{IsLaterInTry};
-ghost use Rattle.range_rw.specs.Several.{IsCauseAt, ShowsOthers, IsLaterInLists, IsPiece, IsFreeSeat, HoldsAlone, HoldsIn, IsCauseIn, KeepsCauses, HasSpent, TakesNone, TakesAlone};
-ghost use Rattle.range_rw.specs.Looks.{MayLook, IsDue, standing_for};
+ghost use Rattle.range_rw.specs.Contract.{IsLongRefusal, IsReadyLeft, TakesMany, try_steps};
+ghost use Rattle.range_rw.specs.Trying.{IsBare};
+ghost use Rattle.range_rw.specs.Several.{IsCounted, HasLeft, HasLists, MayLinkIn, MayGiveIn, IsLinkedIn, IsFreedIn, IsFreeSeat, HoldsAlone, HoldsIn};
+ghost use Rattle.range_rw.specs.Several.{IsTryCall, IsCauseAt, KeepsCauses, TakesNone, TakesAlone};
+ghost use Rattle.range_rw.specs.Looks.{MayLook, IsDue, IsHome, LooksAt, LooksAtAll, standing_for};
 
 use crate::nodes::refusal_of;
 use crate::refusals::NotHeld;
 use crate::release::unlink_or_mark;
-use crate::trying::{leave_epoch, try_once, try_range};
+use crate::trying::{leave_epoch, try_range};
 use epoch_pools::{Hand, List, count_held, count_narrow, glance, pass_held, pass_list};
 use list_cuts::Cut;
 use lock_core::{Guard, Mode, Range};
 use marked_list::{mark, sweep};
 use std::sync::ledger::Ledger;
-use word_rows::Steps;
+use word_rows::{Backoff, Steps};
 
 /// How many lists there are, as the table's cut and the hand both say. Where the two differed a look would say that
 /// they don't; no step is made.
@@ -64,20 +63,10 @@ pub(crate) fn leave_and_count<G: Guard, L: Ledger>(
     steps: &mut Steps<L>,
 ) -> u32
     requires table { hand.old.table ≡ list.now.table }
-    requires free { hand.old.part.core.own ≡ Nothing }
-    requires given { hand.old.part.core.hand ≡ None }
-    ensures table { hand.new.table ≡ hand.old.table }
-    ensures later { IsLaterInTry hand.old.part hand.new.part }
-    ensures asked { hand.new.part.trace.asked ≡ hand.old.part.trace.asked }
-    ensures free { hand.new.part.core.own ≡ Nothing }
-    ensures rests { IsResting hand.new.part.core }
-    ensures ready { hand.new.part.core.ready ≡ hand.old.part.core.ready }
-    ensures same { hand.old.part.core.epoch % 2 ≡ 0 → hand.new.part ≡ hand.old.part }
+    requires bare { IsBare hand.old.part }
+    ensures counted { IsCounted hand.old hand.new steps.old steps.new }
+    ensures left { HasLeft list.now.cut result hand.old.part hand.new.part }
     ensures there { hand.new.part.pass.list < hand.new.part.pass.lists }
-    ensures lists { (result ≡ hand.new.part.pass.lists) × (result ≡ list_count list.now.cut) }
-    ensures regions { 0 < list.now.cut.count }
-    ensures bound { hand.new.part.trace.taken ≤ hand.old.part.trace.taken + 1 }
-    ensures counted { steps.new + hand.old.part.trace.taken ≡ steps.old + hand.new.part.trace.taken }
 {
     leave_epoch(list, hand, steps);
     let _ = hand.view();
@@ -87,7 +76,7 @@ pub(crate) fn leave_and_count<G: Guard, L: Ledger>(
 
 /// Turns the hand to a list and tries once there to hold the range. Ok says whether the fast path linked the node.
 #[inline(always)]
-pub(crate) fn link_piece<G: Guard, L: Ledger>(
+fn link_piece<G: Guard, L: Ledger>(
     list: &List<G>,
     hand: &mut Hand<G>,
     at: u32,
@@ -96,24 +85,17 @@ pub(crate) fn link_piece<G: Guard, L: Ledger>(
     steps: &mut Steps<L>,
 ) -> Result<bool, NotHeld>
     requires table { hand.old.table ≡ list.now.table }
-    requires there { at < hand.old.part.pass.lists }
-    requires resting { IsResting hand.old.part.core }
-    requires free { (shown_core hand.old.part at).own ≡ Nothing }
-    ensures table { hand.new.table ≡ hand.old.table }
-    ensures piece { IsPiece at hand.old.part hand.new.part }
-    ensures asks { AsksOnly (record { range = range; mode = mode }) hand.old.part.trace.asked hand.new.part.trace.asked }
-    ensures standing { hand.new.part.pass.standing ≡ hand.old.part.pass.standing }
-    ensures held { OnOk result (held_at hand.new.part.core.own ≡ Some (record { range = range; mode = mode })) }
-    ensures free { OnErr result (hand.new.part.core.own ≡ Nothing) }
+    requires may { MayLinkIn at hand.old.part }
+    ensures counted { IsCounted hand.old hand.new steps.old steps.new }
+    ensures link { IsLinkedIn at (record { range = range; mode = mode }) hand.old.part hand.new.part result }
     ensures ready { IsReadyLeft (shown_core hand.old.part at).ready (shown_core hand.new.part at).ready }
     ensures cause { IfErr result (IsCauseAt hand.old.table at hand.old.part hand.new.part (record { range = range; mode = mode })) }
     ensures long { IfErr result (λ why. IsLongRefusal why ↔ IsSpent hand.new.part) }
     ensures seats { hand.old.part.seats ≡ list.now.seats }
     ensures bound { hand.new.part.trace.taken ≤ hand.old.part.trace.taken + 43 + 145 * hand.old.part.seats }
-    ensures counted { steps.new + hand.old.part.trace.taken ≡ steps.old + hand.new.part.trace.taken }
 {
     hand.turn(at);
-    try_once(list, hand, range, mode, steps)
+    try_range(list, hand, range, mode, false, steps)
 }
 
 /// What a call comes to that has this refusal, or none.
@@ -137,19 +119,12 @@ fn sweep_piece<G: Guard, L: Ledger>(
     steps: &mut Steps<L>,
 ) -> Result<(), NotHeld>
     requires table { hand.old.table ≡ list.now.table }
-    requires there { at < hand.old.part.pass.lists }
-    requires resting { IsResting hand.old.part.core }
-    requires free { (shown_core hand.old.part at).own ≡ Nothing }
-    ensures table { hand.new.table ≡ hand.old.table }
-    ensures piece { IsPiece at hand.old.part hand.new.part }
-    ensures asked { hand.new.part.trace.asked ≡ hand.old.part.trace.asked }
-    ensures standing { hand.new.part.pass.standing ≡ hand.old.part.pass.standing }
-    ensures free { hand.new.part.core.own ≡ Nothing }
-    ensures ready { (shown_core hand.new.part at).ready ≡ (shown_core hand.old.part at).ready }
+    requires may { MayLinkIn at hand.old.part }
+    ensures counted { IsCounted hand.old hand.new steps.old steps.new }
+    ensures swept { IsFreedIn at hand.old.part.pass.standing hand.old.part hand.new.part }
     ensures cause { IfErr result (λ why. (asked : Held) → IsCauseAt hand.old.table at hand.old.part hand.new.part asked why) }
     ensures long { IfErr result (λ why. IsLongRefusal why ↔ IsSpent hand.new.part) }
     ensures bound { hand.new.part.trace.taken ≤ hand.old.part.trace.taken + 7 + 48 * hand.old.part.seats }
-    ensures counted { steps.new + hand.old.part.trace.taken ≡ steps.old + hand.new.part.trace.taken }
 {
     hand.turn(at);
     let walked = sweep(list, hand, steps);
@@ -167,18 +142,10 @@ pub(crate) fn give_piece<G: Guard, L: Ledger>(
     steps: &mut Steps<L>,
 )
     requires table { hand.old.table ≡ list.now.table }
-    requires there { at < hand.old.part.pass.lists }
-    requires resting { IsResting hand.old.part.core }
-    requires holds { held_at (shown_core hand.old.part at).own ≢ None }
-    requires beside { is_counted hand.old.part.pass.lists hand.old.part.pass.standing at ≡ false }
-    ensures table { hand.new.table ≡ hand.old.table }
-    ensures piece { IsPiece at hand.old.part hand.new.part }
-    ensures asked { hand.new.part.trace.asked ≡ hand.old.part.trace.asked }
-    ensures standing { hand.new.part.pass.standing ≡ standing_back hand.old.part.pass.standing at }
-    ensures free { hand.new.part.core.own ≡ Nothing }
-    ensures ready { (shown_core hand.new.part at).ready ≡ (shown_core hand.old.part at).ready }
+    requires may { MayGiveIn at hand.old.part }
+    ensures counted { IsCounted hand.old hand.new steps.old steps.new }
+    ensures given { IsFreedIn at (standing_back hand.old.part.pass.standing at) hand.old.part hand.new.part }
     ensures bound { hand.new.part.trace.taken ≤ hand.old.part.trace.taken + 2 }
-    ensures counted { steps.new + hand.old.part.trace.taken ≡ steps.old + hand.new.part.trace.taken }
 {
     hand.turn(at);
     unlink_or_mark(list, hand, quick, steps);
@@ -188,20 +155,12 @@ pub(crate) fn give_piece<G: Guard, L: Ledger>(
 /// another list: one step, which leaves the cause of that refusal in the record.
 fn give_up<G: Guard, L: Ledger>(list: &List<G>, hand: &mut Hand<G>, at: u32, steps: &mut Steps<L>)
     requires table { hand.old.table ≡ list.now.table }
-    requires there { at < hand.old.part.pass.lists }
-    requires resting { IsResting hand.old.part.core }
-    requires holds { held_at (shown_core hand.old.part at).own ≢ None }
-    requires beside { is_counted hand.old.part.pass.lists hand.old.part.pass.standing at ≡ false }
-    ensures table { hand.new.table ≡ hand.old.table }
-    ensures piece { IsPiece at hand.old.part hand.new.part }
-    ensures asked { hand.new.part.trace.asked ≡ hand.old.part.trace.asked }
-    ensures standing { hand.new.part.pass.standing ≡ standing_back hand.old.part.pass.standing at }
-    ensures free { hand.new.part.core.own ≡ Nothing }
-    ensures ready { (shown_core hand.new.part at).ready ≡ (shown_core hand.old.part at).ready }
+    requires may { MayGiveIn at hand.old.part }
+    ensures counted { IsCounted hand.old hand.new steps.old steps.new }
+    ensures given { IsFreedIn at (standing_back hand.old.part.pass.standing at) hand.old.part hand.new.part }
     ensures causes { KeepsCauses hand.old.table at hand.old.part hand.new.part }
     ensures look { nodes_in hand.new.part.trace.looked ≡ nodes_in hand.old.part.trace.looked }
     ensures taken { hand.new.part.trace.taken ≡ hand.old.part.trace.taken + 1 }
-    ensures counted { steps.new ≡ steps.old + 1 }
 {
     hand.turn(at);
     mark(list, hand, steps);
@@ -270,19 +229,9 @@ fn link_in_both<G: Guard, L: Ledger>(
     requires table { hand.old.table ≡ list.now.table }
     requires due { IsDue list.now.cut range hand.old.part own at up }
     requires holds { HoldsIn own (record { range = range; mode = mode }) hand.old.part }
-    ensures table { hand.new.table ≡ hand.old.table }
-    ensures later { IsLaterInLists hand.old.part hand.new.part }
-    ensures asks { AsksOnly (record { range = range; mode = mode }) hand.old.part.trace.asked hand.new.part.trace.asked }
-    ensures held { OnOk result (HoldsAlone own (record { range = range; mode = mode }) hand.new.part) }
-    ensures counts { OnOk result (hand.new.part.pass.standing ≡ standing_for own up) }
-    ensures holds { OnErr result (HoldsIn own (record { range = range; mode = mode }) hand.new.part
-        × (hand.new.part.pass.standing ≡ hand.old.part.pass.standing)) }
-    ensures ready { IsReadyLeft (shown_core hand.old.part at).ready (shown_core hand.new.part at).ready }
-    ensures only { (j : ℕ) → j ≢ at → shown_core hand.new.part j ≡ shown_core hand.old.part j }
-    ensures cause { IfErr result (IsCauseAt hand.old.table at hand.old.part hand.new.part (record { range = range; mode = mode })) }
-    ensures long { IfErr result (λ why. IsLongRefusal why ↔ HasSpent hand.new.part) }
+    ensures counted { IsCounted hand.old hand.new steps.old steps.new }
+    ensures looks { LooksAt hand.old.table own at (record { range = range; mode = mode }) (standing_for own up) hand.old.part hand.new.part result }
     ensures bound { hand.new.part.trace.taken ≤ hand.old.part.trace.taken + 46 + 145 * hand.old.part.seats }
-    ensures counted { steps.new + hand.old.part.trace.taken ≡ steps.old + hand.new.part.trace.taken }
 {
     match link_piece(list, hand, at, range, mode, steps) {
         Ok(quick) => {
@@ -312,19 +261,9 @@ fn look_swept<G: Guard, L: Ledger>(
     requires table { hand.old.table ≡ list.now.table }
     requires due { IsDue list.now.cut range hand.old.part own at up }
     requires holds { HoldsIn own (record { range = range; mode = mode }) hand.old.part }
-    ensures table { hand.new.table ≡ hand.old.table }
-    ensures later { IsLaterInLists hand.old.part hand.new.part }
-    ensures asks { AsksOnly (record { range = range; mode = mode }) hand.old.part.trace.asked hand.new.part.trace.asked }
-    ensures held { OnOk result (HoldsAlone own (record { range = range; mode = mode }) hand.new.part) }
-    ensures counts { OnOk result (hand.new.part.pass.standing ≡ standing_for own up) }
-    ensures holds { OnErr result (HoldsIn own (record { range = range; mode = mode }) hand.new.part
-        × (hand.new.part.pass.standing ≡ hand.old.part.pass.standing)) }
-    ensures ready { IsReadyLeft (shown_core hand.old.part at).ready (shown_core hand.new.part at).ready }
-    ensures only { (j : ℕ) → j ≢ at → shown_core hand.new.part j ≡ shown_core hand.old.part j }
-    ensures cause { IfErr result (IsCauseAt hand.old.table at hand.old.part hand.new.part (record { range = range; mode = mode })) }
-    ensures long { IfErr result (λ why. IsLongRefusal why ↔ HasSpent hand.new.part) }
+    ensures counted { IsCounted hand.old hand.new steps.old steps.new }
+    ensures looks { LooksAt hand.old.table own at (record { range = range; mode = mode }) (standing_for own up) hand.old.part hand.new.part result }
     ensures bound { hand.new.part.trace.taken ≤ hand.old.part.trace.taken + 54 + 193 * hand.old.part.seats }
-    ensures counted { steps.new + hand.old.part.trace.taken ≡ steps.old + hand.new.part.trace.taken }
 {
     if let Err(why) = sweep_piece(list, hand, at, steps) {
         return Err(why);
@@ -336,79 +275,30 @@ fn look_swept<G: Guard, L: Ledger>(
     link_in_both(list, hand, own, at, up, range, mode, steps)
 }
 
-/// Makes the narrow range count, which the hand's list `at` holds, where a look found list 0 not empty. After a refusal
-/// nothing counts.
-pub(crate) fn count_swept<G: Guard, L: Ledger>(
+/// Makes the range, which the list `own` holds, count at the list `at`: looks at that list, sweeps it where it isn't empty
+/// and looks again, and otherwise links the range there too. After a refusal no more counts than before.
+#[inline(always)]
+fn look_in<G: Guard, L: Ledger>(
     list: &List<G>,
     hand: &mut Hand<G>,
+    own: u32,
     at: u32,
+    up: u32,
     range: Range,
     mode: Mode,
     steps: &mut Steps<L>,
 ) -> Result<(), NotHeld>
     requires table { hand.old.table ≡ list.now.table }
-    requires several { (0 < at) × (at < hand.old.part.pass.lists) }
-    requires takes { TakesOne list.now.cut range at }
-    requires holds { HoldsIn at (record { range = range; mode = mode }) hand.old.part }
-    requires free { hand.old.part.pass.standing ≡ Free }
-    ensures table { hand.new.table ≡ hand.old.table }
-    ensures later { IsLaterInLists hand.old.part hand.new.part }
-    ensures asks { AsksOnly (record { range = range; mode = mode }) hand.old.part.trace.asked hand.new.part.trace.asked }
-    ensures held { OnOk result (HoldsAlone at (record { range = range; mode = mode }) hand.new.part) }
-    ensures counts { OnOk result (hand.new.part.pass.standing ≡ Narrow at) }
-    ensures holds { OnErr result (HoldsIn at (record { range = range; mode = mode }) hand.new.part × (hand.new.part.pass.standing ≡ Free)) }
-    ensures ready { IsReadyLeft (shown_core hand.old.part 0).ready (shown_core hand.new.part 0).ready }
-    ensures only { (j : ℕ) → j ≢ 0 → shown_core hand.new.part j ≡ shown_core hand.old.part j }
-    ensures cause { IfErr result (IsCauseAt hand.old.table 0 hand.old.part hand.new.part (record { range = range; mode = mode })) }
-    ensures long { IfErr result (λ why. IsLongRefusal why ↔ HasSpent hand.new.part) }
-    ensures bound { hand.new.part.trace.taken ≤ hand.old.part.trace.taken + 54 + 193 * hand.old.part.seats }
-    ensures counted { steps.new + hand.old.part.trace.taken ≡ steps.old + hand.new.part.trace.taken }
+    requires due { IsDue list.now.cut range hand.old.part own at up }
+    requires holds { HoldsAlone own (record { range = range; mode = mode }) hand.old.part }
+    ensures counted { IsCounted hand.old hand.new steps.old steps.new }
+    ensures looks { LooksAt hand.old.table own at (record { range = range; mode = mode }) (standing_for own up) hand.old.part hand.new.part result }
+    ensures bound { hand.new.part.trace.taken ≤ hand.old.part.trace.taken + 55 + 193 * hand.old.part.seats }
 {
-    look_swept(list, hand, at, 0, 0, range, mode, steps)
-}
-
-/// Tries once to hold a narrow range in the list `at` that it takes. The seat holds nothing. Ok says whether the fast
-/// path linked the node there. After a refusal the seat holds nothing.
-pub(crate) fn hold_narrow<G: Guard, L: Ledger>(
-    list: &List<G>,
-    hand: &mut Hand<G>,
-    at: u32,
-    range: Range,
-    mode: Mode,
-    steps: &mut Steps<L>,
-) -> Result<bool, NotHeld>
-    requires table { hand.old.table ≡ list.now.table }
-    requires several { (0 < at) × (at < hand.old.part.pass.lists) }
-    requires takes { TakesOne list.now.cut range at }
-    requires free { IsFreeSeat hand.old.part }
-    ensures table { hand.new.table ≡ hand.old.table }
-    ensures later { IsLaterInLists hand.old.part hand.new.part }
-    ensures asks { AsksOnly (record { range = range; mode = mode }) hand.old.part.trace.asked hand.new.part.trace.asked }
-    ensures held { OnOk result (HoldsAlone at (record { range = range; mode = mode }) hand.new.part) }
-    ensures counts { OnOk result (hand.new.part.pass.standing ≡ Narrow at) }
-    ensures free { OnErr result (IsFreeSeat hand.new.part) }
-    ensures ready { (j : ℕ) → IsReadyLeft (shown_core hand.old.part j).ready (shown_core hand.new.part j).ready }
-    ensures only { ShowsOthers list.now.cut range hand.old.part hand.new.part }
-    ensures cause { IfErr result (IsCauseIn hand.old.table list.now.cut hand.old.part hand.new.part (record { range = range; mode = mode })) }
-    ensures long { IfErr result (λ why. IsLongRefusal why ↔ IsSpent hand.new.part) }
-    ensures seats { hand.old.part.seats ≡ list.now.seats }
-    ensures bound { hand.new.part.trace.taken ≤ hand.old.part.trace.taken + 99 + 338 * hand.old.part.seats }
-    ensures counted { steps.new + hand.old.part.trace.taken ≡ steps.old + hand.new.part.trace.taken }
-{
-    let quick = match link_piece(list, hand, at, range, mode, steps) {
-        Ok(quick) => quick,
-        Err(why) => return Err(why),
-    };
-    if count_narrow(list, hand, steps) {
-        return Ok(quick);
+    if look(list, hand, own, at, up, steps) {
+        return Ok(());
     }
-    match count_swept(list, hand, at, range, mode, steps) {
-        Ok(()) => Ok(quick),
-        Err(why) => {
-            give_up(list, hand, at, steps);
-            Err(why)
-        }
-    }
+    look_swept(list, hand, own, at, up, range, mode, steps)
 }
 
 /// The first list from `from` on that the range takes, or the number of lists where it takes none from there on.
@@ -430,126 +320,127 @@ pub(crate) fn next_taken(cut: Cut, range: Range, from: u32) -> u32
     lists
 }
 
-/// Has the wide range, which list 0 holds, pass the list `at`; behind it and below `up` it takes none. A list that
-/// isn't empty is swept, and otherwise the range is linked there too. After a refusal nothing more is passed than
-/// before.
-pub(crate) fn pass_one<G: Guard, L: Ledger>(
-    list: &List<G>,
-    hand: &mut Hand<G>,
-    at: u32,
-    up: u32,
-    range: Range,
-    mode: Mode,
-    steps: &mut Steps<L>,
-) -> Result<(), NotHeld>
-    requires table { hand.old.table ≡ list.now.table }
-    requires list { 0 < at }
-    requires holds { HoldsAlone 0 (record { range = range; mode = mode }) hand.old.part }
-    requires may { MayPass list.now.cut hand.old.part at up }
-    ensures table { hand.new.table ≡ hand.old.table }
-    ensures later { IsLaterInLists hand.old.part hand.new.part }
-    ensures asks { AsksOnly (record { range = range; mode = mode }) hand.old.part.trace.asked hand.new.part.trace.asked }
-    ensures held { OnOk result (HoldsAlone 0 (record { range = range; mode = mode }) hand.new.part) }
-    ensures passed { OnOk result (hand.new.part.pass.standing ≡ Wide up) }
-    ensures holds { OnErr result (HoldsIn 0 (record { range = range; mode = mode }) hand.new.part
-        × (hand.new.part.pass.standing ≡ hand.old.part.pass.standing)) }
-    ensures ready { IsReadyLeft (shown_core hand.old.part at).ready (shown_core hand.new.part at).ready }
-    ensures only { (j : ℕ) → j ≢ at → shown_core hand.new.part j ≡ shown_core hand.old.part j }
-    ensures cause { IfErr result (IsCauseAt hand.old.table at hand.old.part hand.new.part (record { range = range; mode = mode })) }
-    ensures long { IfErr result (λ why. IsLongRefusal why ↔ HasSpent hand.new.part) }
-    ensures bound { hand.new.part.trace.taken ≤ hand.old.part.trace.taken + 55 + 193 * hand.old.part.seats }
-    ensures counted { steps.new + hand.old.part.trace.taken ≡ steps.old + hand.new.part.trace.taken }
-{
-    if pass_list(list, hand, at, up, steps) {
-        return Ok(());
-    }
-    look_swept(list, hand, 0, at, up, range, mode, steps)
-}
-
 /// Has the wide range, which list 0 holds, pass each list that it takes, in rising order. It counts with the last.
-/// There are that many lists.
+/// Where a list refuses it, it keeps its node in list 0, waits and tries that list again, `looks` times in all.
+/// Meanwhile it counts nowhere, and what it has passed stays passed. There are that many lists.
 fn pass_all<G: Guard, L: Ledger>(
     list: &List<G>,
     hand: &mut Hand<G>,
     lists: u32,
     range: Range,
     mode: Mode,
+    looks: u32,
     steps: &mut Steps<L>,
 ) -> Result<(), NotHeld>
     requires table { hand.old.table ≡ list.now.table }
-    requires lists { (lists ≡ hand.old.part.pass.lists) × (lists ≡ list_count list.now.cut) }
-    requires regions { 0 < list.now.cut.count }
+    requires lists { HasLists list.now.cut lists hand.old.part }
     requires takes { TakesTwo list.now.cut range }
     requires holds { HoldsAlone 0 (record { range = range; mode = mode }) hand.old.part }
     requires free { hand.old.part.pass.standing ≡ Free }
-    ensures table { hand.new.table ≡ hand.old.table }
-    ensures later { IsLaterInLists hand.old.part hand.new.part }
-    ensures asks { AsksOnly (record { range = range; mode = mode }) hand.old.part.trace.asked hand.new.part.trace.asked }
-    ensures held { OnOk result (HoldsAlone 0 (record { range = range; mode = mode }) hand.new.part) }
-    ensures counts { OnOk result (hand.new.part.pass.standing ≡ Wide hand.new.part.pass.lists) }
-    ensures holds { OnErr result (HoldsIn 0 (record { range = range; mode = mode }) hand.new.part
-        × (is_counted hand.new.part.pass.lists hand.new.part.pass.standing 0 ≡ false)) }
-    ensures back { OnErr result (standing_back hand.new.part.pass.standing 0 ≡ Free) }
-    ensures first { shown_core hand.new.part 0 ≡ shown_core hand.old.part 0 }
-    ensures ready { (j : ℕ) → IsReadyLeft (shown_core hand.old.part j).ready (shown_core hand.new.part j).ready }
-    ensures only { ShowsOthers list.now.cut range hand.old.part hand.new.part }
-    ensures cause { IfErr result (λ why. (i : ℕ) × (0 < i) × (i < hand.old.part.pass.lists) × Takes list.now.cut range i
-        × IsCauseAt hand.old.table i hand.old.part hand.new.part (record { range = range; mode = mode }) why) }
-    ensures long { IfErr result (λ why. IsLongRefusal why ↔ HasSpent hand.new.part) }
-    ensures each { (k : ℕ) → TakesMany list.now.cut range k → hand.new.part.trace.taken ≤ hand.old.part.trace.taken + (55 + 193 * hand.old.part.seats) * k }
-    ensures counted { steps.new + hand.old.part.trace.taken ≡ steps.old + hand.new.part.trace.taken }
+    ensures counted { IsCounted hand.old hand.new steps.old steps.new }
+    ensures looks { LooksAtAll hand.old.table list.now.cut 0 looks (record { range = range; mode = mode }) hand.old.part hand.new.part result }
+    ensures each { (k : ℕ) → TakesMany list.now.cut range k
+        → hand.new.part.trace.taken ≤ hand.old.part.trace.taken + (55 + 193 * hand.old.part.seats) * (k + looks) }
 {
     let cut = list.cut();
     let mut at = next_taken(cut, range, 1);
+    let mut left = looks;
+    let mut backoff = Backoff::new();
     'all: while at < lists {
         let up = next_taken(cut, range, at + 1);
-        if let Err(why) = pass_one(list, hand, at, up, range, mode, steps) {
-            return Err(why);
+        match look_in(list, hand, 0, at, up, range, mode, steps) {
+            Ok(()) => at = up,
+            Err(why) => {
+                if left == 0 {
+                    return Err(why);
+                }
+                left -= 1;
+                hand.turn(0);
+                backoff.wait();
+            }
         }
-        at = up;
     }
     Ok(())
 }
 
-/// Tries once to hold a wide range: links it in list 0 and has it pass each list that it takes. The seat holds nothing.
-/// Ok says whether the fast path linked the node in list 0. After a refusal the seat holds nothing. There are that many
-/// lists.
-pub(crate) fn hold_wide<G: Guard, L: Ledger>(
+/// Makes the range count, which the list `own` holds: a narrow one looks at list 0, and a wide one, which list 0 holds, at
+/// each list that it takes, with so many further looks. After a refusal it doesn't count. There are that many lists.
+#[inline(always)]
+pub(crate) fn look_in_all<G: Guard, L: Ledger>(
     list: &List<G>,
     hand: &mut Hand<G>,
+    own: u32,
+    lists: u32,
+    range: Range,
+    mode: Mode,
+    looks: u32,
+    steps: &mut Steps<L>,
+) -> Result<(), NotHeld>
+    requires table { hand.old.table ≡ list.now.table }
+    requires lists { HasLists list.now.cut lists hand.old.part }
+    requires home { IsHome list.now.cut range lists own }
+    requires holds { HoldsAlone own (record { range = range; mode = mode }) hand.old.part }
+    requires free { hand.old.part.pass.standing ≡ Free }
+    ensures counted { IsCounted hand.old hand.new steps.old steps.new }
+    ensures looks { LooksAtAll hand.old.table list.now.cut own looks (record { range = range; mode = mode }) hand.old.part hand.new.part result }
+    ensures narrow { own ≢ 0 → hand.new.part.trace.taken ≤ hand.old.part.trace.taken + 55 + 193 * hand.old.part.seats }
+    ensures wide { own ≡ 0 → (k : ℕ) → TakesMany list.now.cut range k
+        → hand.new.part.trace.taken ≤ hand.old.part.trace.taken + (55 + 193 * hand.old.part.seats) * (k + looks) }
+{
+    if own == 0 {
+        pass_all(list, hand, lists, range, mode, looks, steps)
+    } else {
+        look_in(list, hand, own, 0, 0, range, mode, steps)
+    }
+}
+
+/// The list that holds a range where there are several, which are so many: the one that it takes alone, or list 0 where
+/// it takes more.
+#[inline(always)]
+pub(crate) fn home_of<G: Guard>(list: &List<G>, lists: u32, range: Range) -> u32
+    requires many { lists ≡ list_count list.now.cut }
+    requires regions { 0 < list.now.cut.count }
+    requires several { lists ≢ 1 }
+    ensures { IsHome list.now.cut range lists result }
+{
+    let _ = lists;
+    match list.cut().only(range) {
+        Some(at) => at,
+        None => 0,
+    }
+}
+
+/// Tries once to hold the range in the list `own`, where there are several: links it there, and makes it count. The seat
+/// holds nothing. Ok says whether the fast path linked the node there. After a refusal the seat holds nothing. There are
+/// that many lists.
+fn hold_in<G: Guard, L: Ledger>(
+    list: &List<G>,
+    hand: &mut Hand<G>,
+    own: u32,
     lists: u32,
     range: Range,
     mode: Mode,
     steps: &mut Steps<L>,
 ) -> Result<bool, NotHeld>
     requires table { hand.old.table ≡ list.now.table }
-    requires lists { (lists ≡ hand.old.part.pass.lists) × (lists ≡ list_count list.now.cut) }
-    requires regions { 0 < list.now.cut.count }
-    requires takes { TakesTwo list.now.cut range }
+    requires lists { HasLists list.now.cut lists hand.old.part }
+    requires home { IsHome list.now.cut range lists own }
     requires free { IsFreeSeat hand.old.part }
-    ensures table { hand.new.table ≡ hand.old.table }
-    ensures later { IsLaterInLists hand.old.part hand.new.part }
-    ensures asks { AsksOnly (record { range = range; mode = mode }) hand.old.part.trace.asked hand.new.part.trace.asked }
-    ensures held { OnOk result (HoldsAlone 0 (record { range = range; mode = mode }) hand.new.part) }
-    ensures counts { OnOk result (hand.new.part.pass.standing ≡ Wide hand.new.part.pass.lists) }
-    ensures free { OnErr result (IsFreeSeat hand.new.part) }
-    ensures ready { (j : ℕ) → IsReadyLeft (shown_core hand.old.part j).ready (shown_core hand.new.part j).ready }
-    ensures only { ShowsOthers list.now.cut range hand.old.part hand.new.part }
-    ensures cause { IfErr result (IsCauseIn hand.old.table list.now.cut hand.old.part hand.new.part (record { range = range; mode = mode })) }
-    ensures long { IfErr result (λ why. IsLongRefusal why ↔ IsSpent hand.new.part) }
+    ensures counted { IsCounted hand.old hand.new steps.old steps.new }
+    ensures tried { IsTryCall hand.old.table list.now.cut (record { range = range; mode = mode }) hand.old.part hand.new.part result }
     ensures seats { hand.old.part.seats ≡ list.now.seats }
-    ensures each { (k : ℕ) → TakesMany list.now.cut range k
+    ensures narrow { own ≢ 0 → hand.new.part.trace.taken ≤ hand.old.part.trace.taken + 99 + 338 * hand.old.part.seats }
+    ensures wide { own ≡ 0 → (k : ℕ) → TakesMany list.now.cut range k
         → hand.new.part.trace.taken ≤ hand.old.part.trace.taken + 44 + 145 * hand.old.part.seats + (55 + 193 * hand.old.part.seats) * k }
-    ensures counted { steps.new + hand.old.part.trace.taken ≡ steps.old + hand.new.part.trace.taken }
 {
-    let quick = match link_piece(list, hand, 0, range, mode, steps) {
+    let quick = match link_piece(list, hand, own, range, mode, steps) {
         Ok(quick) => quick,
         Err(why) => return Err(why),
     };
-    match pass_all(list, hand, lists, range, mode, steps) {
+    match look_in_all(list, hand, own, lists, range, mode, 0, steps) {
         Ok(()) => Ok(quick),
         Err(why) => {
-            give_up(list, hand, 0, steps);
+            give_up(list, hand, own, steps);
             Err(why)
         }
     }
@@ -557,7 +448,7 @@ pub(crate) fn hold_wide<G: Guard, L: Ledger>(
 
 /// Tries once to hold the range in a table of any number of lists. The seat holds nothing. Ok says whether the fast
 /// path linked the node by which the range counts, in the list to which the hand is turned then. After a refusal the
-/// seat holds nothing.
+/// seat holds nothing. There are that many lists.
 #[inline(always)]
 pub(crate) fn try_hold<G: Guard, L: Ledger>(
     list: &List<G>,
@@ -568,34 +459,20 @@ pub(crate) fn try_hold<G: Guard, L: Ledger>(
     steps: &mut Steps<L>,
 ) -> Result<bool, NotHeld>
     requires table { hand.old.table ≡ list.now.table }
-    requires lists { (lists ≡ hand.old.part.pass.lists) × (lists ≡ list_count list.now.cut) }
-    requires regions { 0 < list.now.cut.count }
+    requires lists { HasLists list.now.cut lists hand.old.part }
     requires free { IsFreeSeat hand.old.part }
-    ensures table { hand.new.table ≡ hand.old.table }
-    ensures later { IsLaterInLists hand.old.part hand.new.part }
-    ensures asks { AsksOnly (record { range = range; mode = mode }) hand.old.part.trace.asked hand.new.part.trace.asked }
-    ensures held { OnOk result (HoldsAlone hand.new.part.pass.list (record { range = range; mode = mode }) hand.new.part) }
-    ensures counts { OnOk result (is_counted hand.new.part.pass.lists hand.new.part.pass.standing hand.new.part.pass.list ≡ true) }
-    ensures one { OnOk result (hand.new.part.pass.lists ≡ 1 → hand.new.part.pass.standing ≡ Free) }
-    ensures stands { OnOk result (StandsIn list.now.cut range (counted_in hand.new.part.pass.standing)) }
-    ensures free { OnErr result (IsFreeSeat hand.new.part) }
-    ensures ready { (j : ℕ) → IsReadyLeft (shown_core hand.old.part j).ready (shown_core hand.new.part j).ready }
-    ensures only { ShowsOthers list.now.cut range hand.old.part hand.new.part }
-    ensures cause { IfErr result (IsCauseIn hand.old.table list.now.cut hand.old.part hand.new.part (record { range = range; mode = mode })) }
-    ensures long { IfErr result (λ why. IsLongRefusal why ↔ IsSpent hand.new.part) }
+    ensures counted { IsCounted hand.old hand.new steps.old steps.new }
+    ensures tried { IsTryCall hand.old.table list.now.cut (record { range = range; mode = mode }) hand.old.part hand.new.part result }
     ensures seats { hand.old.part.seats ≡ list.now.seats }
     ensures narrow { TakesAlone list.now.cut range → hand.new.part.trace.taken ≤ hand.old.part.trace.taken + 63 + 386 * hand.old.part.seats }
     ensures each { (k : ℕ) → TakesMany list.now.cut range k → hand.new.part.trace.taken + 1 ≤ hand.old.part.trace.taken + try_steps hand.old.part.seats k }
-    ensures counted { steps.new + hand.old.part.trace.taken ≡ steps.old + hand.new.part.trace.taken }
 {
     let _ = hand.list();
     let _ = hand.seats();
     let _ = range.lo();
     if lists == 1 {
-        return try_range(list, hand, range, mode, steps);
+        return try_range(list, hand, range, mode, true, steps);
     }
-    let Some(at) = list.cut().only(range) else {
-        return hold_wide(list, hand, lists, range, mode, steps);
-    };
-    hold_narrow(list, hand, at, range, mode, steps)
+    let own = home_of(list, lists, range);
+    hold_in(list, hand, own, lists, range, mode, steps)
 }

@@ -1,22 +1,29 @@
-use Rattle.std.proofs.Common.{sym, ◌∙◌}
+use Rattle.std.proofs.Common.{◌↔◌, sym, ◌∙◌}
 use Rattle.epoch_pools.specs.Beside.{given_back}
-use Rattle.range_rw.proofs.Insertion.{marked_ends, marked_still, marked_long}
+use Rattle.marked_list.specs.Answers.{IsLong}
+use Rattle.marked_list.specs.Causes.{IsSpent}
+use Rattle.range_rw.specs.Trying.{IsLaterInEpoch, ValidateEnds}
+use Rattle.range_rw.proofs.Insertion.{marked_all}
+use Rattle.range_rw.proofs.inserting.validate_once.Given.{Over}
+use Rattle.range_rw.proofs.inserting.validate_once.Goals.{After-mark}
 use Rattle.range_rw.proofs.inserting.validate_once.Goals as goal
+
+-- what the mark of a node leaves whose validation was refused
+marked : (g : Over) (c : After-mark g) → IsLaterInEpoch c.args.hand.now.part c.mark.new.hand.part
+    × ValidateEnds c.args.hand.now.part c.mark.new.hand.part c.validate-walked.result
+    × (IsLong c.validate-walked.result ↔ IsSpent c.mark.new.hand.part)
+marked g c = let v = c.validate-walked.ensures in marked_all c.args.hand.now.part c.validate-walked.new.hand.part c.validate-walked.result c.requires.own
+    v.later v.answer (v.walk c.requires.begins) (sym c.is_place.ensures ∙ c.if-is_place.false) (given_back g.G.Guard.rested) c.mark.new.hand.part
+    c.mark.ensures.marked v.long
 
 -- validation and mark are in one epoch
 pub returns-clause-later : goal.returns-clause-later
-returns-clause-later g c = marked_still c.args.hand.now.part c.validate-walked.new.hand.part c.validate-walked.result c.requires.own
-    c.validate-walked.ensures.later c.validate-walked.ensures.answer (c.validate-walked.ensures.walk c.requires.begins)
-    (sym c.is_place.ensures ∙ c.if-is_place.false) (given_back g.G.Guard.rested) c.mark.new.hand.part c.mark.ensures.marked
+returns-clause-later g c = (marked g c).0
 
 -- the node is marked, and the answer refuses the try
 pub returns-clause-ends : goal.returns-clause-ends
-returns-clause-ends g c = marked_ends c.args.hand.now.part c.validate-walked.new.hand.part c.validate-walked.result c.requires.own
-    c.validate-walked.ensures.later c.validate-walked.ensures.answer (c.validate-walked.ensures.walk c.requires.begins)
-    (sym c.is_place.ensures ∙ c.if-is_place.false) (given_back g.G.Guard.rested) c.mark.new.hand.part c.mark.ensures.marked
+returns-clause-ends g c = (marked g c).1
 
 -- Long comes exactly where the walk is spent
 pub returns-clause-long : goal.returns-clause-long
-returns-clause-long g c = marked_long c.args.hand.now.part c.validate-walked.new.hand.part c.validate-walked.result c.requires.own
-    c.validate-walked.ensures.later c.validate-walked.ensures.answer (c.validate-walked.ensures.walk c.requires.begins)
-    (sym c.is_place.ensures ∙ c.if-is_place.false) (given_back g.G.Guard.rested) c.mark.new.hand.part c.mark.ensures.marked c.validate-walked.ensures.long
+returns-clause-long g c = (marked g c).2

@@ -1,35 +1,32 @@
 use Rattle.std.proofs.Common.{true, false}
-use Rattle.epoch_pools.specs.Beside.{given_back, may_give_back}
+use Rattle.epoch_pools.specs.Beside.{given_back}
 use Rattle.range_rw.proofs.Giving.{may_mark, holds_node, quick_given, marked_back, may_mark_still, marked_later}
 use Rattle.range_rw.proofs.release.unlink_or_mark.Goals as goal
 
 -- the held node may be marked
 pub mark-requires-clause-order : goal.mark-requires-clause-order
-mark-requires-clause-order g c = may_mark (may_give_back g.G.Guard.is_at_rest) c.args.hand.now.part c.requires.between c.requires.holds c.requires.rest
+mark-requires-clause-order g c = may_mark c.requires.may
 
 -- the mark gave the range back
 pub returns-then-not-quick-clause-back : goal.returns-then-not-quick-clause-back
-returns-then-not-quick-clause-back g c = marked_back (may_give_back g.G.Guard.is_at_rest) c.args.hand.now.part c.requires.between c.requires.holds
-    c.requires.rest (given_back g.G.Guard.rested) c.mark.new.hand.part c.mark.ensures.marked
+returns-then-not-quick-clause-back g c = marked_back c.requires.may (given_back g.G.Guard.rested) c.mark.new.hand.part c.mark.ensures.marked
 
 -- the own node is held, and the pass is at rest
 pub quick_give-requires-clause-holds : goal.quick_give-requires-clause-holds
-quick_give-requires-clause-holds g c = holds_node (may_give_back g.G.Guard.is_at_rest) c.args.hand.now.part c.requires.between c.requires.holds c.requires.rest
+quick_give-requires-clause-holds g c = holds_node c.requires.may
 
 -- the fast path gave the range back
 pub returns-then-quick_give-clause-back : goal.returns-then-quick_give-clause-back
-returns-then-quick_give-clause-back g c = quick_given (may_give_back g.G.Guard.is_at_rest) c.args.hand.now.part c.requires.between
-    c.requires.holds c.requires.rest (given_back g.G.Guard.rested) c.quick_give.new.hand.part true c.if-quick_give.ensures.given
+returns-then-quick_give-clause-back g c =
+    quick_given c.requires.may (given_back g.G.Guard.rested) c.quick_give.new.hand.part true c.if-quick_give.ensures.given
 
 -- the range is still held, so its node may be marked
 pub mark-requires-2-clause-order : goal.mark-requires-2-clause-order
-mark-requires-2-clause-order g c = may_mark_still (may_give_back g.G.Guard.is_at_rest) (given_back g.G.Guard.rested) c.args.hand.now.part
-    c.quick_give.new.hand.part c.requires.between c.requires.holds c.requires.rest (quick_given (may_give_back g.G.Guard.is_at_rest) c.args.hand.now.part
-    c.requires.between c.requires.holds c.requires.rest (given_back g.G.Guard.rested) c.quick_give.new.hand.part false c.if-quick_give.ensures.given)
+mark-requires-2-clause-order g c = may_mark_still c.requires.may
+    (quick_given c.requires.may (given_back g.G.Guard.rested) c.quick_give.new.hand.part false c.if-quick_give.ensures.given)
 
 -- the mark gave the range back, after a fast path that was lost
 pub returns-clause-back : goal.returns-clause-back
-returns-clause-back g c = marked_later (may_give_back g.G.Guard.is_at_rest) (given_back g.G.Guard.rested) c.args.hand.now.part c.quick_give.new.hand.part
-    c.requires.between c.requires.holds c.requires.rest (quick_given (may_give_back g.G.Guard.is_at_rest) c.args.hand.now.part c.requires.between
-    c.requires.holds c.requires.rest (given_back g.G.Guard.rested) c.quick_give.new.hand.part false c.if-quick_give.ensures.given) c.mark-2.new.hand.part
-    c.mark-2.ensures.marked
+returns-clause-back g c = let rested = given_back g.G.Guard.rested in
+    marked_later c.requires.may (quick_given c.requires.may rested c.quick_give.new.hand.part false c.if-quick_give.ensures.given) rested
+    c.mark-2.new.hand.part c.mark-2.ensures.marked

@@ -6,11 +6,10 @@ use Rattle.epoch_pools.specs.declared.views.SeatPart.{SeatPart}
 use Rattle.marked_list.specs.declared.answers.Passed.{Passed}
 use Rattle.marked_list.specs.declared.answers.Passed.TheVariants.{Long as TooLong}
 use Rattle.marked_list.specs.Answers.{IsAtEnd}
-use Rattle.marked_list.specs.Walking.{seen_of}
 use Rattle.range_rw.specs.Contract.{fresh_in}
 use Rattle.range_rw.specs.Seats.{seat_state_of}
 use Rattle.range_rw.specs.Scan.{scanned_as}
-use Rattle.range_rw.proofs.SeatedScans.{scan_same, scan_on, opened_ended, opened_spent, opened_most, next_none, next_more, last_gives}
+use Rattle.range_rw.proofs.SeatedScans.{scan_same, scan_on, opened_ended, spent_still, most_still, next_none, next_more, last_gives}
 use Rattle.range_rw.proofs.scan.pass_on.Goals as goal
 
 -- no list is passed yet
@@ -52,8 +51,7 @@ all-preserved g c =
           let l = i.later.later.lists in let m = i.lists.0 in omega arith);
       spent = λ was opened spent.
           let same = i.spent was opened spent in
-          absurd (let s = (u.spent (subst (λ (x : SeatPart _). seen_of x.core.cursor ≡ 16 * x.seats + 1) (sym same)
-          (opened_spent p was c.requires.inside opened spent))).1 in
+          absurd (let s = (u.spent (spent_still p was c.requires.inside opened same spent)).1 in
           let z : ◌≡◌ {A = Option Passed} None (Some (TooLong (16 * c.all.hand.part.seats + 1))) = sym c.in_default.is ∙ s in cc);
     }
 
@@ -75,10 +73,10 @@ returns-in-Some-clause-ended g c = λ was opened ended. let i = c.all.invariant 
 -- and one that has looked at as many nodes as it may none at all
 pub returns-in-Some-clause-spent : goal.returns-in-Some-clause-spent
 returns-in-Some-clause-spent g c = λ was opened spent. let i = c.all.invariant in let p = c.args.hand.now.part in let same = i.spent was opened spent in let s =
-    c.pass_or_turn.ensures.spent (subst (λ (x : SeatPart _). seen_of x.core.cursor ≡ 16 * x.seats + 1) (sym same) (opened_spent p was c.requires.inside opened
-    spent)) in let f : ◌≡◌ {A = Option Passed} (Some c.in-Some.answer) (Some (TooLong (16 * c.all.hand.part.seats + 1))) = sym c.in-Some.is ∙ s.1 in
+    c.pass_or_turn.ensures.spent (spent_still p was c.requires.inside opened same spent) in
+    let f : ◌≡◌ {A = Option Passed} (Some c.in-Some.answer) (Some (TooLong (16 * c.all.hand.part.seats + 1))) = sym c.in-Some.is ∙ s.1 in
     let z : c.in-Some.answer ≡ TooLong (16 * c.all.hand.part.seats + 1) = cc in
-    (s.0 ∙ same, z ∙ (ap (λ (x : SeatPart _). TooLong (16 * x.seats + 1)) same ∙ ap (λ n. TooLong n) (sym (opened_most p was c.requires.inside opened))))
+    (s.0 ∙ same, z ∙ most_still p was c.requires.inside opened same)
 
 -- its steps are those of the lists so far
 pub returns-in-Some-clause-bound : goal.returns-in-Some-clause-bound
@@ -107,9 +105,8 @@ returns-clause-ended g c = λ was opened ended. let same = c.all.invariant.ended
 -- nor where the walk has looked at as many nodes as it may
 pub returns-clause-spent : goal.returns-clause-spent
 returns-clause-spent g c = λ was opened spent. let i = c.all.invariant in let p = c.args.hand.now.part in let same = i.spent was opened spent in let s =
-    c.pass_here.ensures.spent (subst (λ (x : SeatPart _). seen_of x.core.cursor ≡ 16 * x.seats + 1) (sym same) (opened_spent p was c.requires.inside opened
-    spent)) in
-    (s.0 ∙ same, s.1 ∙ (ap (λ (x : SeatPart _). TooLong (16 * x.seats + 1)) same ∙ ap (λ n. TooLong n) (sym (opened_most p was c.requires.inside opened))))
+    c.pass_here.ensures.spent (spent_still p was c.requires.inside opened same spent) in
+    (s.0 ∙ same, s.1 ∙ most_still p was c.requires.inside opened same)
 
 -- and its steps are those of all lists
 pub returns-clause-bound : goal.returns-clause-bound

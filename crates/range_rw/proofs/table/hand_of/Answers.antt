@@ -7,31 +7,24 @@ use Rattle.epoch_pools.specs.declared.views.Beside.{Beside}
 use Rattle.epoch_pools.specs.Hands.{IsIdle}
 use Rattle.range_rw.specs.Contract.{SeatState}
 use Rattle.range_rw.proofs.Pieces.{own_at}
-use Rattle.range_rw.proofs.Seated.{seated_none, seated_own, seated_free}
+use Rattle.range_rw.proofs.Seated.{seat_bare, seat_left}
 use Rattle.range_rw.proofs.table.hand_of.Goals as goal
 
--- the hand has no node of its own
-pub leave_and_count-lists-requires-clause-free : goal.leave_and_count-lists-requires-clause-free
-leave_and_count-lists-requires-clause-free g c = seated_own c.seat.inside.hand.part c.seat.invariant (ap (λ (s : SeatState _). s.held) c.seat.view_is
-    ∙ c.requires.free)
-
--- and none in its hand
-pub leave_and_count-lists-requires-clause-given : goal.leave_and_count-lists-requires-clause-given
-leave_and_count-lists-requires-clause-given g c = c.seat.invariant.current.hand
+-- the hand has no node of its own, and none in its hand
+pub leave_and_count-lists-requires-clause-bare : goal.leave_and_count-lists-requires-clause-bare
+leave_and_count-lists-requires-clause-bare g c = seat_bare c.seat.inside.hand c.seat.view_is c.seat.invariant c.requires.free
 
 -- so it has none in any list
 pub all-init : goal.all-init
 all-init g c =
-    let l = c.leave_and_count-lists.ensures in
+    let l = c.leave_and_count-lists.ensures.left in
     record {
       table = refl;
       number = refl;
       pass = refl;
-      lists = l.lists;
+      lists = (l.lists.shown, l.lists.many);
       most = omega arith;
-      free = (seated_free c.seat.inside.hand.part c.leave_and_count-lists.new.hand.part c.seat.invariant
-          (seated_none c.seat.inside.hand.part c.seat.invariant (ap (λ (s : SeatState _). s.held) c.seat.view_is ∙ c.requires.free))
-          l.later.pass l.free l.rests).free;
+      free = (seat_left c.seat.inside.hand c.seat.view_is c.seat.invariant c.requires.free l).free;
       rests = l.rests;
       idle = λ j less. absurd (omega arith);
     }
@@ -63,8 +56,8 @@ all-preserved g c =
 -- it is of the same seat, and idle where it is turned
 pub returns-clause-hand : goal.returns-clause-hand
 returns-clause-hand g c =
-    let i = c.all.invariant in let l = c.leave_and_count-lists.ensures in let q = c.all.hand.part in (
-      i.table ∙ (l.table ∙ ap (λ (s : SeatState _). s.table) c.seat.view_is),
+    let i = c.all.invariant in let l = c.leave_and_count-lists.ensures.left in let q = c.all.hand.part in (
+      i.table ∙ (c.leave_and_count-lists.ensures.counted.table ∙ ap (λ (s : SeatState _). s.table) c.seat.view_is),
       i.number ∙ (l.later.number ∙ ap (λ (s : SeatState _). s.number) c.seat.view_is),
       i.pass ∙ (ap (λ (b : Beside _). b.pass) l.later.pass ∙ ap (λ (s : SeatState _). s.pass) c.seat.view_is),
       record {

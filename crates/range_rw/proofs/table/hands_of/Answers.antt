@@ -1,4 +1,5 @@
 use Rattle.std.proofs.Common.{rules, ◌≡◌, ◌≢◌, ℕ, ◌<◌, ◌+◌, map, length, sym, ap, ◌∙◌, subst, refl, arith}
+use Rattle.std.specs.Prelude.{None}
 use Rattle.std.proofs.lemmas.List.Edits.{length-remove}
 use Rattle.word_rows.proofs.Rowing.{snoc_all}
 use Rattle.list_cuts.specs.Cut.{list_count}
@@ -8,17 +9,21 @@ use Rattle.range_rw.specs.Contract.{pass_in}
 use Rattle.range_rw.proofs.Lists.{one_longer}
 use Rattle.range_rw.proofs.Pieces.{else_at}
 use Rattle.range_rw.proofs.Seating.{next_idle, idle_on, passes_on, IsIdleFrom}
+use Rattle.range_rw.proofs.table.hands_of.Given.{Over}
+use Rattle.range_rw.proofs.table.hands_of.Goals.{After-remove-seat}
 use Rattle.range_rw.proofs.table.hands_of.Goals as goal
 
--- the seat that comes next is of the table
-pub hand_of-requires-clause-table : goal.hand_of-requires-clause-table
-hand_of-requires-clause-table g c = let more : 0 < length c.all.seats.items = search rules in
-    (next_idle c.args.list.now.table (length c.all.hands.items) c.all.seats.items c.remove-seat.result c.all.invariant.rest more c.remove-seat.ensures.value).0
+-- the seat that comes next is of the table, and holds nothing
+next : (g : Over) (c : After-remove-seat g) → (c.remove-seat.result.table ≡ c.args.list.now.table)
+    × (c.remove-seat.result.number ≡ length c.all.hands.items) × (c.remove-seat.result.held ≡ None)
+next g c = let more : 0 < length c.all.seats.items = search rules in
+    next_idle c.args.list.now.table (length c.all.hands.items) c.all.seats.items c.remove-seat.result c.all.invariant.rest more c.remove-seat.ensures.value
 
--- and holds nothing
+pub hand_of-requires-clause-table : goal.hand_of-requires-clause-table
+hand_of-requires-clause-table g c = (next g (goal.at.hand_of-requires-clause-table g c).After-remove-seat).0
+
 pub hand_of-requires-clause-free : goal.hand_of-requires-clause-free
-hand_of-requires-clause-free g c = let more : 0 < length c.all.seats.items = search rules in
-    (next_idle c.args.list.now.table (length c.all.hands.items) c.all.seats.items c.remove-seat.result c.all.invariant.rest more c.remove-seat.ensures.value).2
+hand_of-requires-clause-free g c = (next g (goal.at.hand_of-requires-clause-free g c).After-remove-seat).2
 
 -- one more hand is idle, with its seat's pass, and one seat less is left
 pub all-preserved : goal.all-preserved

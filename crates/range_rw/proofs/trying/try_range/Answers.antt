@@ -1,4 +1,4 @@
-use Rattle.std.proofs.Common.{sym, ◌∙◌}
+use Rattle.std.proofs.Common.{◌≡◌, Bool, true, false, sym, ◌∙◌}
 use Rattle.range_rw.proofs.Asking.{asks_kept, asks_on}
 use Rattle.range_rw.proofs.Taking.{tried_held, tried_ready, tried_ends, insert_held, insert_ready, insert_cause, some_again, ready_again, cause_again}
 use Rattle.range_rw.proofs.Later.{later_on}
@@ -44,6 +44,10 @@ try_again-requires-clause-some g c = some_again c.in-Ok.ensures.tried c.if-held.
 pub returns-in_default-clause-ready : goal.returns-in_default-clause-ready
 returns-in_default-clause-ready g c = ready_again c.in-Ok.ensures.tried c.if-held.false c.insert_in_epoch.new.hand.part c.in_default.ensures.ends.0
     c.try_again.new.hand.part c.try_again.ensures.ready
+
+-- which is made only where it is asked for
+pub returns-in_default-clause-once : goal.returns-in_default-clause-once
+returns-in_default-clause-once g c = λ no. absurd (let z : ◌≡◌ {A = Bool} true false = sym c.in_default.ensures.ends.1 ∙ no in cc)
 
 -- its cause is one of the whole try
 pub returns-in_default-clause-cause : goal.returns-in_default-clause-cause

@@ -4,12 +4,12 @@ use Rattle.range_rw.proofs.table.RangeTable.add_as_uncounted.Goals as goal
 
 -- what counts of the hand is what the seat holds
 pub client_add-requires-clause-allowed : goal.client_add-requires-clause-allowed
-client_add-requires-clause-allowed g c = seat_allowed g.G.Guard.holds g.G.Guard.allows g.M.Means.note c.seat.inside.hand c.args.seat.now c.seat.view_is
+client_add-requires-clause-allowed g c = seat_allowed g.G.Guard.holds g.G.Guard.allows g.M.Means.note c.seat.inside.hand c.seat.view_is
     (adds c.args.i c.args.by) c.requires.allowed
 
 -- it is made of the seat at the moment at which it is made of the hand
 pub returns-clause-made : goal.returns-clause-made
-returns-clause-made g c = seat_made g.G.Guard.holds g.G.Guard.allows g.M.Means.note c.seat.inside.hand c.args.seat.now c.seat.view_is (adds c.args.i c.args.by)
+returns-clause-made g c = seat_made g.G.Guard.holds g.G.Guard.allows g.M.Means.note c.seat.inside.hand c.seat.view_is (adds c.args.i c.args.by)
     c.client_add.result c.client_add.new.hand.part.pass.pass c.client_add.ensures.made
 
 -- the hand is between two calls, as before

@@ -4,12 +4,12 @@ use Rattle.range_rw.proofs.table.RangeTable.load_as_uncounted.Goals as goal
 
 -- what counts of the hand is what the seat holds
 pub client_load-requires-clause-allowed : goal.client_load-requires-clause-allowed
-client_load-requires-clause-allowed g c = seat_allowed g.G.Guard.holds g.G.Guard.allows g.M.Means.note c.seat.inside.hand c.args.seat.now c.seat.view_is
+client_load-requires-clause-allowed g c = seat_allowed g.G.Guard.holds g.G.Guard.allows g.M.Means.note c.seat.inside.hand c.seat.view_is
     (loads c.args.i) c.requires.allowed
 
 -- it is made of the seat at the moment at which it is made of the hand
 pub returns-clause-made : goal.returns-clause-made
-returns-clause-made g c = seat_made g.G.Guard.holds g.G.Guard.allows g.M.Means.note c.seat.inside.hand c.args.seat.now c.seat.view_is (loads c.args.i)
+returns-clause-made g c = seat_made g.G.Guard.holds g.G.Guard.allows g.M.Means.note c.seat.inside.hand c.seat.view_is (loads c.args.i)
     c.client_load.result c.client_load.new.hand.part.pass.pass c.client_load.ensures.made
 
 -- the hand is between two calls, as before

@@ -7,6 +7,8 @@ use Rattle.range_rw.specs.Contract.{TableShape, SeatState}
 use Rattle.range_rw.specs.Seats.{seat_state_of}
 use Rattle.range_rw.specs.Scan.{scanned_as, IsScanCall, IsNext, IsScanSeat}
 use Rattle.range_rw.proofs.SeatedScans.{scan_seat, scan_seated, scan_call, opened_in, opened_list, opened_most, seat_stays, scan_bound}
+use Rattle.range_rw.proofs.table.RangeTable.scan_next.Given.{Over}
+use Rattle.range_rw.proofs.table.RangeTable.scan_next.Goals.{After-lists_of-lists}
 use Rattle.range_rw.proofs.table.RangeTable.scan_next.Goals as goal
 
 -- the seat holds nothing
@@ -15,10 +17,13 @@ pass_on-requires-clause-seat g c = subst (λ (h : HandState _). IsScanSeat h.par
     (scan_seat c.seat.inside.hand.part c.seat.invariant (ap (λ (s : SeatState _). s.held) c.seat.view_is ∙ c.requires.free))
 
 -- and its hand is inside its epoch
-pub pass_on-requires-clause-inside : goal.pass_on-requires-clause-inside
-pass_on-requires-clause-inside g c = subst (λ (h : HandState _). IsInside h.part.core) (sym c.lists_of-lists.ensures.hand) (opened_in c.seat.inside.hand.part
+inside : (g : Over) (c : After-lists_of-lists g) → IsInside c.lists_of-lists.new.hand.part.core
+inside g c = subst (λ (h : HandState _). IsInside h.part.core) (sym c.lists_of-lists.ensures.hand) (opened_in c.seat.inside.hand.part
     (scan_seat c.seat.inside.hand.part c.seat.invariant (ap (λ (s : SeatState _). s.held) c.seat.view_is ∙ c.requires.free)) (subst
     (λ (s : SeatState _). IsSome s.scan) (sym c.seat.view_is) c.requires.inside))
+
+pub pass_on-requires-clause-inside : goal.pass_on-requires-clause-inside
+pass_on-requires-clause-inside g c = inside g (goal.at.pass_on-requires-clause-inside g c).After-lists_of-lists
 
 -- it is between two calls still
 pub invariant_of-seat : goal.invariant_of-seat
@@ -39,10 +44,9 @@ returns g c =
       spent = λ was opened spent. let s = done.spent was (ap (λ (s : SeatState _). s.scan) same ∙ opened) spent in
           (seat_stays h.table q.table h.part q.part done.table s.0 ∙ same, c.answer_of.ensures ∙ ap scanned_as s.1);
       -- its steps are those of the lists that are left
-      bound = λ was opened. let shown = ap (λ (s : SeatState _). s.scan) same ∙ opened in let inside = subst (λ (x : HandState _). IsInside x.part.core)
-          (sym c.lists_of-lists.ensures.hand) (opened_in c.seat.inside.hand.part (scan_seat c.seat.inside.hand.part c.seat.invariant (ap
-          (λ (s : SeatState _). s.held) c.seat.view_is ∙ c.requires.free)) (subst (λ (s : SeatState _). IsSome s.scan) (sym c.seat.view_is)
-          c.requires.inside)) in scan_bound (list_count c.self.inside.list.cut) c.args.self.now was h.part.pass.list (16 * h.part.seats + 1) h.part.trace.taken
-          q.part.trace.taken c.args.seat.now.trace.taken (ap (λ (t : TableShape). list_count t.cut) c.self.view_is) (opened_list h.part was inside shown)
-          (opened_most h.part was inside shown) (ap (λ (s : SeatState _). s.trace.taken) same) done.bound;
+      bound = λ was opened. let shown = ap (λ (s : SeatState _). s.scan) same ∙ opened in
+          let odd = inside g (goal.at.returns g c).After-lists_of-lists in
+          scan_bound (list_count c.self.inside.list.cut) c.args.self.now was h.part.pass.list (16 * h.part.seats + 1) h.part.trace.taken
+          q.part.trace.taken c.args.seat.now.trace.taken (ap (λ (t : TableShape). list_count t.cut) c.self.view_is) (opened_list h.part was odd shown)
+          (opened_most h.part was odd shown) (ap (λ (s : SeatState _). s.trace.taken) same) done.bound;
     }

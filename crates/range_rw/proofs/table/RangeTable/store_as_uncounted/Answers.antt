@@ -4,7 +4,7 @@ use Rattle.range_rw.proofs.table.RangeTable.store_as_uncounted.Goals as goal
 
 -- what counts of the hand is what the seat holds
 pub client_store-requires-clause-allowed : goal.client_store-requires-clause-allowed
-client_store-requires-clause-allowed g c = seat_allowed g.G.Guard.holds g.G.Guard.allows g.M.Means.note c.seat.inside.hand c.args.seat.now c.seat.view_is
+client_store-requires-clause-allowed g c = seat_allowed g.G.Guard.holds g.G.Guard.allows g.M.Means.note c.seat.inside.hand c.seat.view_is
     (stores c.args.i c.args.value) c.requires.allowed
 
 -- it is made of the seat at the moment at which it is made of the hand
@@ -12,7 +12,7 @@ pub returns-clause-made : goal.returns-clause-made
 returns-clause-made g c =
     let made = c.client_store.ensures.made in (
       made.0,
-      seat_made g.G.Guard.holds g.G.Guard.allows g.M.Means.note c.seat.inside.hand c.args.seat.now c.seat.view_is (stores c.args.i c.args.value) made.0
+      seat_made g.G.Guard.holds g.G.Guard.allows g.M.Means.note c.seat.inside.hand c.seat.view_is (stores c.args.i c.args.value) made.0
           c.client_store.new.hand.part.pass.pass made.1,
     )
 
