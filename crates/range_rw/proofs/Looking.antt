@@ -1,6 +1,6 @@
 -- The further looks of a reader in conflict: each is a validation that goes on where the last one stopped, so the node
 -- may be looked at once more after each, and marked after the last.
-use Rattle.std.proofs.Common.{◌≡◌, Bool, true, false, inr, refl, sym, ap, ◌∙◌, subst, arith}
+use Rattle.std.proofs.Common.{◌≡◌, Bool, true, false, inr, refl, sym, ap, ◌∙◌, subst}
 use Rattle.lock_core.specs.declared.views.View.{View}
 use Rattle.lock_core.specs.declared.views.Own.{Own}
 use Rattle.lock_core.specs.declared.views.Todo.{Todo}

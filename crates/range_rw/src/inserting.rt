@@ -4,7 +4,7 @@
 //! Kogan, Dice and Issa 2020.
 ghost use Rattle.std.specs.Prelude.{◌≡◌, ◌+◌, ◌*◌, ◌≤◌, ◌↔◌, true, None, MatchOption};
 ghost use Rattle.std.specs.Bool.{OnTrue};
-ghost use Rattle.marked_list.specs.Order.{IsOutside, IsInside, HasEnds, HasToValidate, MayWalk, MayEnd};
+ghost use Rattle.marked_list.specs.Order.{IsOutside, IsInside, HasEnds, HasToValidate, MayWalk};
 ghost use Rattle.marked_list.specs.Causes.{IsSpent};
 ghost use Rattle.marked_list.specs.Answers.{IsLong};
 ghost use Rattle.range_rw.specs.Trying.{has_come, IsLaterInTry, IsLaterInEpoch, LinkEnds, ValidateEnds, InsertEnds, FoundEmpty, StaysFilled, LeavesNode, EpochEnds};

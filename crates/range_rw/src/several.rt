@@ -4,14 +4,12 @@
 //! range there too, looks, and gives that node back. Each function works in one list, to which it turns the hand; a
 //! reader may rely on a refusal leaving nothing held, and on its cause being that of a try in one list. This project's
 //! own profile.
-ghost use Rattle.std.specs.Prelude.{◌≡◌, ◌≢◌, ◌<◌, ◌≤◌, ◌+◌, ◌*◌, ◌%◌, ◌↔◌, ℕ, None, Some, IfErr, OnOk};
+ghost use Rattle.std.specs.Prelude.{◌≡◌, ◌≢◌, ◌<◌, ◌≤◌, ◌+◌, ◌*◌, ◌↔◌, ℕ, None, Some, IfErr, OnOk};
 ghost use Rattle.lock_core.specs.declared.range.Held.{Held};
-ghost use Rattle.lock_core.specs.declared.views.Own.TheVariants.{Nothing};
 ghost use Rattle.list_cuts.specs.Cut.{list_count, Takes, TakesTwo};
 ghost use Rattle.epoch_pools.specs.declared.views.Standing.TheVariants.{Free};
 ghost use Rattle.epoch_pools.specs.Standings.{standing_back};
 ghost use Rattle.epoch_pools.specs.Beside.{shown_core};
-ghost use Rattle.epoch_pools.specs.Hands.{IsResting};
 ghost use Rattle.epoch_pools.specs.Passing.{HoldsToo, after_look, standing_by};
 ghost use Rattle.marked_list.specs.Causes.{nodes_in, IsSpent};
 ghost use Rattle.range_rw.specs.Contract.{IsLongRefusal, IsReadyLeft, TakesMany, try_steps};

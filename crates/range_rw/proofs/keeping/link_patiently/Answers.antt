@@ -1,4 +1,4 @@
-use Rattle.std.proofs.Common.{ap, ◌∙◌}
+use Rattle.std.proofs.Common.{ap}
 use Rattle.epoch_pools.specs.declared.views.SeatPart.{SeatPart}
 use Rattle.range_rw.proofs.Asking.{for_from}
 use Rattle.range_rw.proofs.Pieces.{turned_free, try_linked, ok_on}

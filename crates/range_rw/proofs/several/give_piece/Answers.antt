@@ -1,9 +1,6 @@
-use Rattle.std.proofs.Common.{◌≡◌, ◌≢◌, false, sym, ap, ◌∙◌, subst, arith}
-use Rattle.std.specs.Prelude.{None}
+use Rattle.std.proofs.Common.{ap, ◌∙◌, arith}
 use Rattle.lock_core.specs.declared.views.View.{View}
-use Rattle.lock_core.specs.Machine.{held_at}
 use Rattle.epoch_pools.specs.declared.views.SeatPart.{SeatPart}
-use Rattle.epoch_pools.specs.Standings.{is_counted}
 use Rattle.range_rw.proofs.Moves.{counted_on, counted_turn}
 use Rattle.range_rw.proofs.Pieces.{own_at, turned_holds, turned_beside, held_between, may_give_beside, given_piece, given_standing}
 use Rattle.range_rw.proofs.several.give_piece.Goals as goal

@@ -1,5 +1,4 @@
-use Rattle.std.proofs.Common.{◌≡◌, sym, ap, ◌∙◌}
-use Rattle.epoch_pools.specs.declared.views.SeatPart.{SeatPart}
+use Rattle.std.proofs.Common.{sym, ap, ◌∙◌}
 use Rattle.epoch_pools.specs.declared.views.Standing.{Standing}
 use Rattle.epoch_pools.specs.declared.views.Standing.TheVariants.{Narrow}
 use Rattle.epoch_pools.specs.Passing.{after_look, standing_by}

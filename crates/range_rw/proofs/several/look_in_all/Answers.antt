@@ -1,5 +1,4 @@
 use Rattle.std.proofs.Common.{ℕ, sym, subst, arith}
-use Rattle.lock_core.specs.declared.range.Held.{Held}
 use Rattle.range_rw.specs.Several.{HoldsAlone}
 use Rattle.range_rw.specs.Looks.{LooksAtAll}
 use Rattle.range_rw.proofs.Dues.{due_first, looks_narrow}

@@ -1,4 +1,4 @@
-use Rattle.std.proofs.Common.{sym, ap, ◌∙◌, subst, arith}
+use Rattle.std.proofs.Common.{ap, ◌∙◌, subst, arith}
 use Rattle.range_rw.specs.Contract.{SeatState}
 use Rattle.range_rw.specs.Seats.{seat_state_of}
 use Rattle.range_rw.specs.Scan.{IsScanCall}

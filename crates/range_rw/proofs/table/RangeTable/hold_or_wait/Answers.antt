@@ -1,4 +1,4 @@
-use Rattle.std.proofs.Common.{ap, ◌∙◌, subst, sym}
+use Rattle.std.proofs.Common.{◌∙◌, subst}
 use Rattle.range_rw.specs.Contract.{TableShape, SeatState, StandsIn, AsksFor}
 use Rattle.range_rw.specs.Seats.{counted_in, seat_state_of}
 use Rattle.range_rw.proofs.Asking.{for_from}
