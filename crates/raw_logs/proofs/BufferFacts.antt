@@ -1,9 +1,9 @@
 -- Texts in one buffer: where each stands, and one more behind them.
-use Rattle.std.proofs.Common.{◌≡◌, ℕ, zero, suc, ◌+◌, ◌-◌, ◌<◌, ◌≤◌, List, [], ◌∷◌, ◌++◌, length, take, drop, get_or, refl, sym, ap, ◌∙◌, arith}
+use Rattle.std.proofs.Common.{◌≡◌, ℕ, zero, suc, ◌+◌, ◌-◌, ◌<◌, ◌≤◌, List, [], ◌∷◌, ◌++◌, length, take, drop, get_or, Bool, refl, sym, ap, ◌∙◌, arith}
 use Rattle.std.proofs.lemmas.List.{length-append, take-append-le, drop-append-le, length-drop, drop_at, take_all}
 use Rattle.raw_logs.specs.declared.lines.End.{End}
 use Rattle.raw_logs.specs.Log.{Numbered, line_of}
-use Rattle.raw_logs.specs.Buffer.{cut_at, AreEnds, start_at}
+use Rattle.raw_logs.specs.Buffer.{shown, cut_at, AreEnds, start_at}
 
 -- the first of the ends is no further than the buffer's
 pub from_within : (from count : ℕ) (ends : List End) → AreEnds from count ends → from ≤ count
@@ -11,9 +11,9 @@ from_within from count [] h = omega (arith, h)
 from_within from count (end ∷ ends) h = let k = from_within end.behind count ends h.1 in let f = h.0 in omega arith
 
 -- a text for each end
-pub cut_length : (from : ℕ) (bytes : List ℕ) (ends : List End) → length (cut_at from bytes ends) ≡ length ends
-cut_length from bytes [] = refl
-cut_length from bytes (end ∷ ends) = ap suc (cut_length end.behind bytes ends)
+pub cut_length : (first from : ℕ) (bytes : List ℕ) (ends : List End) → length (cut_at first from bytes ends) ≡ length ends
+cut_length first from bytes [] = refl
+cut_length first from bytes (end ∷ ends) = ap suc (cut_length first end.behind bytes ends)
 
 -- bytes more behind the buffer leave what stands in it
 take_kept : (n from : ℕ) (bytes more : List ℕ) → from + n ≤ length bytes → take n (drop from (bytes ++ more)) ≡ take n (drop from bytes)
@@ -22,34 +22,38 @@ take_kept n from bytes more l =
     ap (take n) (drop-append-le from bytes more (omega arith)) ∙ take-append-le n (drop from bytes) more (omega arith)
 
 -- a text more
-pub cut_more : (from number behind : ℕ) (bytes more : List ℕ) (ends : List End) → AreEnds from (length bytes) ends → behind ≡ length (bytes ++ more)
-    → cut_at from (bytes ++ more) (ends ++ (record { number = number; behind = behind } ∷ [])) ≡ cut_at from bytes ends ++ (line_of number more ∷ [])
-cut_more from number behind bytes more [] h e =
+pub cut_more : (first from number behind : ℕ) (numbered : Bool) (bytes more : List ℕ) (ends : List End) → AreEnds from (length bytes) ends
+    → behind ≡ length (bytes ++ more)
+    → cut_at first from (bytes ++ more) (ends ++ (record { number = number; behind = behind; numbered = numbered } ∷ []))
+    ≡ cut_at first from bytes ends ++ (line_of number (shown first numbered more) ∷ [])
+cut_more first from number behind numbered bytes more [] h e =
     let l = length-append bytes more in
-    ap (λ (x : List ℕ). line_of number x ∷ [])
+    ap (λ (x : List ℕ). line_of number (shown first numbered x) ∷ [])
     (ap (take (behind - from)) (drop_at bytes more from (sym h)) ∙ take_all (behind - from) more (omega (arith, h, e, l)))
-cut_more from number behind bytes more (end ∷ ends) h e =
+cut_more first from number behind numbered bytes more (end ∷ ends) h e =
     let w = from_within end.behind (length bytes) ends h.1 in
     let f = h.0 in
-    ap (λ (x : List ℕ). line_of end.number x ∷ cut_at end.behind (bytes ++ more) (ends ++ (record { number = number; behind = behind } ∷ [])))
+    ap (λ (x : List ℕ). line_of end.number (shown first end.numbered x)
+    ∷ cut_at first end.behind (bytes ++ more) (ends ++ (record { number = number; behind = behind; numbered = numbered } ∷ [])))
     (take_kept (end.behind - from) from bytes more (omega arith))
-    ∙ ap (λ (x : List Numbered). line_of end.number (take (end.behind - from) (drop from bytes)) ∷ x)
-    (cut_more end.behind number behind bytes more ends h.1 e)
+    ∙ ap (λ (x : List Numbered). line_of end.number (shown first end.numbered (take (end.behind - from) (drop from bytes))) ∷ x)
+    (cut_more first end.behind number behind numbered bytes more ends h.1 e)
 
 -- and its end
-pub ends_more : (from number behind count : ℕ) (ends : List End) → AreEnds from count ends → count ≤ behind
-    → AreEnds from behind (ends ++ (record { number = number; behind = behind } ∷ []))
-ends_more from number behind count [] h l = (omega (arith, h, l), refl)
-ends_more from number behind count (end ∷ ends) h l = (h.0, ends_more end.behind number behind count ends h.1 l)
+pub ends_more : (from number behind count : ℕ) (numbered : Bool) (ends : List End) → AreEnds from count ends → count ≤ behind
+    → AreEnds from behind (ends ++ (record { number = number; behind = behind; numbered = numbered } ∷ []))
+ends_more from number behind count numbered [] h l = (omega (arith, h, l), refl)
+ends_more from number behind count numbered (end ∷ ends) h l = (h.0, ends_more end.behind number behind count numbered ends h.1 l)
 
 -- ---- the text at a place
 
-pub cut_text : (from : ℕ) (bytes : List ℕ) (ends : List End) (place : ℕ) (line : Numbered) (d : End) → place < length ends
-    → get_or (cut_at from bytes ends) place line
-    ≡ line_of (get_or ends place d).number (take ((get_or ends place d).behind - start_at from ends place) (drop (start_at from ends place) bytes))
-cut_text from bytes [] place line d l = absurd (omega (arith, l))
-cut_text from bytes (end ∷ ends) zero line d l = refl
-cut_text from bytes (end ∷ ends) (suc place) line d l = cut_text end.behind bytes ends place line d (omega (arith, l))
+pub cut_text : (first from : ℕ) (bytes : List ℕ) (ends : List End) (place : ℕ) (line : Numbered) (d : End) → place < length ends
+    → get_or (cut_at first from bytes ends) place line
+    ≡ line_of (get_or ends place d).number
+    (shown first (get_or ends place d).numbered (take ((get_or ends place d).behind - start_at from ends place) (drop (start_at from ends place) bytes)))
+cut_text first from bytes [] place line d l = absurd (omega (arith, l))
+cut_text first from bytes (end ∷ ends) zero line d l = refl
+cut_text first from bytes (end ∷ ends) (suc place) line d l = cut_text first end.behind bytes ends place line d (omega (arith, l))
 
 pub start_within : (from count : ℕ) (ends : List End) (place : ℕ) (d : End) → AreEnds from count ends → place < length ends
     → (start_at from ends place ≤ (get_or ends place d).behind) × ((get_or ends place d).behind ≤ count)

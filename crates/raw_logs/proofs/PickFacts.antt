@@ -144,11 +144,6 @@ passed_skipped old new line rest is e f = ap (λ (x : List Numbered). x ++ rest)
 pub some_left : (lines : List Numbered) (line : Numbered) (more : List Numbered) → lines ≡ line ∷ more → lines ≢ []
 some_left lines line more e none = absurd cc
 
--- and one that isn't empty has one
-pub left_line : (lines : List Numbered) → lines ≢ [] → (line : Numbered) × (more : List Numbered) × (lines ≡ line ∷ more)
-left_line [] n = absurd (n refl)
-left_line (line ∷ more) n = (line, more, refl)
-
 -- no line is left
 pub kept_all : (here_of : ℕ → Told → Bool) (lines done whole : List Numbered) (tolds : List Told) (place : ℕ) → length lines ≤ place
     → done ++ kept_from here_of place lines tolds ≡ whole → done ≡ whole

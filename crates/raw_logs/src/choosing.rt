@@ -1,7 +1,7 @@
 //! Which lines of a log are written, and what is left out by its cause. `picked` in `specs/Choosing.antt` says it from
 //! the last line to the first, as lines are looked at here; they are taken from the first to the last, behind that.
 
-ghost use Rattle.std.specs.Prelude.{◌≡◌, ◌≢◌, ◌≤◌, ◌<◌, ◌^◌, ◌+◌, ◌++◌, ◌∷◌, [], ℕ, List, Option, Some, Bool, true, false, length, drop, if◌then◌else◌};
+ghost use Rattle.std.specs.Prelude.{◌≡◌, ◌≢◌, ◌≤◌, ◌<◌, ◌^◌, ◌+◌, ◌++◌, ◌∷◌, [], ℕ, List, Option, Some, Bool, true, false, length, drop, IfOk, if◌then◌else◌};
 ghost use Rattle.raw_logs.specs.Buffer.{IsSieve, kept_in, rest_in};
 ghost use Rattle.raw_logs.specs.declared.told.Told.{Told as ToldOf};
 ghost use Rattle.raw_logs.specs.declared.spaces.Made.{Made as MadeOf};
@@ -16,6 +16,7 @@ use crate::lines::{Lines, Sieve};
 use crate::spaces::{Chooser, foreign};
 use crate::told::{Form, Told, told_of};
 use raw_lines::{MadeAs, Making};
+use std::alloc::{AllocError, Global};
 
 /// What was picked of the lines behind a place.
 #[derive(Clone, Copy)]
@@ -136,11 +137,11 @@ pub(crate) fn with_numbers(picker: Picker, silent: u32, unmade: u32) -> Picker
 }
 
 /// What is picked of the lines of a log.
-pub(crate) fn pick(lines: &Lines, chooser: &Chooser) -> Picker
+pub(crate) fn pick(alloc: Global, lines: &Lines, chooser: &Chooser) -> Result<Picker, AllocError>
     requires { length lines.now < 2 ^ 32 }
-    ensures picked { (process : Option ℕ) (made : List MadeOf) (count : ℕ) (tolds : List ToldOf) → IsChooser process made count chooser.now
-        → AreTold lines.now tolds → HasPicked (has_line process made count) lines.now tolds 0 result }
-    ensures start { result.start ≤ length lines.now }
+    ensures picked { IfOk result (λ picker. (process : Option ℕ) (made : List MadeOf) (count : ℕ) (tolds : List ToldOf)
+        → IsChooser process made count chooser.now → AreTold lines.now tolds → HasPicked (has_line process made count) lines.now tolds 0 picker) }
+    ensures start { IfOk result (λ picker. picker.start ≤ length lines.now) }
 {
     let mut picker = Picker {
         start: lines.len() as u32,
@@ -149,13 +150,14 @@ pub(crate) fn pick(lines: &Lines, chooser: &Chooser) -> Picker
         unknown: None,
         too_long: None,
     };
+    let mut room = Vec::new(alloc);
     'lines: for place in (0..lines.len()).rev() {
-        let (number, text) = lines.at(place);
+        let (number, text) = lines.at(place, &mut room)?;
         let told = told_of(text);
         let here = chooser.has(place as u32, told);
         picker.look(place as u32, number, told, here);
     }
-    picker
+    Ok(picker)
 }
 
 /// Keeps the next line, where it is written.
@@ -178,21 +180,27 @@ fn pass(sieve: &mut Sieve, told: Told, here: bool)
 }
 
 /// The lines that are written: from a place on all that may be.
-pub(crate) fn chosen(lines: Lines, chooser: &Chooser, start: u32) -> Lines
+pub(crate) fn chosen(
+    alloc: Global,
+    lines: Lines,
+    chooser: &Chooser,
+    start: u32,
+) -> Result<Lines, AllocError>
     requires start { start ≤ length lines }
     requires few { length lines < 2 ^ 32 }
-    ensures kept { (process : Option ℕ) (made : List MadeOf) (count : ℕ) (tolds : List ToldOf) → IsChooser process made count chooser.now
-        → AreTold lines tolds → result ≡ kept_from (has_line process made count) start lines tolds }
-    ensures few { length result ≤ length lines }
-    ensures short { AreShort result }
+    ensures kept { IfOk result (λ kept. (process : Option ℕ) (made : List MadeOf) (count : ℕ) (tolds : List ToldOf)
+        → IsChooser process made count chooser.now → AreTold lines tolds → kept ≡ kept_from (has_line process made count) start lines tolds) }
+    ensures few { IfOk result (λ kept. length kept ≤ length lines) }
+    ensures short { IfOk result AreShort }
 {
     let count = lines.len() as u32;
     let mut sieve = Sieve::new(lines, start as usize);
+    let mut room = Vec::new(alloc);
     'places: for place in start..count {
-        let (_, text) = sieve.next();
+        let (_, text) = sieve.next(&mut room)?;
         let told = told_of(text);
         let here = chooser.has(place, told);
         pass(&mut sieve, told, here);
     }
-    sieve.finish()
+    Ok(sieve.finish())
 }

@@ -12,7 +12,7 @@ ghost use Rattle.raw_logs.specs.Stages.{part_of, Takes, IsMade, AreWritten};
 
 use crate::counts::{Counts, Sort};
 use crate::lines::Lines;
-use crate::numbering::{Numbering, numbering_of, push_with_number, renumbered};
+use crate::numbering::{Numbering, first_of, numbering_of, renumbered};
 use line_parts::next_line;
 use memchr::memrchr;
 use raw_lines::{broken, is_message, is_stack_line, is_unread, plain_parts};
@@ -54,7 +54,7 @@ impl Changed {
         ensures numbering { result.numbering ≡ numbering }
     {
         let mut lines = room;
-        lines.clear();
+        lines.clear(first_of(numbering));
         Changed {
             lines,
             plain: Counts::new(),
@@ -81,7 +81,7 @@ impl Changed {
             self.lines.push(number, &[], &[], text)?;
             return Ok(());
         };
-        push_with_number(&mut self.lines, number, pid, body)?;
+        self.lines.push_numbered(number, pid, body)?;
         self.numbered.add(Sort::Numbered);
         Ok(())
     }

@@ -5,7 +5,7 @@
 ghost use Rattle.std.specs.Prelude.{◌≡◌, ◌≢◌, ◌⊎◌, ◌↔◌, ◌≤◌, ◌+◌, ◌++◌, ℕ, List, [], ◌∷◌, length, Contains, MatchOption, Option, option_map, IfOk, IfSome, IsNone};
 ghost use Rattle.std.specs.Prelude.{OnOk};
 ghost use Rattle.raw_lines.specs.Marks.{IsUnread};
-ghost use Rattle.raw_logs.specs.Log.{line_of, texts_of};
+ghost use Rattle.raw_logs.specs.Log.{texts_of};
 ghost use Rattle.std.specs.Bool.{Decides};
 ghost use Rattle.line_parts.specs.Lines.{lines_of};
 ghost use Rattle.strace_reader.specs.Grammar.{IsBracketed};
@@ -74,36 +74,40 @@ fn is_bare_call(text: &[u8]) -> bool
 }
 
 /// Whether one of the lines begins with a number in brackets.
-fn some_bracketed(lines: &Lines) -> bool
-    ensures { Decides result ((text : List ℕ) × Contains (texts_of lines.now) text × HasBrackets text) }
+fn some_bracketed(alloc: Global, lines: &Lines) -> Result<bool, AllocError>
+    ensures { IfOk result (λ is. Decides is ((text : List ℕ) × Contains (texts_of lines.now) text × HasBrackets text)) }
 {
+    let mut room = Vec::new(alloc);
     'lines: for place in 0..lines.len() {
-        let (_, text) = lines.at(place);
+        let (_, text) = lines.at(place, &mut room)?;
         if has_brackets(text) {
-            return true;
+            return Ok(true);
         }
     }
-    false
+    Ok(false)
 }
 
 /// Whether one of the lines is a call of the profile, or a half of one, without a number.
-fn some_bare_call(lines: &Lines) -> bool
-    ensures { Decides result ((text : List ℕ) × Contains (texts_of lines.now) text × IsBareCall text) }
+fn some_bare_call(alloc: Global, lines: &Lines) -> Result<bool, AllocError>
+    ensures { IfOk result (λ is. Decides is ((text : List ℕ) × Contains (texts_of lines.now) text × IsBareCall text)) }
 {
+    let mut room = Vec::new(alloc);
     'lines: for place in 0..lines.len() {
-        let (_, text) = lines.at(place);
+        let (_, text) = lines.at(place, &mut room)?;
         if is_bare_call(text) {
-            return true;
+            return Ok(true);
         }
     }
-    false
+    Ok(false)
 }
 
 /// Whether the log has lines with a number in brackets, and calls without a number.
-fn is_mixed(lines: &Lines) -> bool
-    ensures { Decides result (IsMixed (texts_of lines.now)) }
+fn is_mixed(alloc: Global, lines: &Lines) -> Result<bool, AllocError>
+    ensures { IfOk result (λ is. Decides is (IsMixed (texts_of lines.now))) }
 {
-    some_bracketed(lines) && some_bare_call(lines)
+    let brackets = some_bracketed(alloc, lines)?;
+    let bare = some_bare_call(alloc, lines)?;
+    Ok(brackets && bare)
 }
 
 /// The number that a message says was attached.
@@ -179,8 +183,9 @@ fn all_later(alloc: Global, whole: &[u8], lines: &Lines) -> Result<BTreeSet<u32>
     ensures { IfOk result (λ found. (pid : ℕ) → Has found pid ↔ IsLater (lines_of whole.now) (texts_of lines.now) pid) }
 {
     let mut found = all_attached(alloc, whole)?;
+    let mut room = Vec::new(alloc);
     'lines: for place in 0..lines.len() {
-        let (_, text) = lines.at(place);
+        let (_, text) = lines.at(place, &mut room)?;
         add_given(&mut found, text)?;
     }
     Ok(found)
@@ -201,17 +206,22 @@ fn fresh(text: &[u8], later: &BTreeSet<u32>) -> Option<u32>
 }
 
 /// The number of the first thread: the first in brackets that didn't come later.
-fn first_thread(lines: &Lines, later: &BTreeSet<u32>) -> Option<u32>
-    ensures { (log all : List (List ℕ)) → ((pid : ℕ) → Has later.now pid ↔ IsLater log all pid)
-        → MatchOption result ((pid : ℕ) → ¬ IsFirstThread (IsLater log all) (texts_of lines.now) pid) (IsFirstThread (IsLater log all) (texts_of lines.now)) }
+fn first_thread(
+    alloc: Global,
+    lines: &Lines,
+    later: &BTreeSet<u32>,
+) -> Result<Option<u32>, AllocError>
+    ensures { IfOk result (λ found. (log all : List (List ℕ)) → ((pid : ℕ) → Has later.now pid ↔ IsLater log all pid)
+        → MatchOption found ((pid : ℕ) → ¬ IsFirstThread (IsLater log all) (texts_of lines.now) pid) (IsFirstThread (IsLater log all) (texts_of lines.now))) }
 {
+    let mut room = Vec::new(alloc);
     'lines: for place in 0..lines.len() {
-        let (_, text) = lines.at(place);
+        let (_, text) = lines.at(place, &mut room)?;
         if let Some(pid) = fresh(text, later) {
-            return Some(pid);
+            return Ok(Some(pid));
         }
     }
-    None
+    Ok(None)
 }
 
 /// The number of the message with which strace begins where it is let to a process.
@@ -245,11 +255,13 @@ pub(crate) fn numbering_of(
     if let Some(pid) = start(whole) {
         return Ok(Numbering::Plain(Some(pid)));
     }
-    if !is_mixed(lines) {
+    let mixed = is_mixed(alloc, lines)?;
+    if !mixed {
         return Ok(Numbering::AsPrinted);
     }
     let later = all_later(alloc, whole, lines)?;
-    Ok(Numbering::Plain(first_thread(lines, &later)))
+    let first = first_thread(alloc, lines, &later)?;
+    Ok(Numbering::Plain(first))
 }
 
 /// Whether a text gets the number of the first thread: where it has none, isn't empty, and bears no mark.
@@ -283,16 +295,10 @@ pub(crate) fn renumbered(first: Option<u32>, text: &[u8]) -> Option<(u32, &[u8])
     None
 }
 
-/// Adds a text with a number before it.
-pub(crate) fn push_with_number(
-    lines: &mut Lines,
-    number: u32,
-    pid: u32,
-    body: &[u8],
-) -> Result<(), AllocError>
-    ensures { OnOk result (lines.new ≡ lines.old ++ (line_of number (with_number pid body.now) ∷ [])) }
-{
-    let mut buffer = itoa::Buffer::new();
-    lines.push(number, buffer.format(pid).as_bytes(), b" ", body)?;
-    Ok(())
+/// The number that lines without one get.
+pub(crate) fn first_of(numbering: Numbering) -> u32 {
+    match numbering {
+        Numbering::Plain(Some(pid)) => pid,
+        _ => 0,
+    }
 }

@@ -95,12 +95,9 @@ fn pick_lines(
     let made = all_made(alloc, &lines)?;
     let chooser = chooser_of(alloc, made.as_slice(), process, count)?;
     let others = unmade(alloc, &lines, made.as_slice())?;
-    let picker = with_numbers(
-        pick(&lines, &chooser),
-        silent(made.as_slice(), speakers),
-        others,
-    );
-    let kept = chosen(lines, &chooser, picker.start);
+    let picked = pick(alloc, &lines, &chooser)?;
+    let picker = with_numbers(picked, silent(made.as_slice(), speakers), others);
+    let kept = chosen(alloc, lines, &chooser, picker.start)?;
     Ok((picker, kept))
 }
 

@@ -125,8 +125,9 @@ pub(crate) fn all_made(alloc: Global, lines: &Lines) -> Result<Vec<Made>, AllocE
         ended: BTreeMap::new(alloc),
         made: Vec::new(alloc),
     };
+    let mut room = Vec::new(alloc);
     'lines: for place in (0..lines.len()).rev() {
-        let (_, text) = lines.at(place);
+        let (_, text) = lines.at(place, &mut room)?;
         makers.take(place as u32, told_of(text))?;
     }
     Ok(makers.made)
@@ -310,8 +311,9 @@ pub(crate) fn speakers(alloc: Global, lines: &Lines) -> Result<BTreeSet<u32>, Al
     ensures { IfOk result (λ found. HasSpeakers found lines.now) }
 {
     let mut found = BTreeSet::new(alloc);
+    let mut room = Vec::new(alloc);
     'lines: for place in (0..lines.len()).rev() {
-        let (_, text) = lines.at(place);
+        let (_, text) = lines.at(place, &mut room)?;
         put_number(&mut found, told_of(text).pid)?;
     }
     Ok(found)
@@ -350,8 +352,9 @@ pub(crate) fn unmade(alloc: Global, lines: &Lines, made: &[Made]) -> Result<u32,
 {
     let mut known = made_numbers(alloc, made)?;
     let mut count: u32 = 0;
+    let mut room = Vec::new(alloc);
     'lines: for place in (0..lines.len()).rev() {
-        let (_, text) = lines.at(place);
+        let (_, text) = lines.at(place, &mut room)?;
         let next = count_new(&mut known, told_of(text), count)?;
         count = next;
     }

@@ -163,8 +163,9 @@ pub(crate) fn roles_of(alloc: Global, lines: &Lines) -> Result<Roles, AllocError
         waiting: BTreeMap::new(alloc),
         roles: Roles::new(alloc),
     };
+    let mut room = Vec::new(alloc);
     'lines: for place in 0..lines.len() {
-        let (_, text) = lines.at(place);
+        let (_, text) = lines.at(place, &mut room)?;
         finder.take(text, place as u32)?;
     }
     Ok(finder.roles)

@@ -144,12 +144,23 @@ fn is_form(trouble: Option<Trouble>) -> bool
     }
 }
 
-/// The text at a place, with the number of its line.
-fn text_at(lines: &Lines, place: usize) -> (u32, &[u8])
+/// Rooms for a text and for its second half.
+#[derive(Drop)]
+struct Rooms {
+    first: Vec<u8>,
+    second: Vec<u8>,
+}
+
+/// The text at a place, with the number of its line. It stands in this room, or where it is kept.
+fn text_at<'a>(
+    lines: &'a Lines,
+    place: usize,
+    room: &'a mut Vec<u8>,
+) -> Result<(u32, &'a [u8]), AllocError>
     requires { place < length lines.now }
-    ensures { (line : NumberedOf) → slice_get lines.now place ≡ Some line → line_of result.0 result.1.now ≡ line }
+    ensures { IfOk result (λ found. (line : NumberedOf) → slice_get lines.now place ≡ Some line → line_of found.0 found.1.now ≡ line) }
 {
-    lines.at(place)
+    lines.at(place, room)
 }
 
 /// The line of two halves: what is kept of the first, with the number of its process, and of the second.
@@ -261,6 +272,7 @@ fn piece_of(alloc: Global, line: &[u8], number: u32, joined: bool) -> Result<Pie
 /// Does what the text at a place does, behind those before it.
 fn take_text(
     ordering: &mut Ordering,
+    rooms: &mut Rooms,
     alloc: Global,
     lines: &Lines,
     roles: &Roles,
@@ -275,7 +287,7 @@ fn take_text(
         → DidSome strict lines.now (place + 1) counts ordering.new) }
     ensures fault { IfErr result (EndsAll strict lines.now) }
 {
-    let (number, text) = text_at(lines, place);
+    let (number, text) = text_at(lines, place, &mut rooms.first)?;
     let role = roles.at(place as u32);
     match role {
         Role::Alone => {
@@ -283,7 +295,7 @@ fn take_text(
             ordering.write(alloc, piece, strict)
         }
         Role::First { other, to, behind } => {
-            let (_, second) = text_at(lines, other as usize);
+            let (_, second) = text_at(lines, other as usize, &mut rooms.second)?;
             let line = line_of_halves(alloc, text, second, to, behind)?;
             let piece = piece_of(alloc, line.as_slice(), number, true)?;
             ordering.begin(piece)
@@ -313,8 +325,20 @@ pub(crate) fn write_lines(
             calls: 0,
         },
     };
+    let mut rooms = Rooms {
+        first: Vec::new(alloc),
+        second: Vec::new(alloc),
+    };
     'places: for place in 0..lines.len() {
-        take_text(&mut ordering, alloc, lines, roles, place, strict)?;
+        take_text(
+            &mut ordering,
+            &mut rooms,
+            alloc,
+            lines,
+            roles,
+            place,
+            strict,
+        )?;
     }
     Ok(ordering.written)
 }

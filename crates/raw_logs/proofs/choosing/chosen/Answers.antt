@@ -29,7 +29,7 @@ places-preserved c =
     let line : Numbered = get_or lines place none in
     let left = drop_more lines place none (omega arith) in
     let rest : rest_in c.places.sieve ≡ line ∷ drop (place + 1) lines = i.4 ∙ left in
-    let seen = c.next.ensures line (drop (place + 1) lines) rest in
+    let seen = c.in_ok-text.ensures line (drop (place + 1) lines) rest in
     let tells : Tells line.text c.told_of-told.result =
     subst (λ x. Tells x c.told_of-told.result) (ap (λ (x : Numbered). x.text) (sym seen)) c.told_of-told.ensures in
     let few = c.pass.ensures.few in

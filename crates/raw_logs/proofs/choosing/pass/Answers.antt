@@ -3,7 +3,8 @@ use Rattle.std.proofs.lemmas.List.{length-append}
 use Rattle.raw_logs.specs.declared.told.Form.TheVariants.{Whole}
 use Rattle.raw_logs.specs.Buffer.{kept_in}
 use Rattle.raw_logs.specs.Stages.{keeps}
-use Rattle.raw_logs.proofs.PickFacts.{short_behind, keeps_whole, passed_kept, left_line}
+use Rattle.raw_logs.proofs.PickFacts.{short_behind, keeps_whole, passed_kept}
+use Rattle.raw_logs.proofs.SieveFacts.{left_line}
 use Rattle.raw_logs.proofs.choosing.pass.Goals as goal
 
 -- the line is kept behind the others

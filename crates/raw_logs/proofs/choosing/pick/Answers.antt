@@ -22,12 +22,12 @@ pub lines-preserved : goal.lines-preserved
 lines-preserved c =
     let next : c.lines.place ≡ c.lines.place - 1 + 1 = omega arith in
     let lines = c.args.lines.now in
-    let line = line_of c.at-number.result.0 c.at-number.result.1.now in (
+    let line = line_of c.in_ok-number.number c.in_ok-number.text.now in (
       λ process made count tolds choose told.
-          c.look.ensures.picked (has_line process made count) lines tolds c.at-number.result.1.now
+          c.look.ensures.picked (has_line process made count) lines tolds c.in_ok-number.text.now
           (subst (λ n. HasPicked (has_line process made count) lines tolds n c.lines.picker) next (c.lines.invariant.0 process made count tolds choose told))
-          (lines_from lines (c.lines.place - 1) (c.lines.place - 1 + 1) line (omega arith) (omega arith) c.at-number.ensures)
-          (told_at lines tolds (c.lines.place - 1) line c.told_of-told.result told (omega arith) c.at-number.ensures c.told_of-told.ensures)
+          (lines_from lines (c.lines.place - 1) (c.lines.place - 1 + 1) line (omega arith) (omega arith) c.in_ok-number.ensures)
+          (told_at lines tolds (c.lines.place - 1) line c.told_of-told.result told (omega arith) c.in_ok-number.ensures c.told_of-told.ensures)
           (c.has-here.ensures process made count choose),
       start_within c.lines.picker.ended c.lines.picker.start (c.lines.place - 1) (length lines) c.look.new.self.start c.look.ensures.start c.lines.invariant.1
           (omega arith),

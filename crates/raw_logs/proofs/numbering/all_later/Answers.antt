@@ -11,7 +11,7 @@ lines-init c = later_none _ _ c.in_ok-found.ensures
 pub lines-preserved : goal.lines-preserved
 lines-preserved c =
     later_more (lines_of c.args.whole.now) c.args.lines.now c.lines.place _ _ _ _ (omega (arith, c.lines-test.true, c.len-place-end.ensures))
-    c.at.ensures refl c.lines.invariant
+    c.in_ok-text.ensures refl c.lines.invariant
     c.in_ok-add_given.ensures
 
 -- all lines

@@ -9,14 +9,14 @@ pub returns-then-is_bare_call : goal.returns-then-is_bare_call
 returns-then-is_bare_call c =
     decides_true (
       _,
-      text_there c.args.lines.now c.lines.place _ (omega (arith, c.lines-test.true, c.len-place-end.ensures)) c.at.ensures,
+      text_there c.args.lines.now c.lines.place _ (omega (arith, c.lines-test.true, c.len-place-end.ensures)) c.in_ok-text.ensures,
       is_so c.is_bare_call.result c.is_bare_call.ensures c.if-is_bare_call.true,
     )
 
 -- this one isn't either
 pub lines-preserved : goal.lines-preserved
 lines-preserved c =
-    none_more IsBareCall c.args.lines.now c.lines.place _ (omega (arith, c.lines-test.true, c.len-place-end.ensures)) c.at.ensures c.lines.invariant
+    none_more IsBareCall c.args.lines.now c.lines.place _ (omega (arith, c.lines-test.true, c.len-place-end.ensures)) c.in_ok-text.ensures c.lines.invariant
     (is_not c.is_bare_call.result c.is_bare_call.ensures c.if-is_bare_call.false)
 
 -- none is

@@ -9,14 +9,14 @@ pub returns-then-has_brackets : goal.returns-then-has_brackets
 returns-then-has_brackets c =
     decides_true (
       _,
-      text_there c.args.lines.now c.lines.place _ (omega (arith, c.lines-test.true, c.len-place-end.ensures)) c.at.ensures,
+      text_there c.args.lines.now c.lines.place _ (omega (arith, c.lines-test.true, c.len-place-end.ensures)) c.in_ok-text.ensures,
       is_so c.has_brackets.result c.has_brackets.ensures c.if-has_brackets.true,
     )
 
 -- this one isn't either
 pub lines-preserved : goal.lines-preserved
 lines-preserved c =
-    none_more HasBrackets c.args.lines.now c.lines.place _ (omega (arith, c.lines-test.true, c.len-place-end.ensures)) c.at.ensures c.lines.invariant
+    none_more HasBrackets c.args.lines.now c.lines.place _ (omega (arith, c.lines-test.true, c.len-place-end.ensures)) c.in_ok-text.ensures c.lines.invariant
     (is_not c.has_brackets.result c.has_brackets.ensures c.if-has_brackets.false)
 
 -- none is

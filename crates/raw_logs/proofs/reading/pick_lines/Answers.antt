@@ -10,11 +10,11 @@ pub returns-clause-picked : goal.returns-clause-picked
 returns-clause-picked c = λ speak.
     let m = c.in_ok-made.ensures in
     let here = has_line c.args.process c.as_slice.result.now c.len-count.result in
-    let picked = c.pick.ensures.picked c.args.process _ _ m.0 c.in_ok-chooser.ensures m.1 in
-    let kept = c.chosen-kept.ensures.kept c.args.process _ _ m.0 c.in_ok-chooser.ensures m.1 in
-    pick_is c.args.process c.args.lines _ _ c.silent.result c.in_ok-others.others _ (seen c.chosen-kept.result c.with_numbers-picker.result) m.0 m.1
+    let picked = c.in_ok-picked.ensures.picked c.args.process _ _ m.0 c.in_ok-chooser.ensures m.1 in
+    let kept = c.in_ok-kept.ensures.kept c.args.process _ _ m.0 c.in_ok-chooser.ensures m.1 in
+    pick_is c.args.process c.args.lines _ _ c.silent.result c.in_ok-others.others _ (seen c.in_ok-kept.kept c.with_numbers-picker.result) m.0 m.1
     (c.as_slice.ensures.value ∙ m.2) c.len-count.ensures picked.is
     (c.silent.ensures m.0 (speak m.0 m.1) ∙ ap (λ x. within_32_bits (silent x m.0)) (c.as_slice-3.ensures.value ∙ sym c.as_slice.ensures.value))
     (c.in_ok-others.ensures m.0 m.1 ∙ ap (λ x. within_32_bits (unmade x m.0)) (c.as_slice-2.ensures.value ∙ sym c.as_slice.ensures.value))
     (ap (λ x. seen x c.with_numbers-picker.result) (kept ∙ ap (λ n. kept_from here n c.args.lines m.0) c.with_numbers-picker.ensures.start)
-    ∙ c.with_numbers-picker.ensures.seen (kept_from here c.pick.result.start c.args.lines m.0))
+    ∙ c.with_numbers-picker.ensures.seen (kept_from here c.in_ok-picked.picked.start c.args.lines m.0))

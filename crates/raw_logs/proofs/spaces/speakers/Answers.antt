@@ -16,8 +16,8 @@ lines-init c =
 pub lines-preserved : goal.lines-preserved
 lines-preserved c =
     let next : c.lines.place ≡ c.lines.place - 1 + 1 = omega arith in
-    let line = line_of c.at.result.0 c.at.result.1.now in
-    let more = lines_from c.args.lines.now (c.lines.place - 1) c.lines.place line (omega arith) next c.at.ensures in
+    let line = line_of c.in_ok-text.field-0-0 c.in_ok-text.text.now in
+    let more = lines_from c.args.lines.now (c.lines.place - 1) c.lines.place line (omega arith) next c.in_ok-text.ensures in
     subst (HasSpeakers c.put_number.new.found) (sym more)
     (speakers_more c.lines.found _ line (drop c.lines.place c.args.lines.now) c.told_of.result c.told_of.ensures c.lines.invariant
     c.in_ok-put_number.ensures)

@@ -1,4 +1,4 @@
-use Rattle.std.proofs.Common.{◌-◌, ◌+◌, ◌≡◌, [], drop, refl, sym, subst, arith}
+use Rattle.std.proofs.Common.{◌-◌, ◌+◌, ◌≡◌, drop, refl, sym, subst, arith}
 use Rattle.std.proofs.lemmas.List.{drop_all}
 use Rattle.raw_logs.specs.Log.{line_of}
 use Rattle.raw_logs.specs.Told.{AreTold}
@@ -15,8 +15,8 @@ lines-init c =
 pub lines-preserved : goal.lines-preserved
 lines-preserved c = λ tolds told.
     let next : c.lines.place ≡ c.lines.place - 1 + 1 = omega arith in
-    let line = line_of c.at.result.0 c.at.result.1.now in
-    let more = lines_from c.args.lines.now (c.lines.place - 1) c.lines.place line (omega arith) next c.at.ensures in
+    let line = line_of c.in_ok-text.field-0-0 c.in_ok-text.text.now in
+    let more = lines_from c.args.lines.now (c.lines.place - 1) c.lines.place line (omega arith) next c.in_ok-text.ensures in
     unmade_step c.lines.known _ c.args.made.now line (drop c.lines.place c.args.lines.now) c.told_of.result c.lines.count c.in_ok-next.next
     c.told_of.ensures c.lines.invariant c.in_ok-next.ensures.known c.in_ok-next.ensures.count tolds (subst (λ x. AreTold x tolds) more told)
 

@@ -20,8 +20,8 @@ lines-preserved c =
     let i = c.lines.invariant in
     let one = c.in_ok-take.ensures.one in
     let were = i.1 in (
-      finds_line c.args.lines.now c.lines.place _ _ _ i.0.0 (omega arith) c.at.ensures i.0.1
-          (c.in_ok-take.ensures.finds i.0.0 c.at.result.0 i.0.2),
+      finds_line c.args.lines.now c.lines.place _ _ _ i.0.0 (omega arith) c.in_ok-text.ensures i.0.1
+          (c.in_ok-take.ensures.finds i.0.0 c.in_ok-text.field-0-0 i.0.2),
       omega arith,
     )
 

@@ -13,7 +13,7 @@ pub returns-in_ok-piece-in-Alone-clause-did : goal.returns-in_ok-piece-in-Alone-
 returns-in_ok-piece-in-Alone-clause-did c =
     on_ok_weaker c.write.result
     (λ w. alone_did c.args.strict c.args.lines.now c.args.place c.args.roles.now _ c.args.ordering.now c.requires.roles c.at-role.ensures
-    c.requires.place _ _ _ _ c.in-Alone.is c.text_at-number.ensures c.in_ok-piece-in-Alone.ensures w)
+    c.requires.place _ _ _ _ c.in-Alone.is c.in_ok-number.ensures c.in_ok-piece-in-Alone.ensures w)
     c.write.ensures.wrote
 
 -- the writing ended at it
@@ -21,30 +21,30 @@ pub returns-in_ok-piece-in-Alone-clause-fault : goal.returns-in_ok-piece-in-Alon
 returns-in_ok-piece-in-Alone-clause-fault c =
     IfErr-weaker c.write.result _ _
     (λ fault h. alone_ends c.args.strict c.args.lines.now c.args.place c.args.roles.now _ c.args.ordering.now c.requires.roles c.at-role.ensures
-    c.requires.place _ _ _ fault c.in-Alone.is c.text_at-number.ensures c.in_ok-piece-in-Alone.ensures h c.requires.did)
+    c.requires.place _ _ _ fault c.in-Alone.is c.in_ok-number.ensures c.in_ok-piece-in-Alone.ensures h c.requires.did)
     c.write.ensures.fault
 
 -- the second half is there
-pub text_at-requires : goal.text_at-requires
-text_at-requires c = (kept_halves c.args.strict c.args.lines.now c.args.place _ _ _ c.args.roles.now _ c.args.ordering.now c.requires.did c.requires.roles
+pub text_at-requires-in-First : goal.text_at-requires-in-First
+text_at-requires-in-First c = (kept_halves c.args.strict c.args.lines.now c.args.place _ _ _ c.args.roles.now _ c.args.ordering.now c.requires.did c.requires.roles
     c.at-role.ensures c.requires.place c.in-First.is).within
 
 -- what is kept of both halves is within them
 pub line_of_halves-requires-clause-first : goal.line_of_halves-requires-clause-first
 line_of_halves-requires-clause-first c = (kept_halves c.args.strict c.args.lines.now c.args.place _ _ _ c.args.roles.now _ c.args.ordering.now
-    c.requires.did c.requires.roles c.at-role.ensures c.requires.place c.in-First.is).first _ _ c.text_at-number.ensures
+    c.requires.did c.requires.roles c.at-role.ensures c.requires.place c.in-First.is).first _ _ c.in_ok-number.ensures
 
 -- of the second too
 pub line_of_halves-requires-clause-second : goal.line_of_halves-requires-clause-second
 line_of_halves-requires-clause-second c = (kept_halves c.args.strict c.args.lines.now c.args.place _ _ _ c.args.roles.now _ c.args.ordering.now
-    c.requires.did c.requires.roles c.at-role.ensures c.requires.place c.in-First.is).second _ _ c.text_at.ensures
+    c.requires.did c.requires.roles c.at-role.ensures c.requires.place c.in-First.is).second _ _ c.in_ok-second-in-First.ensures
 
 -- a first half begins its call
 pub returns-in_ok-piece-in-First-clause-did : goal.returns-in_ok-piece-in-First-clause-did
 returns-in_ok-piece-in-First-clause-did c =
     on_ok_weaker c.begin.result
     (λ w. first_did c.args.strict c.args.lines.now c.args.place c.args.roles.now _ c.args.ordering.now c.requires.roles c.at-role.ensures c.requires.place
-    _ _ _ _ _ _ _ _ _ _ c.in-First.is c.text_at-number.ensures c.text_at.ensures (c.as_slice.ensures.value ∙ c.in_ok-line-in-First.ensures)
+    _ _ _ _ _ _ _ _ _ _ c.in-First.is c.in_ok-number.ensures c.in_ok-second-in-First.ensures (c.as_slice.ensures.value ∙ c.in_ok-line-in-First.ensures)
     c.in_ok-piece-in-First.ensures w c.begin.ensures.written)
     c.begin.ensures.waits
 

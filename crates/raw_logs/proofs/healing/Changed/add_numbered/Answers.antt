@@ -16,4 +16,4 @@ returns-in_default-clause-made c = λ texts h.
 pub returns-clause-made : goal.returns-clause-made
 returns-clause-made c = λ texts h.
     made_more (IsRenumbered (Plain c.args.first)) OfNumbered texts _ _ _ _ (line_of c.args.number c.args.text.now) (Some _) h c.in-Some.ensures
-    c.in_ok-push_with_number.ensures c.add.ensures
+    c.in_ok-push_numbered.ensures c.add.ensures

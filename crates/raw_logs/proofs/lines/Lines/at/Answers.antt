@@ -6,7 +6,7 @@ use Rattle.raw_logs.proofs.lines.Lines.at.Goals as goal
 pub text_of-requires-clause-place : goal.text_of-requires-clause-place
 text_of-requires-clause-place c =
     let is = c.requires in
-    let same = cut_length 0 c.self.inside.bytes.items c.self.inside.ends.items in
+    let same = cut_length c.self.inside.first 0 c.self.inside.bytes.items c.self.inside.ends.items in
     let all = ap length c.self.view_is in
     let ends = ap length c.as_slice-2.ensures.value in
     omega arith

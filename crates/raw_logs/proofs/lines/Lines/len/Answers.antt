@@ -6,6 +6,6 @@ use Rattle.raw_logs.proofs.lines.Lines.len.Goals as goal
 pub returns : goal.returns
 returns c =
     let count = c.self.inside.ends.ok.0 in
-    let same = cut_length 0 c.self.inside.bytes.items c.self.inside.ends.items in
+    let same = cut_length c.self.inside.first 0 c.self.inside.bytes.items c.self.inside.ends.items in
     let all = ap length c.self.view_is in
     omega arith

@@ -1,4 +1,4 @@
-use Rattle.std.proofs.Common.{◌-◌, arith}
+use Rattle.std.proofs.Common.{arith}
 use Rattle.raw_logs.proofs.SieveFacts.{IsNext, is_next, kept_sieve, kept_one, rest_kept}
 use Rattle.raw_logs.proofs.lines.Sieve.keep.Goals as goal
 

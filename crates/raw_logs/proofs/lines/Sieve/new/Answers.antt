@@ -8,7 +8,7 @@ use Rattle.raw_logs.proofs.lines.Sieve.new.Goals as goal
 pub start_of-from-requires : goal.start_of-from-requires
 start_of-from-requires c =
     let is = c.requires in
-    let same = cut_length 0 c.lines.inside.bytes.items c.lines.inside.ends.items in
+    let same = cut_length c.lines.inside.first 0 c.lines.inside.bytes.items c.lines.inside.ends.items in
     let all = ap length c.lines.view_is in
     let ends = ap length c.as_slice.ensures.value in
     omega arith
@@ -25,4 +25,4 @@ returns-clause-rest c =
     let ends = c.lines.inside.ends.items in
     let from : c.start_of-from.result ≡ start_at 0 ends c.args.start =
     c.start_of-from.ensures ∙ ap (λ x. start_at 0 x c.args.start) c.as_slice.ensures.value in
-    ap (λ x. cut_at x bytes (drop c.args.start ends)) from ∙ sym (cut_from 0 bytes ends c.args.start) ∙ ap (drop c.args.start) c.lines.view_is
+    ap (λ x. cut_at c.lines.inside.first x bytes (drop c.args.start ends)) from ∙ sym (cut_from c.lines.inside.first 0 bytes ends c.args.start) ∙ ap (drop c.args.start) c.lines.view_is
