@@ -55,7 +55,7 @@ role_more : (all fed : List ReadText) (x : ReadText) (later : List ReadText) (la
     → IsRole all fed x later role → IsRole (all ++ (last ∷ [])) fed x (later ++ (last ∷ [])) role
 role_more all fed x later last Alone n h = part_more fed x later last n ∙ h
 role_more all fed x later last (First other to behind) n h =
-    (h.0, get_more all (last ∷ []) other h.0 h.1, h.2, h.3, h.4, h.5, h.6, h.7, part_more fed x later last n ∙ h.8)
+    (h.0, get_more all (last ∷ []) other h.0 h.1, h.2, h.3, h.4, h.5, h.6, h.7, part_more fed x later last n ∙ h.8, h.9)
 role_more all fed x later last (Second p) n h = part_more fed x later last n ∙ h
 
 roles_more : (all fed xs : List ReadText) (last : ReadText) (roles : List Role) (role : Role) → NoneMet xs last → HaveRoles all fed xs roles
@@ -360,9 +360,25 @@ resumed_met before roles number text p place n behind w f pl e same (waits_among
     let back = second_met fed text p behind n w e same in
     let second : part fed last [] (Ok (Resumed p n behind)) ≡ Back p =
     rw (self_is p) (ap (λ (o : Option (List ℕ)). unwrap_or (option_map (λ line. Back p) o) Whole) back.1) in
+    let many : length (fed_by [] a) < place =
+    let k = fed_length [] a in
+    let l = ap length parts in
+    let m = length-append a (x ∷ b) in
+    let c = have_count before [] before roles f in
+    omega arith in
     let r = roles_met before [] a x b last roles p (First place w.to behind) (Second p) t none (λ q u. sym (eqb-true p q u))
-    (subst (λ (z : List ReadText). HaveRoles before [] z roles) parts f)
-    (last, there, p, g.from, w.name, n, is, refl, first_part (fed_by [] a) x b (line_of number text) p g.from w.to behind w.name n is same none)
+    (subst (λ (z : List ReadText). HaveRoles before [] z roles) parts f) (
+      last,
+      there,
+      p,
+      g.from,
+      w.name,
+      n,
+      is,
+      refl,
+      first_part (fed_by [] a) x b (line_of number text) p g.from w.to behind w.name n is same none,
+      many,
+    )
     (subst (λ (z : List ReadText). part (fed_by [] z) last [] (Ok (Resumed p n behind)) ≡ Back p) parts second) in
     subst (λ (k : ℕ). HaveWith before last (slice_set roles k (First place w.to behind) ++ (Second p ∷ []))) (sym at)
     (subst (λ (z : List ReadText). HaveRoles (before ++ (last ∷ [])) [] (z ++ (last ∷ []))

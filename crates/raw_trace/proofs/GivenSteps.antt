@@ -1,6 +1,6 @@
 -- The texts of a log one by one: each does its step, and what the steps write is behind what was written.
-use Rattle.std.proofs.Common.{◌≡◌, ℕ, ◌+◌, ◌≤◌, Bool, List, [], ◌∷◌, ◌++◌, length, refl, sym, ap, subst, ◌∙◌, append_assoc, inl, inr, arith}
-use Rattle.std.proofs.lemmas.List.{append-nil, length-append}
+use Rattle.std.proofs.Common.{◌≡◌, ℕ, ◌+◌, ◌-◌, ◌<◌, ◌≤◌, drop, Bool, List, [], ◌∷◌, ◌++◌, length, refl, sym, ap, subst, ◌∙◌, append_assoc, inl, inr, arith}
+use Rattle.std.proofs.lemmas.List.{append-nil, drop-drop, length-append}
 use Rattle.raw_logs.specs.declared.counts.Counts.{Counts}
 use Rattle.raw_logs.specs.Log.{Numbered, Each}
 use Rattle.raw_trace.specs.declared.fault.Fault.{Fault}
@@ -10,7 +10,7 @@ use Rattle.raw_trace.specs.Faults.{IsFirstFault}
 use Rattle.raw_trace.specs.Order.{Entry, Step, frees_for, does, order}
 use Rattle.raw_trace.specs.Places.{ReadText, IsReadText, IsStep, AreSteps}
 use Rattle.raw_trace.specs.Rewriting.{text_of, lines_as, counted_all, calls_after}
-use Rattle.raw_trace.specs.Stages.{entries, fed_by, EachEntry, MayBeWritten, WroteDue, EndsDue, WroteAll, EndsAll, DidSome, AreRoles}
+use Rattle.raw_trace.specs.Stages.{entries, fed_by, EachEntry, MayBeWritten, WroteDue, EndsDue, WroteAll, EndsAll, DidSome, StandsAt, AreRoles}
 use Rattle.raw_trace.proofs.EachEntries.{each_both}
 use Rattle.raw_trace.proofs.OneFault.{first_more, first_behind}
 use Rattle.raw_trace.proofs.Turns.{text_both, counted_both, calls_both}
@@ -44,6 +44,19 @@ did_none strict lines roles counts now r w o c n =
       sum = c;
       calls = n;
       may = tt;
+    }
+
+-- texts more are let go at a place
+pub stands_at : (strict : Bool) (lines : List Numbered) (roles : List Role) (old left : List Numbered) (gone more place : ℕ) (counts : Counts) (now : Ordering)
+    → AreRoles lines roles → place < length lines → DidSome strict lines place counts now × (old ≡ drop gone lines) × (gone ≤ place)
+    → more ≤ place - gone → left ≡ drop more old → StandsAt strict lines roles left (gone + more) place counts now
+stands_at strict lines roles old left gone more place counts now r w (d, is, b) m e =
+    record {
+      roles_are = r;
+      within = w;
+      before = omega arith;
+      left_are = e ∙ ap (drop more) is ∙ drop-drop more gone lines;
+      did = d;
     }
 
 -- what a text more gives

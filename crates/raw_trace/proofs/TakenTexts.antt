@@ -24,6 +24,7 @@ use Rattle.raw_trace.specs.Order.{Entry, Begins, Ends, Comes, frees_for, write_e
 use Rattle.raw_trace.specs.Places.{Becomes, becomes_itself, becomes_mended, becomes_unreturned, becomes_unread, IsReadAs, Changes, IsOtherForm, IsCause, IsTrouble, other_form, IsEntry}
 use Rattle.raw_trace.specs.Places.{HasReading, ReadText, Part, Whole, Back, part, IsDone, IsStep}
 use Rattle.raw_trace.specs.Stages.{entry, entries, fed_by, IsRole, AreRoles, WroteLines, WroteDue, EndsDue, DidSome, EndsAll}
+use Rattle.raw_trace.proofs.FoundHalves.{fed_length}
 use Rattle.raw_trace.proofs.GivenSteps.{did_more, did_end}
 use Rattle.raw_trace.proofs.LineCalls.{unread_passes}
 use Rattle.raw_trace.proofs.ReadTexts.{reading_of}
@@ -123,6 +124,8 @@ second_step lines place p fed later role x r =
 pub record KeptHalves (lines : List Numbered) (place other to behind : ℕ) : Type 0 where
   -- it is there
   pub within : other < length lines
+  -- behind the first
+  pub later : place < other
   -- what is kept of the first ends within it
   pub first : (number : ℕ) (shown : List ℕ) → IsShown lines place number shown → to ≤ length shown
   -- what is kept of the second begins within it
@@ -141,6 +144,7 @@ kept_halves strict lines place other to behind roles role now (counts, d) h is l
     let two = subst (HasReading has.0.line.text) has.7 (reading_of second.line has.0 second.read) in
     record {
       within = second.within;
+      later = (let k = fed_length [] d.fed in let c = d.count in let o = has.9 in omega arith);
       first = λ number shown s.
           let same = ap (λ (l : Numbered). length l.text) (shown_is lines place number shown x.text s x.at) in
           let k = half_ends x.text.line.text has.2 has.4 has.3 to one in

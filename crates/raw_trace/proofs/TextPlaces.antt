@@ -1,7 +1,7 @@
 -- The texts of a log at their places, with what each is read as and to its other half.
-use Rattle.std.proofs.Common.{◌≡◌, ℕ, zero, suc, ◌<◌, ◌≤◌, List, [], ◌∷◌, ◌++◌, length, get_or, Option, Some, refl, sym, ap, subst, ◌∙◌, arith}
+use Rattle.std.proofs.Common.{◌≡◌, ℕ, zero, suc, ◌+◌, ◌-◌, ◌<◌, ◌≤◌, List, [], ◌∷◌, ◌++◌, length, drop, get_or, Option, Some, refl, sym, ap, subst, ◌∙◌, arith}
 use Rattle.std.specs.Prelude.{slice_get}
-use Rattle.std.proofs.lemmas.List.{append-nil}
+use Rattle.std.proofs.lemmas.List.{append-nil, get_or-drop}
 use Rattle.strace_reader.specs.declared.item.Item.TheVariants.{Unfinished, Resumed}
 use Rattle.strace_reader.specs.declared.item.Name.{Name}
 use Rattle.strace_reader.specs.Grammar.{IsBody, Spells}
@@ -37,6 +37,15 @@ pub line_got : (lines : List Numbered) (place : ℕ) (line other : Numbered) →
 line_got [] place line other e g = absurd cc
 line_got (x ∷ lines) zero line other e g = let k : x ≡ other = cc in e ∙ k
 line_got (x ∷ lines) (suc place) line other e g = line_got lines place line other e g
+
+-- so it is where the first lines were let go
+pub got_left : (lines left : List Numbered) (gone place : ℕ) (line other : Numbered) → gone ≤ place → left ≡ drop gone lines
+    → line ≡ get_or left (place - gone) line → slice_get lines place ≡ Some other → line ≡ other
+got_left lines left gone place line other l is e got =
+    let at : gone + (place - gone) ≡ place = omega arith in
+    line_got lines place line other
+    (e ∙ ap (λ (x : List Numbered). get_or x (place - gone) line) is ∙ get_or-drop gone lines (place - gone) line
+    ∙ ap (λ (n : ℕ). get_or lines n line) at) got
 
 -- the line of a text at a place
 pub record LineAt (lines : List Numbered) (place : ℕ) (text : ReadText) : Type 0 where

@@ -1,6 +1,6 @@
 -- What the private functions of this crate say of what they hold: what is found of halves, lines in their order, and
 -- what was written. It ties the code to the other definitions, which speak of texts and of entries.
-use Rattle.std.specs.Prelude.{◌≡◌, ◌⊎◌, ℕ, List, [], ◌∷◌, ◌++◌, length, map, take, drop, reverse, Option, Some, None, Result, Ok, Bool, if◌then◌else◌, slice_get}
+use Rattle.std.specs.Prelude.{◌≡◌, ◌⊎◌, ℕ, ◌<◌, ◌≤◌, List, [], ◌∷◌, ◌++◌, length, map, take, drop, reverse, Option, Some, None, Result, Ok, Bool, if◌then◌else◌, slice_get}
 use Rattle.std.specs.BTreeMap.{get}
 use Rattle.std.specs.Ordering.{nat_cmp}
 use Rattle.strace_reader.specs.declared.item.Item.{Item}
@@ -25,12 +25,12 @@ use Rattle.raw_trace.specs.Rewriting.{text_of, lines_as, counted_all, calls_afte
 -- ---- halves
 
 -- what a text is to its other half, among all, behind those that were fed and before later ones; a place counts texts
--- from 0
+-- from 0, and a second half stands behind its first
 abbrev pub IsRole : List ReadText → List ReadText → ReadText → List ReadText → Role → Type 0
 IsRole all fed text later Alone = part fed text later text.reading ≡ Whole
 IsRole all fed text later (First other to behind) = (second : ReadText) × (slice_get all other ≡ Some second)
     × (process from : ℕ) × (name end : Name) × (text.reading ≡ Ok (Unfinished process name from to)) × (second.reading ≡ Ok (Resumed process end behind))
-    × (part fed text later text.reading ≡ Front (take to text.line.text ++ drop behind second.line.text))
+    × (part fed text later text.reading ≡ Front (take to text.line.text ++ drop behind second.line.text)) × (length fed < other)
 IsRole all fed text later (Second process) = part fed text later text.reading ≡ Back process
 
 -- each text has its role
@@ -176,3 +176,12 @@ pub record DidSome (strict : Bool) (lines : List Numbered) (place : ℕ) (counts
   pub sum : now.written.counts ≡ counted_all counts written
   pub calls : now.written.calls ≡ calls_after 0 written
   pub may : EachEntry (MayBeWritten strict) written
+
+-- The lines and their roles stand so at a place: of the lines before it all was done, and the first ones, so many, were
+-- let go.
+pub record StandsAt (strict : Bool) (lines : List Numbered) (roles : List Role) (left : List Numbered) (gone place : ℕ) (counts : Counts) (now : Ordering) : Type 0 where
+  pub roles_are : AreRoles lines roles
+  pub within : place < length lines
+  pub before : gone ≤ place
+  pub left_are : left ≡ drop gone lines
+  pub did : DidSome strict lines place counts now

@@ -68,7 +68,7 @@ fn rewritten(
     let texts = read_log(alloc, text, process)?;
     keep_known(texts.unknown, strict)?;
     let roles = roles_of(alloc, &texts.lines)?;
-    let written = write_lines(alloc, &texts.lines, &roles, texts.counts, strict)?;
+    let written = write_lines(alloc, texts.lines, &roles, texts.counts, strict)?;
     Ok(Rewriting {
         out: written.out,
         counts: written.counts,

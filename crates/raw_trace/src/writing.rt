@@ -11,7 +11,7 @@ ghost use Rattle.raw_trace.specs.Faults.{IsEntryFault};
 ghost use Rattle.std.specs.Bool.{Decides};
 ghost use Rattle.raw_trace.specs.Places.{Becomes, IsReadAs, Changes, IsOtherForm, IsCause, IsTrouble, other_form, IsEntry};
 ghost use Rattle.raw_trace.specs.Rewriting.{text_of, is_form, counted, counted_entry, counted_call};
-ghost use Rattle.raw_trace.specs.Stages.{entry, AreRoles, MayBeWritten, WroteLines, DidSome, WroteAll, EndsAll};
+ghost use Rattle.raw_trace.specs.Stages.{entry, AreRoles, MayBeWritten, WroteLines, DidSome, StandsAt, WroteAll, EndsAll};
 
 use crate::calls::{ReadCall, call_of};
 use crate::fault::{Cause, Fault, Trouble};
@@ -23,6 +23,9 @@ use raw_lines::changes_space;
 use raw_logs::{Counts, LINE_LIMIT, Lines, Sort};
 use std::alloc::{AllocError, Global};
 use strace_reader::{Item, cut, ends_with, read_line};
+
+/// Fewer texts aren't let go.
+const FEW: usize = 1024;
 
 /// The lines that are written, and what was changed in them.
 #[derive(Drop)]
@@ -151,16 +154,20 @@ struct Rooms {
     second: Vec<u8>,
 }
 
-/// The text at a place, with the number of its line. It stands in this room, or where it is kept.
+/// The text at a place, with the number of its line, where so many texts at the beginning were let go. It stands in this
+/// room, or where it is kept.
 fn text_at<'a>(
-    lines: &'a Lines,
+    left: &'a Lines,
+    gone: usize,
     place: usize,
     room: &'a mut Vec<u8>,
 ) -> Result<(u32, &'a [u8]), AllocError>
-    requires { place < length lines.now }
-    ensures { IfOk result (λ found. (line : NumberedOf) → slice_get lines.now place ≡ Some line → line_of found.0 found.1.now ≡ line) }
+    requires gone { gone ≤ place }
+    requires place { place - gone < length left.now }
+    ensures { IfOk result (λ found. (lines : List NumberedOf) → left.now ≡ drop gone lines
+        → (line : NumberedOf) → slice_get lines place ≡ Some line → line_of found.0 found.1.now ≡ line) }
 {
-    lines.at(place, room)
+    left.at(place - gone, room)
 }
 
 /// The line of two halves: what is kept of the first, with the number of its process, and of the second.
@@ -269,25 +276,25 @@ fn piece_of(alloc: Global, line: &[u8], number: u32, joined: bool) -> Result<Pie
     })
 }
 
-/// Does what the text at a place does, behind those before it.
+/// Does what the text at a place does, behind those before it, where so many at the beginning were let go.
 fn take_text(
     ordering: &mut Ordering,
     rooms: &mut Rooms,
     alloc: Global,
-    lines: &Lines,
+    left: &Lines,
+    gone: usize,
     roles: &Roles,
     place: usize,
     strict: bool,
 ) -> Result<(), Fault>
-    requires few { length lines.now < 2 ^ 32 - 1 }
-    requires place { place < length lines.now }
-    requires roles { AreRoles lines.now roles.now }
-    requires did { (counts : CountsOf) × DidSome strict lines.now place counts ordering.old }
-    ensures did { OnOk result ((counts : CountsOf) → DidSome strict lines.now place counts ordering.old
-        → DidSome strict lines.now (place + 1) counts ordering.new) }
-    ensures fault { IfErr result (EndsAll strict lines.now) }
+    requires few { place < 2 ^ 32 - 1 }
+    requires stands { (lines : List NumberedOf) × (counts : CountsOf) × StandsAt strict lines roles.now left.now gone place counts ordering.old }
+    ensures did { OnOk result ((lines : List NumberedOf) (counts : CountsOf) → StandsAt strict lines roles.now left.now gone place counts ordering.old
+        → DidSome strict lines (place + 1) counts ordering.new) }
+    ensures fault { IfErr result (λ fault. (lines : List NumberedOf) (counts : CountsOf)
+        → StandsAt strict lines roles.now left.now gone place counts ordering.old → EndsAll strict lines fault) }
 {
-    let (number, text) = text_at(lines, place, &mut rooms.first)?;
+    let (number, text) = text_at(left, gone, place, &mut rooms.first)?;
     let role = roles.at(place as u32);
     match role {
         Role::Alone => {
@@ -295,7 +302,7 @@ fn take_text(
             ordering.write(alloc, piece, strict)
         }
         Role::First { other, to, behind } => {
-            let (_, second) = text_at(lines, other as usize, &mut rooms.second)?;
+            let (_, second) = text_at(left, gone, other as usize, &mut rooms.second)?;
             let line = line_of_halves(alloc, text, second, to, behind)?;
             let piece = piece_of(alloc, line.as_slice(), number, true)?;
             ordering.begin(piece)
@@ -304,19 +311,43 @@ fn take_text(
     }
 }
 
-/// Writes the lines in their order, counting on from these counts.
+/// How many of the first texts are let go at a place, before which so many stand still and behind which there are so
+/// many others: all, where they are an eighth of these and not few. So what is let go takes no more steps than eight
+/// times the texts, and the memory of what was written and of what isn't yet is hardly more than the larger of both.
+fn let_go(done: usize, others: usize) -> usize
+    ensures { result ≤ done }
+{
+    if done < FEW || done < others / 8 {
+        return 0;
+    }
+    done
+}
+
+/// The texts without the first ones, so many.
+fn without(left: Lines, count: usize) -> Lines
+    requires { count ≤ length left }
+    ensures { result ≡ drop count left }
+{
+    if count == 0 {
+        return left;
+    }
+    left.without_first(count)
+}
+
+/// Writes the lines in their order, counting on from these counts. Texts that were written give their memory back.
 pub(crate) fn write_lines(
     alloc: Global,
-    lines: &Lines,
+    lines: Lines,
     roles: &Roles,
     counts: Counts,
     strict: bool,
 ) -> Result<Written, Fault>
-    requires few { length lines.now < 2 ^ 32 - 1 }
-    requires roles { AreRoles lines.now roles.now }
-    ensures wrote { IfOk result (WroteAll strict lines.now counts) }
-    ensures fault { IfErr result (EndsAll strict lines.now) }
+    requires few { length lines < 2 ^ 32 - 1 }
+    requires roles { AreRoles lines roles.now }
+    ensures wrote { IfOk result (WroteAll strict lines counts) }
+    ensures fault { IfErr result (EndsAll strict lines) }
 {
+    let count = lines.len();
     let mut ordering = Ordering {
         waiting: Vec::new(alloc),
         written: Written {
@@ -329,12 +360,18 @@ pub(crate) fn write_lines(
         first: Vec::new(alloc),
         second: Vec::new(alloc),
     };
-    'places: for place in 0..lines.len() {
+    let mut left = lines;
+    let mut gone = 0;
+    'places: for place in 0..count {
+        let more = let_go(place - gone, count - place);
+        left = without(left, more);
+        gone += more;
         take_text(
             &mut ordering,
             &mut rooms,
             alloc,
-            lines,
+            &left,
+            gone,
             roles,
             place,
             strict,
