@@ -59,8 +59,8 @@ module _ {P : Type 0} where
   abbrev pub IsDue : Regions → Interval → SeatPart (Beside P) → ℕ → ℕ → ℕ → Type 0
   IsDue c range p own at up = IsNarrowDue c range p own at ⊎ IsWideDue c range p own at up
 
-  -- what a look at the list `at` comes to, for a range that the list `own` holds and that is to stand so then; where that
-  -- list isn't empty it is swept, and the range is linked there too
+  -- what a look at the list `at` comes to, for a range that the list `own` holds and that is to stand so then; where
+  -- that list isn't empty it is swept, and the range is linked there too
   pub record LooksAt {A : Type 0} (table : TableId) (own at : ℕ) (asked : Held) (stands : Standing) (p q : SeatPart (Beside P)) (result : Result A NotHeld) :
       Type 0 where
     -- the seat is the same, and asks for that range alone
@@ -76,8 +76,8 @@ module _ {P : Type 0} where
     pub cause : IfErr result (IsCauseAt table at p q asked)
     pub long : IfErr result (λ why. IsLongRefusal why ↔ HasSpent q)
 
-  -- what the looks at all lists come to that a range has to look at which the list `own` holds, where so many may be made
-  -- again
+  -- what the looks at all lists come to that a range has to look at which the list `own` holds, where so many may be
+  -- made again
   pub record LooksAtAll {A : Type 0} (table : TableId) (c : Regions) (own looks : ℕ) (asked : Held) (p q : SeatPart (Beside P)) (result : Result A NotHeld) :
       Type 0 where
     -- the call works for that range, and has the list that holds it as before

@@ -46,8 +46,8 @@ module _ {P : Type 0} where
     pub many : lists ≡ list_count c
     pub regions : 0 < c.count
 
-  -- what leaving the epoch leaves, if the hand was inside one: it rests, without a node of its own, and asks for nothing.
-  -- There are so many lists
+  -- what leaving the epoch leaves, if the hand was inside one: it rests, without a node of its own, and asks for
+  -- nothing. There are so many lists
   pub record HasLeft (c : Regions) (n : ℕ) (p q : SeatPart (Beside P)) : Type 0 where
     pub later : IsLaterInTry p q
     pub asked : q.trace.asked ≡ p.trace.asked
@@ -88,8 +88,8 @@ module _ {P : Type 0} where
     pub holds : held_at (shown_core p at).own ≢ None
     pub beside : is_counted p.pass.lists p.pass.standing at ≡ false
 
-  -- a piece of work in that list by which a range was to be held there: it asks for no other, and nothing comes to count.
-  -- Where it is refused the seat has no node there
+  -- a piece of work in that list by which a range was to be held there: it asks for no other, and nothing comes to
+  -- count. Where it is refused the seat has no node there
   pub record IsLinkedIn {A E : Type 0} (at : ℕ) (asked : Held) (p q : SeatPart (Beside P)) (result : Result A E) : Type 0 where
     pub piece : IsPiece at p q
     pub asks : AsksOnly asked p.trace.asked q.trace.asked

@@ -63,9 +63,9 @@ fn link_patiently<G: Guard, L: Ledger>(
     hold_patiently(list, hand, range, mode, steps)
 }
 
-/// Makes the range count, which the list `own` holds, or gives its node back. A narrow one looks at list 0, sweeps it and
-/// looks again, is linked there too where that doesn't do, and waits nowhere; a wide one does so at each list that it
-/// takes, with so many further looks. `quick` says whether the fast path linked it. There are that many lists.
+/// Makes the range count, which the list `own` holds, or gives its node back. A narrow one looks at list 0, sweeps it
+/// and looks again, is linked there too where that doesn't do, and waits nowhere; a wide one does so at each list that
+/// it takes, with so many further looks. `quick` says whether the fast path linked it. There are that many lists.
 fn count_or_give<G: Guard, L: Ledger>(
     list: &List<G>,
     hand: &mut Hand<G>,

@@ -273,8 +273,8 @@ fn look_swept<G: Guard, L: Ledger>(
     link_in_both(list, hand, own, at, up, range, mode, steps)
 }
 
-/// Makes the range, which the list `own` holds, count at the list `at`: looks at that list, sweeps it where it isn't empty
-/// and looks again, and otherwise links the range there too. After a refusal no more counts than before.
+/// Makes the range, which the list `own` holds, count at the list `at`: looks at that list, sweeps it where it isn't
+/// empty and looks again, and otherwise links the range there too. After a refusal no more counts than before.
 #[inline(always)]
 fn look_in<G: Guard, L: Ledger>(
     list: &List<G>,
@@ -361,8 +361,8 @@ fn pass_all<G: Guard, L: Ledger>(
     Ok(())
 }
 
-/// Makes the range count, which the list `own` holds: a narrow one looks at list 0, and a wide one, which list 0 holds, at
-/// each list that it takes, with so many further looks. After a refusal it doesn't count. There are that many lists.
+/// Makes the range count, which the list `own` holds: a narrow one looks at list 0, and a wide one, which list 0 holds,
+/// at each list that it takes, with so many further looks. After a refusal it doesn't count. There are that many lists.
 #[inline(always)]
 pub(crate) fn look_in_all<G: Guard, L: Ledger>(
     list: &List<G>,
@@ -408,9 +408,9 @@ pub(crate) fn home_of<G: Guard>(list: &List<G>, lists: u32, range: Range) -> u32
     }
 }
 
-/// Tries once to hold the range in the list `own`, where there are several: links it there, and makes it count. The seat
-/// holds nothing. Ok says whether the fast path linked the node there. After a refusal the seat holds nothing. There are
-/// that many lists.
+/// Tries once to hold the range in the list `own`, where there are several: links it there, and makes it count. The
+/// seat holds nothing. Ok says whether the fast path linked the node there. After a refusal the seat holds nothing.
+/// There are that many lists.
 fn hold_in<G: Guard, L: Ledger>(
     list: &List<G>,
     hand: &mut Hand<G>,

@@ -6,8 +6,8 @@ use Rattle.range_rw.specs.Several.{IsCounted, HasLists, HoldsAlone, HasPassed, I
 use Rattle.range_rw.proofs.several.pass_all.Given as goal
 
 -- the range is held in list 0 all the while, by the same node, and doesn't count; all lists before this one are passed
--- that it takes, which are so many, and it takes this one, unless it is the end. What was tried so far is one of them or
--- a look that isn't left any more. Where no list is tried again, those from this one on are as they were
+-- that it takes, which are so many, and it takes this one, unless it is the end. What was tried so far is one of them
+-- or a look that isn't left any more. Where no list is tried again, those from this one on are as they were
 abbrev pub invariant-all : goal.invariant-all
 invariant-all g l = record {
   counted : IsCounted l.initial.hand l.hand l.initial.steps l.steps;

@@ -21,8 +21,8 @@ returns g c =
     let because = swept_refuses c.list-here.result c.turn.new.self.table t s done.walk (c.list-here.ensures.noted ∙ same) (c.list-here.ensures.list ∙ same)
     c.sweep-walked.result in record {
       counted = counted_on (counted_turn c.turn.ensures.table is) (record { table = done.table; steps = done.counted });
-      -- turn and sweep ask for nothing, and nothing comes to count by them. The hand has no node of its own there, and the
-      -- ready nodes stay
+      -- turn and sweep ask for nothing, and nothing comes to count by them. The hand has no node of its own there, and
+      -- the ready nodes stay
       swept = record {
         piece = piece;
         asked = done.swept.asked ∙ ap (λ (x : SeatPart _). x.trace.asked) is;
