@@ -197,7 +197,8 @@ module _ {sieve : Sieve} {end : End} (bytes : Vec ℕ Global) (h : IsSieve sieve
         short = omega arith;
         within = omega arith;
         front = subst (AreEnds 0 (sieve.behind + (end.behind - sieve.from))) (sym front_ends)
-            (ends_more 0 end.number (sieve.behind + (end.behind - sieve.from)) sieve.behind end.numbered (take sieve.kept sieve.ends.items) h.front (omega arith));
+            (ends_more 0 end.number (sieve.behind + (end.behind - sieve.from)) sieve.behind end.numbered (take sieve.kept sieve.ends.items) h.front
+            (omega arith));
         back = subst (AreEnds end.behind (length bytes.items)) (sym back_ends)
             (subst (λ (x : ℕ). AreEnds end.behind x (later sieve)) (sym count) n.back);
       }

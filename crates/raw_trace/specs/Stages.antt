@@ -179,7 +179,8 @@ pub record DidSome (strict : Bool) (lines : List Numbered) (place : ℕ) (counts
 
 -- The lines and their roles stand so at a place: of the lines before it all was done, and the first ones, so many, were
 -- let go.
-pub record StandsAt (strict : Bool) (lines : List Numbered) (roles : List Role) (left : List Numbered) (gone place : ℕ) (counts : Counts) (now : Ordering) : Type 0 where
+pub record StandsAt (strict : Bool) (lines : List Numbered) (roles : List Role) (left : List Numbered) (gone place : ℕ) (counts : Counts)
+    (now : Ordering) : Type 0 where
   pub roles_are : AreRoles lines roles
   pub within : place < length lines
   pub before : gone ≤ place

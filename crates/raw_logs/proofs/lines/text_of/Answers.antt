@@ -7,7 +7,8 @@ use Rattle.raw_logs.proofs.lines.text_of.Goals as goal
 -- a text begins no later than it ends
 pub between-requires-clause-from : goal.between-requires-clause-from
 between-requires-clause-from c =
-    let k = start_within 0 (length c.args.bytes.now) c.args.ends.now c.args.place (record { number = 0; behind = 0; numbered = false }) c.requires.ends c.requires.place in
+    let k = start_within 0 (length c.args.bytes.now) c.args.ends.now c.args.place (record { number = 0; behind = 0; numbered = false })
+    c.requires.ends c.requires.place in
     let from = k.0 in
     let is = c.start_of-from.ensures in
     omega arith
@@ -15,7 +16,8 @@ between-requires-clause-from c =
 -- and ends within the buffer
 pub between-requires-clause-behind : goal.between-requires-clause-behind
 between-requires-clause-behind c =
-    (start_within 0 (length c.args.bytes.now) c.args.ends.now c.args.place (record { number = 0; behind = 0; numbered = false }) c.requires.ends c.requires.place).1
+    (start_within 0 (length c.args.bytes.now) c.args.ends.now c.args.place (record { number = 0; behind = 0; numbered = false })
+    c.requires.ends c.requires.place).1
 
 -- it is the text at the place
 pub returns : goal.returns

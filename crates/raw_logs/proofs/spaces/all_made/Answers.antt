@@ -15,7 +15,8 @@ pub lines-preserved : goal.lines-preserved
 lines-preserved c =
     let i = c.lines.invariant in
     let next : c.lines.place ≡ c.lines.place - 1 + 1 = omega arith in
-    let more = lines_from c.args.lines.now (c.lines.place - 1) c.lines.place (line_of c.in_ok-text.field-0-0 c.in_ok-text.text.now) (omega arith) next c.in_ok-text.ensures in (
+    let line = line_of c.in_ok-text.field-0-0 c.in_ok-text.text.now in
+    let more = lines_from c.args.lines.now (c.lines.place - 1) c.lines.place line (omega arith) next c.in_ok-text.ensures in (
       c.told_of.result ∷ i.0,
       subst (λ x. AreTold x (c.told_of.result ∷ i.0)) (sym more) (line_told c.told_of.ensures i.1),
       c.in_ok-take.ensures i.0 (subst (λ n. HasMade c.lines.makers n i.0) next i.2),

@@ -23,5 +23,6 @@ returns c =
     ap (cut_at old.first 0 c.add_text.new.bytes.items) c.in-Ok.ensures.ends
     ∙ ap (λ x. cut_at old.first 0 x (old.ends.items ++ (record { number = c.args.number; behind = length c.add_text.new.bytes.items; numbered = false } ∷ [])))
     c.in-Ok.ensures.bytes
-    ∙ cut_more old.first 0 c.args.number (length c.add_text.new.bytes.items) false old.bytes.items text old.ends.items c.self.invariant (ap length c.in-Ok.ensures.bytes)
+    ∙ cut_more old.first 0 c.args.number (length c.add_text.new.bytes.items) false old.bytes.items text old.ends.items c.self.invariant
+    (ap length c.in-Ok.ensures.bytes)
     ∙ ap (λ x. x ++ (line_of c.args.number text ∷ [])) c.self.view_is

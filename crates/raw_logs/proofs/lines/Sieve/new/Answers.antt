@@ -25,4 +25,5 @@ returns-clause-rest c =
     let ends = c.lines.inside.ends.items in
     let from : c.start_of-from.result ≡ start_at 0 ends c.args.start =
     c.start_of-from.ensures ∙ ap (λ x. start_at 0 x c.args.start) c.as_slice.ensures.value in
-    ap (λ x. cut_at c.lines.inside.first x bytes (drop c.args.start ends)) from ∙ sym (cut_from c.lines.inside.first 0 bytes ends c.args.start) ∙ ap (drop c.args.start) c.lines.view_is
+    ap (λ x. cut_at c.lines.inside.first x bytes (drop c.args.start ends)) from
+    ∙ sym (cut_from c.lines.inside.first 0 bytes ends c.args.start) ∙ ap (drop c.args.start) c.lines.view_is
