@@ -1,7 +1,7 @@
 //! The texts of a log with the numbers of their lines. They stand one behind the other in one buffer, since a line that
-//! a message broke stands nowhere in the log as it is; so a text takes its bytes and twelve more. The number of a process
-//! that many texts share stands once beside the buffer, and is put before a text where it is looked at. Contracts see
-//! whole texts, as a list with their numbers. A sieve leaves texts out of them in their place.
+//! a message broke stands nowhere in the log as it is; so a text takes its bytes and twelve more. The number of a
+//! process that many texts share stands once beside the buffer, and is put before a text where it is looked at.
+//! Contracts see whole texts, as a list with their numbers. A sieve leaves texts out of them in their place.
 
 ghost use Rattle.std.specs.Prelude.{◌≡◌, ◌≢◌, ◌≤◌, ◌<◌, ◌+◌, ◌-◌, ◌^◌, ◌++◌, ◌∷◌, [], List, length, take, drop, get_or, true, false, IfOk, OnOk};
 ghost use Rattle.raw_logs.specs.Log.{Numbered, line_of};
@@ -263,8 +263,8 @@ impl Lines {
     }
 }
 
-/// Texts of which some are kept. They move to the front of their buffer, so that no other is needed, and what they leave
-/// goes back.
+/// Texts of which some are kept. They move to the front of their buffer, so that no other is needed, and what they
+/// leave goes back.
 #[derive(Drop)]
 pub(crate) struct Sieve {
     bytes: Vec<u8>,

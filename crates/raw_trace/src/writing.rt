@@ -154,8 +154,8 @@ struct Rooms {
     second: Vec<u8>,
 }
 
-/// The text at a place, with the number of its line, where so many texts at the beginning were let go. It stands in this
-/// room, or where it is kept.
+/// The text at a place, with the number of its line, where so many texts at the beginning were let go. It stands in
+/// this room, or where it is kept.
 fn text_at<'a>(
     left: &'a Lines,
     gone: usize,
