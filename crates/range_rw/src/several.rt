@@ -319,8 +319,9 @@ pub(crate) fn next_taken(cut: Cut, range: Range, from: u32) -> u32
 }
 
 /// Has the wide range, which list 0 holds, pass each list that it takes, in rising order. It counts with the last.
-/// Where a list refuses it, it keeps its node in list 0, waits and tries that list again, `looks` times in all.
-/// Meanwhile it counts nowhere, and what it has passed stays passed. There are that many lists.
+/// Where a list refuses it, it keeps its node in list 0, waits without yielding the processor, since a static library
+/// can't, and tries that list again, `looks` times in all. Meanwhile it counts nowhere, and what it has passed stays
+/// passed. There are that many lists.
 fn pass_all<G: Guard, L: Ledger>(
     list: &List<G>,
     hand: &mut Hand<G>,
@@ -354,7 +355,7 @@ fn pass_all<G: Guard, L: Ledger>(
                 }
                 left -= 1;
                 hand.turn(0);
-                backoff.wait();
+                backoff.pause();
             }
         }
     }

@@ -24,10 +24,9 @@ fn a_program_in_a_shells_place_has_its_own_space(rt: HostRuntime) -> Result<(), 
 fn a_child_begins_with_its_makers_lines(rt: HostRuntime) -> Result<(), Fail> {
     let found = read_log(rt.alloc(), SHELL, Some(8)).expect(&rt, "texts");
     assert_eq!(rt; found.lines.len(), 3);
-    assert_eq!(rt;
-        found.lines.at(2).1,
-        b"8 munmap(0x3000, 4096) = 0".as_slice()
-    );
+    let mut room = Vec::new(rt.alloc());
+    let (_, text) = found.lines.at(2, &mut room).expect(&rt, "text");
+    assert_eq!(rt; text, b"8 munmap(0x3000, 4096) = 0".as_slice());
     assert_eq!(rt; found.counts.elsewhere, 3);
     Ok(())
 }
@@ -76,10 +75,9 @@ const QUIET: &[u8] = b"brk(NULL) = 0x1000\n\
 fn a_number_that_a_call_made_is_not_the_first_thread(rt: HostRuntime) -> Result<(), Fail> {
     let found = read_log(rt.alloc(), QUIET, None).expect(&rt, "texts");
     assert_eq!(rt; found.lines.len(), 4);
-    assert_eq!(rt;
-        found.lines.at(3).1,
-        b"7 munmap(0x2000, 4096) = 0".as_slice()
-    );
+    let mut room = Vec::new(rt.alloc());
+    let (_, text) = found.lines.at(3, &mut room).expect(&rt, "text");
+    assert_eq!(rt; text, b"7 munmap(0x2000, 4096) = 0".as_slice());
     Ok(())
 }
 
@@ -94,10 +92,9 @@ fn lines_without_a_number_are_of_the_process_that_strace_was_let_to(
 ) -> Result<(), Fail> {
     let found = read_log(rt.alloc(), ATTACHED, Some(7)).expect(&rt, "texts");
     assert_eq!(rt; found.lines.len(), 1);
-    assert_eq!(rt;
-        found.lines.at(0).1,
-        b"7 munmap(0x1000, 4096) = 0".as_slice()
-    );
+    let mut room = Vec::new(rt.alloc());
+    let (_, text) = found.lines.at(0, &mut room).expect(&rt, "text");
+    assert_eq!(rt; text, b"7 munmap(0x1000, 4096) = 0".as_slice());
     assert_eq!(rt; found.counts.unknown, 1);
     assert_eq!(rt; found.unknown, Some(3));
     Ok(())
