@@ -9,7 +9,7 @@ BEGIN {
 $2 ~ /[^a-z0-9_]/ { next }
 { sum[$1] += $3; by[$2 FS $1] += $3; if ($2 != "") all[$2] += $3 }
 END {
-    print "Minutes of processor time, sampled each second. Programs are compiled and linked by other tools of the kit."
+    print "Minutes of processor time, sampled each second."
     print ""
     print "| Crate | Proofs | Tests | Edits | Proofs at commit " taken " |"
     print "|---|---|---|---|---|"
@@ -17,12 +17,13 @@ END {
         most = ""
         for (crate in all) if (most == "" || all[crate] > all[most]) most = crate
         if (most == "") break
-        printf "| `%s` | %.1f | %.1f | %.1f | %s |\n", most, minutes(by[most FS "proofs"]), minutes(by[most FS "tests"]),
-            minutes(by[most FS "edits"]), was["`" most "`"]
+        printf "| `%s` | %s | %s | %s | %s |\n", most, minutes_of(most FS "proofs"), minutes_of(most FS "tests"),
+            minutes_of(most FS "edits"), was["`" most "`"]
         delete all[most]
     }
     printf "| all | %.0f | %.0f | %.0f | %s |\n", minutes(sum["proofs"]), minutes(sum["tests"]), minutes(sum["edits"]), was["all"]
-    print ""
-    printf "Compiling and linking programs: %.0f.\n", minutes(sum["programs"])
+    if (!("programs" in sum)) exit
+    printf "\nCompiling and linking programs, by other tools of the kit: %.0f.\n", minutes(sum["programs"])
 }
 function minutes(ticks) { return ticks / hertz / 60 }
+function minutes_of(what) { return what in by ? sprintf("%.1f", minutes(by[what])) : "" }
