@@ -14,8 +14,8 @@ use Rattle.area_guard.specs.declared.guard.Pending.{Pending}
 use Rattle.area_guard.specs.declared.guard.Pending.TheVariants.{AtRest, Planned, OneRow}
 use Rattle.area_guard.specs.History.{FitsAndReplies, entries_of, entry_of, rows_after, HoldsFor, IsOwed, IsRunningSpace, Backs, AreBacked, Here}
 use Rattle.area_guard.specs.History.{Allowed, IsNew, MayLoad, MayStore, MayWrite, MayAdd}
-use Rattle.area_guard.specs.History.MayLoad.{number, glance, sequence, layout, row}
-use Rattle.area_guard.specs.History.MayStore.{store_row, store_count, store_layout}
+use Rattle.area_guard.specs.History.MayLoad.{number, glance, sequence, layout, gap_word, row}
+use Rattle.area_guard.specs.History.MayStore.{store_row, store_count, store_gap, store_layout}
 use Rattle.area_guard.specs.History.MayAdd.{draw, raise}
 use Rattle.area_guard.specs.declared.guard.Splice.{Splice}
 use Rattle.area_guard.specs.Rows.{nb_in, number_place, IsLayoutPlace}
@@ -96,6 +96,7 @@ module _ (grants : Grants) (start : List Area) (history : List Entry) (state : L
     runs = r.runs;
     began = λ worker pass at. (r.parts worker pass at).began;
     rows = r.rows;
+    gap = r.gap;
     pending = λ worker pass at. (backed worker pass at).pending;
     owed = λ worker pass at. (r.parts worker pass at).owed;
     sequence = r.sequence;
@@ -135,6 +136,7 @@ count_of : (grants : Grants) (words : List ℕ) (passes : List Pass) (worker val
 count_of grants words passes worker value here AtRest after is may = absurd may
 count_of grants words passes worker value here (Planned plan) after is (store_row index slot e v same, new) = absurd (omega arith)
 count_of grants words passes worker value here (Planned plan) after is (store_count e v same, new) = (plan, of_whole grants words passes worker here plan is, v)
+count_of grants words passes worker value here (Planned plan) after is (store_gap e same, new) = absurd (omega arith)
 count_of grants words passes worker value here (Planned plan) after is (store_layout index few e same, new) = absurd (omega arith)
 count_of grants words passes worker value here (OneRow c) after is may = let e : 2 ≡ 3 + c.index = may.0 in absurd (omega arith)
 
@@ -168,7 +170,7 @@ hold_of : (grants : Grants) (words : List ℕ) (passes : List Pass) (worker : �
     (here : Here grants words passes worker) (after : Pass) → MayAdd grants words passes worker note here (number_place (nb_in words)) after
     → (held : Option Held) × (get_elem? grants worker ≡ some held) × HoldsFor held note.under × (after.drew ≡ held)
     × (history : List Entry) × (after.seen ≡ history ++ entry_of (length history) worker note ∷ [])
-hold_of grants words passes worker note here after (raise plan e pends written is) = absurd (omega arith)
+hold_of grants words passes worker note here after (raise plan e pends written right is) = absurd (omega arith)
 hold_of grants words passes worker note here after (draw e d is) =
     let f = entry_of (length here.history) worker note in (
       d.held.0,
@@ -197,11 +199,13 @@ load_keeps own free held words history place p after (number h o e is) = same_dr
 load_keeps own free held words history place p after (glance f e is) = same_draw p _ after is refl refl refl
 load_keeps own free held words history place p after (sequence h e is) = same_draw p _ after is refl refl refl
 load_keeps own free held words history place p after (layout h e is) = same_draw p _ after is refl refl refl
+load_keeps own free held words history place p after (gap_word h e is) = same_draw p _ after is refl refl refl
 load_keeps own free held words history place p after (row i h slot e is) = same_draw p _ after is refl refl refl
 
 store_keeps : (plan : Splice) (place value : ℕ) (p after : Pass) → MayStore plan place value p after → Counts p after
 store_keeps plan place value p after (store_row i slot e v is) = same_draw p _ after is refl refl refl
 store_keeps plan place value p after (store_count e v is) = same_draw p _ after is refl refl refl
+store_keeps plan place value p after (store_gap e is) = same_draw p _ after is refl refl refl
 store_keeps plan place value p after (store_layout i few e is) = same_draw p _ after is refl refl refl
 
 write_keeps : (words : List ℕ) (pending : Pending) (place value : ℕ) (p after : Pass) → MayWrite words pending place value p after → Counts p after
@@ -214,7 +218,7 @@ raise_keeps : (grants : Grants) (words : List ℕ) (passes : List Pass) (worker 
     → MayAdd grants words passes worker note here place after → Counts here.pass after
 raise_keeps grants words passes worker place note here after differ (draw e d is) =
     absurd (differ (e ∙ ap number_place (here.running.parts worker here.pass here.own).room.0))
-raise_keeps grants words passes worker place note here after differ (raise plan e pends written is) = same_draw here.pass _ after is refl refl refl
+raise_keeps grants words passes worker place note here after differ (raise plan e pends written right is) = same_draw here.pass _ after is refl refl refl
 
 -- a step of a caller at a moment, from the pass that it has there
 step_keeps : (grants : Grants) (words : List ℕ) (passes : List Pass) (worker : ℕ) (step : ClientStep) (note : Note) (after : Pass)
@@ -239,7 +243,7 @@ draw_kept grants words passes worker step note pass after own other may =
 -- a draw begins the count of steps anew
 begins_anew : (grants : Grants) (words : List ℕ) (passes : List Pass) (worker : ℕ) (note : Note) (here : Here grants words passes worker)
     (after : Pass) → MayAdd grants words passes worker note here (number_place (nb_in words)) after → after.since ≡ 0
-begins_anew grants words passes worker note here after (raise plan e pends written is) = absurd (omega arith)
+begins_anew grants words passes worker note here after (raise plan e pends written right is) = absurd (omega arith)
 begins_anew grants words passes worker note here after (draw e d is) =
     ap (λ (p : Pass). p.since) is ∙ draw_since here.history (entry_of (length here.history) worker note) d.held.0 here.pass note.pending
 

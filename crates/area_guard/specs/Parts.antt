@@ -27,7 +27,7 @@ use Rattle.area_guard.specs.declared.guard.Pending.TheVariants.{AtRest, Planned}
 use Rattle.area_guard.specs.History.{entries_of, with_whole, whole_count, own_count, entry_count, own_most, most_count, HasRoom, HasBlocks, IsPart, planned_calls}
 use Rattle.area_guard.specs.History.{own_planned, planned_count, RowsStandFor, IsRunningSpace, HasReadNothing, rest_of}
 use Rattle.area_guard.specs.History.{StillLaid, laid_with, after_look, after_step, after_seen, after_layout, after_sequence, after_row, after_store, after_raise}
-use Rattle.area_guard.specs.History.{after_change}
+use Rattle.area_guard.specs.History.{after_change, after_gap}
 use Rattle.area_guard.specs.Stands.{room_stays, layout_stays, layout_counted, layout_told, shown_set}
 
 keep_end : {A : Type 0} (b : Bool) (x : A) (xs ys zs : List A) → ys ≡ xs ++ zs → cond b (x ∷ ys) ys ≡ cond b (x ∷ xs) xs ++ zs
@@ -173,6 +173,7 @@ blank_part start history words others worker x n room own = record {
   owed = own.owed;
   laid = λ l e. absurd (none_is l (sym n.0 ∙ e));
   sequence = λ m e. absurd (none_is m (sym n.2 ∙ e));
+  gap = λ m e. absurd (none_is m (sym n.3 ∙ e));
 }
 
 -- the layout that was read, after it and the words have changed alike
@@ -194,6 +195,7 @@ beside_part start history words worker index value x slot own = record {
   owed = own.owed;
   laid = λ l e. layout_stays words (3 + index) value (λ same. omega arith) (omega arith) (let w = own.room.1 in omega arith) ∙ own.laid l e;
   sequence = λ n e. get_or-set_other words (3 + index) 1 value 0 (λ same. omega arith) ∙ own.sequence n e;
+  gap = λ n e. get_or-set_other words (3 + index) 0 value 0 (λ same. omega arith) ∙ own.gap n e;
 }
 
 module _ (start : List Areas) (history : List Entry) (state : List Areas) (words : List ℕ) (worker : ℕ) (p : Pass)
@@ -208,6 +210,7 @@ module _ (start : List Areas) (history : List Entry) (state : List Areas) (words
     owed = own.owed;
     laid = own.laid;
     sequence = own.sequence;
+    gap = own.gap;
   }
 
   pub stepped : IsPart start history words worker (after_step p)
@@ -220,6 +223,7 @@ module _ (start : List Areas) (history : List Entry) (state : List Areas) (words
     owed = own.owed;
     laid = own.laid;
     sequence = own.sequence;
+    gap = own.gap;
   }
 
   pub counted : IsPart start history words worker (after_seen words p)
@@ -232,6 +236,7 @@ module _ (start : List Areas) (history : List Entry) (state : List Areas) (words
     owed = own.owed;
     laid = λ l e. some_is (layout_in words) l e;
     sequence = own.sequence;
+    gap = λ n e. some_is (slice_index words 0) n e;
   }
 
   pub raised : IsPart start history words worker (after_sequence (slice_index words 1) p)
@@ -244,6 +249,7 @@ module _ (start : List Areas) (history : List Entry) (state : List Areas) (words
     owed = own.owed;
     laid = own.laid;
     sequence = λ n e. some_is (slice_index words 1) n e;
+    gap = own.gap;
   }
 
   pub read : (index word : ℕ) → IsPart start history words worker (after_row index word p)
@@ -256,6 +262,7 @@ module _ (start : List Areas) (history : List Entry) (state : List Areas) (words
     owed = own.owed;
     laid = own.laid;
     sequence = own.sequence;
+    gap = own.gap;
   }
 
   pub rested : IsPart start history words worker (rest_of p)
@@ -268,6 +275,7 @@ module _ (start : List Areas) (history : List Entry) (state : List Areas) (words
     owed = own.owed;
     laid = λ l e. absurd (none_is l e);
     sequence = λ n e. absurd (none_is n e);
+    gap = λ n e. absurd (none_is n e);
   }
 
   pub stored : (index value : ℕ) → index < 128 * p.blocks → IsPart start history (set words (3 + index) value) worker (after_store index value p)
@@ -280,6 +288,7 @@ module _ (start : List Areas) (history : List Entry) (state : List Areas) (words
     owed = own.owed;
     laid = λ l e. layout_stays words (3 + index) value (λ same. omega arith) (omega arith) (omega arith) ∙ own.laid l e;
     sequence = λ n e. get_or-set_other words (3 + index) 1 value 0 (λ same. omega arith) ∙ own.sequence n e;
+    gap = λ n e. get_or-set_other words (3 + index) 0 value 0 (λ same. omega arith) ∙ own.gap n e;
   }
 
   pub stored_count : (value : ℕ) → IsPart start history (set words 2 value) worker (after_layout 0 value p)
@@ -292,6 +301,20 @@ module _ (start : List Areas) (history : List Entry) (state : List Areas) (words
     owed = own.owed;
     laid = laid_still words (set words 2 value) 0 value p.laid own.laid (layout_counted words value (omega arith));
     sequence = λ n e. get_or-set_other words 2 1 value 0 (λ same. omega arith) ∙ own.sequence n e;
+    gap = λ n e. get_or-set_other words 2 0 value 0 (λ same. omega arith) ∙ own.gap n e;
+  }
+
+  pub stored_gap : (value : ℕ) → IsPart start history (set words 0 value) worker (after_gap value p)
+  stored_gap value = let wide = own.room.1 in record {
+    began = own.began;
+    seen = own.seen;
+    mine = own.mine;
+    few = own.few;
+    room = room_stays words p.blocks 0 value (omega arith) own.room;
+    owed = own.owed;
+    laid = λ l e. layout_stays words 0 value (λ same. omega arith) (omega arith) (omega arith) ∙ own.laid l e;
+    sequence = λ n e. get_or-set_other words 0 1 value 0 (λ same. omega arith) ∙ own.sequence n e;
+    gap = λ n e. get_or-set_same words 0 value 0 (omega arith) ∙ some_is value n e;
   }
 
   pub stored_layout : (index value : ℕ) → index ≤ p.blocks
@@ -311,6 +334,7 @@ module _ (start : List Areas) (history : List Entry) (state : List Areas) (words
             (subst (λ (n : ℕ). layout_in (set words n value) ≡ set (layout_in words) (suc index) value) at
             (layout_told words index value (omega arith) wide));
         sequence = λ n e. get_or-set_other words (3 + 128 * p.blocks + index) 1 value 0 (λ same. omega arith) ∙ own.sequence n e;
+        gap = λ n e. get_or-set_other words (3 + 128 * p.blocks + index) 0 value 0 (λ same. omega arith) ∙ own.gap n e;
       }
 
   pub raised_after : (value : ℕ) → IsPart start history (set words 1 value) worker (after_raise p)
@@ -323,6 +347,7 @@ module _ (start : List Areas) (history : List Entry) (state : List Areas) (words
     owed = tt;
     laid = λ l e. layout_stays words 1 value (λ same. omega arith) (omega arith) (omega arith) ∙ own.laid l e;
     sequence = λ n e. absurd (none_is n e);
+    gap = λ n e. get_or-set_other words 1 0 value 0 (λ same. omega arith) ∙ own.gap n e;
   }
 
   pub changed : (others : List ℕ) → HasBlocks others p.blocks → IsPart start history others worker (after_change p)
@@ -335,6 +360,7 @@ module _ (start : List Areas) (history : List Entry) (state : List Areas) (words
     owed = tt;
     laid = λ l e. absurd (none_is l e);
     sequence = λ n e. absurd (none_is n e);
+    gap = λ n e. absurd (none_is n e);
   }
 
   -- another pass of this caller with as many entries, as many that it may have, and as much to write
@@ -359,6 +385,7 @@ module _ (start : List Areas) (history : List Entry) (state : List Areas) (words
         small = let m = most_set passes worker p q at may in let f = r.small in omega arith;
         room = room_kept words words (row_count start) passes worker p q at may refl r.room;
         rows = λ none. let s : RowsStandFor state passes words = r.rows (sym pending ∙ none) in (s.0, shown_set state passes worker p q s.0 at pends s.1, s.2);
+        gap = λ none. r.gap (sym pending ∙ none);
         parts = λ other x there. ⊎_elim
             (λ t. subst (λ (z : ℕ × Pass). IsPart start history words z.0 z.1) (λ i. (sym t.0 i, t.1 i)) part)
             (λ t. r.parts other x t.1)

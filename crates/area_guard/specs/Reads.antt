@@ -8,7 +8,10 @@ use Rattle.lock_core.specs.declared.range.Mode.TheVariants.{Writer}
 use Rattle.lock_core.specs.declared.range.Held.{Held}
 use Rattle.area_guard.specs.declared.guard.ReadRow.{ReadRow}
 use Rattle.area_guard.specs.declared.guard.Pass.{Pass}
+use Rattle.space_model.specs.Areas.{kind_at}
 use Rattle.row_plans.specs.RowWords.{row_start, row_kind}
+use Rattle.row_plans.specs.RowLists.{areas_from}
+use Rattle.row_plans.specs.Gaps.{IsGapWord}
 use Rattle.row_blocks.specs.Blocks.{blocks_of, rows_of, IsLaidOut, rows_in as rows_by}
 use Rattle.area_guard.specs.Rows.{nb_in, slots_of, slots_to, IsRowOf}
 
@@ -75,11 +78,16 @@ pub record KnowsBlocks (pass : Pass) : Type 0 where
   pub free : blocks_of pass.blocks (known_words pass) < pass.blocks
   pub short : rows_of pass.blocks (known_words pass) 0 < 64
 
--- it knows all rows that there are
+-- the gap word that a caller knows is right for these rows
+abbrev pub HasGap : Pass → List ℕ → Type 0
+HasGap pass rows = (word : ℕ) × (pass.gap ≡ Some word) × IsGapWord (kind_at (areas_from rows)) word
+
+-- it knows all rows that there are, and a gap word that is right for them
 pub record KnowsRows (pass : Pass) : Type 0 where
   pub words : KnowsWords pass
   pub blocks : KnowsBlocks pass
   pub counted : known_count pass ≡ length (known_rows pass)
+  pub gap : HasGap pass (known_rows pass)
 
 -- a row that was read stands still, in a slot, as far as held pages tell: it starts on the same side of each of them;
 -- where it starts at one or right behind one, it starts there; where one lies in it, it has its kind; and where

@@ -22,6 +22,7 @@ use Rattle.area_guard.specs.declared.guard.Splice.{Splice}
 use Rattle.area_guard.specs.declared.guard.Pending.TheVariants.{AtRest, Planned, OneRow}
 use Rattle.area_guard.specs.Rows.{nb_in, RowsShow}
 use Rattle.row_plans.specs.Plans.{PlanShows}
+use Rattle.row_plans.specs.Gaps.{IsGapWord}
 use Rattle.row_plans.specs.RowLists.{areas_from}
 use Rattle.row_plans.proofs.PlanLeft.{counted_rows}
 use Rattle.row_plans.proofs.RowLists.{areas_back}
@@ -29,11 +30,11 @@ use Rattle.area_guard.specs.Reads.{everything, StillStands}
 use Rattle.area_guard.specs.Changes.{alone}
 use Rattle.area_guard.specs.History.{HasBlocks, IsPart, planned_calls, planned_count, ShowsBefore, IsShown, IsRunningSpace}
 use Rattle.area_guard.specs.History.{HasPages, HoldsPages, HasReadNothing, Backs, IsBacked, AreBacked, after_layout, rows_after}
-use Rattle.area_guard.specs.History.{after_store, after_raise, MayStore}
-use Rattle.area_guard.specs.History.MayStore.{store_row, store_count, store_layout}
+use Rattle.area_guard.specs.History.{after_store, after_gap, after_raise, MayStore}
+use Rattle.area_guard.specs.History.MayStore.{store_row, store_count, store_gap, store_layout}
 use Rattle.area_guard.specs.Stands.{nb_stays, room_stays, number_stays, all_stand, same_low, rows_beside, stored_all, laid_all}
 use Rattle.area_guard.specs.Parts.{count_set, most_set, room_kept, no_wrap, whole_few, planned_set, planned_le, planned_of, blank_part}
-use Rattle.area_guard.specs.Parts.{stored, stored_count, stored_layout, raised_after}
+use Rattle.area_guard.specs.Parts.{stored, stored_count, stored_gap, stored_layout, raised_after}
 
 -- who holds everything as a writer holds pages alone, and nobody else does
 pub everything_pages : HasPages everything
@@ -103,10 +104,10 @@ module _ (grants : Grants) (start : List Areas) (history : List Entry) (state : 
       blank_part start history words (set words place value) other x (other_blank other x differ there)
       (room_stays words x.blocks place value (omega arith) part.room) part
 
-  store_keeps : (place value : ℕ) (q : Pass) → 1 < place → place < 4 + 129 * nb_in words → IsPart start history (set words place value) worker q
+  store_keeps : (place value : ℕ) (q : Pass) → place ≢ 1 → place < 4 + 129 * nb_in words → IsPart start history (set words place value) worker q
       → length q.mine ≡ length p.mine → q.most ≡ p.most → q.pending ≡ p.pending
       → IsRunningSpace start history state (set words place value) (set passes worker q)
-  store_keeps place value q high low part same may pended =
+  store_keeps place value q other low part same may pended =
       let room = wide.1 in
       let many : length (set passes worker q) ≡ length passes = length-set passes worker q in
       let pending : planned_count (set passes worker q) ≡ planned_count passes = let s = planned_set passes worker p q at in
@@ -123,11 +124,12 @@ module _ (grants : Grants) (start : List Areas) (history : List Entry) (state : 
         limit = r.limit;
         grown = r.grown;
         number = number_stays words place value (omega arith) (λ e. omega arith) ∙ r.number;
-        sequence = ap (λ n. n + planned_count (set passes worker q)) (get_or-set_other words place 1 value 0 (λ e. omega arith))
+        sequence = ap (λ n. n + planned_count (set passes worker q)) (get_or-set_other words place 1 value 0 (λ e. other (sym e)))
             ∙ (ap (λ n. slice_index words 1 + n) pending ∙ r.sequence);
         small = let m = most_set passes worker p q at may in omega arith;
         room = room_kept words (set words place value) (row_count start) passes worker p q at may (nb_stays words place value (omega arith)) r.room;
         rows = λ none. absurd (omega arith);
+        gap = λ none. absurd (omega arith);
         parts = λ other x there. ⊎_elim (λ t. subst (λ (z : ℕ × Pass). IsPart start history (set words place value) z.0 z.1) (λ i. (sym t.0 i, t.1 i)) part)
             (λ t. other_part place value other x low t.0 t.1) (at_set passes worker other q x there);
         no_other = λ other le. r.no_other other (omega arith);
@@ -151,7 +153,7 @@ module _ (grants : Grants) (start : List Areas) (history : List Entry) (state : 
       let same = wide.0 in
       subst (λ (z : ℕ × Pass). IsRunningSpace start history state (set words z.0 value) (set passes worker z.1)
       × AreBacked grants (set words z.0 value) state (set passes worker z.1)) (λ i. (sym e i, sym is i)) (
-        store_keeps (3 + index) value (after_store index value p) (omega arith) (omega arith)
+        store_keeps (3 + index) value (after_store index value p) (λ e. omega arith) (omega arith)
             (stored start history state words worker p (r.parts worker p at) index value slot) refl refl refl,
         store_backed (set words (3 + index) value) (after_store index value p)
             (stored_all words index value (omega arith) wide.1 p.rows own_rows) (backed worker p at).pending,
@@ -160,10 +162,19 @@ module _ (grants : Grants) (start : List Areas) (history : List Entry) (state : 
       let room = wide.1 in
       subst (λ (z : ℕ × Pass). IsRunningSpace start history state (set words z.0 value) (set passes worker z.1)
       × AreBacked grants (set words z.0 value) state (set passes worker z.1)) (λ i. (sym e i, sym is i)) (
-        store_keeps 2 value (after_layout 0 value p) (omega arith) (omega arith)
+        store_keeps 2 value (after_layout 0 value p) (λ e. omega arith) (omega arith)
             (stored_count start history state words worker p (r.parts worker p at) value) refl refl refl,
         store_backed (set words 2 value) (after_layout 0 value p) (laid_all words 2 value p.rows (inl refl) (omega arith) own_rows)
             (backed worker p at).pending,
+      )
+  stores_keep place value after (store_gap e is) =
+      let room = wide.1 in
+      subst (λ (z : ℕ × Pass). IsRunningSpace start history state (set words z.0 value) (set passes worker z.1)
+      × AreBacked grants (set words z.0 value) state (set passes worker z.1)) (λ i. (sym e i, sym is i)) (
+        store_keeps 0 value (after_gap value p) (λ e. omega arith) (omega arith)
+            (stored_gap start history state words worker p (r.parts worker p at) value) refl refl refl,
+        store_backed (set words 0 value) (after_gap value p) (all_stand (Some everything) words (set words 0 value)
+            (same_low words 0 value (omega arith) (omega arith)) p.rows own_rows) (backed worker p at).pending,
       )
   stores_keep place value after (store_layout index few e is) =
       let same = wide.0 in
@@ -171,7 +182,7 @@ module _ (grants : Grants) (start : List Areas) (history : List Entry) (state : 
       let at_layout : ℕ = 3 + 128 * p.blocks + index in
       subst (λ (z : ℕ × Pass). IsRunningSpace start history state (set words z.0 value) (set passes worker z.1)
       × AreBacked grants (set words z.0 value) state (set passes worker z.1)) (λ i. (sym e i, sym is i)) (
-        store_keeps at_layout value (after_layout (suc index) value p) (omega arith) (omega arith)
+        store_keeps at_layout value (after_layout (suc index) value p) (λ e. omega arith) (omega arith)
             (stored_layout start history state words worker p (r.parts worker p at) index value few) refl refl refl,
         store_backed (set words at_layout value) (after_layout (suc index) value p)
             (laid_all words at_layout value p.rows (inr (omega arith)) (omega arith) own_rows) (backed worker p at).pending,
@@ -186,8 +197,9 @@ module _ (grants : Grants) (start : List Areas) (history : List Entry) (state : 
     elsewhere = λ page free. refl;
   }
 
-  pub raise_keeps : RowsShow words (kind_at state) → IsRunningSpace start history state (words_after words (adds 1 1)) (set passes worker (after_raise p))
-  raise_keeps written =
+  pub raise_keeps : RowsShow words (kind_at state) → IsGapWord (kind_at state) (slice_index words 0)
+      → IsRunningSpace start history state (words_after words (adds 1 1)) (set passes worker (after_raise p))
+  raise_keeps written right =
       let q : Pass = after_raise p in
       let value = (slice_index words 1 + 1) % 2 ^ 64 in
       let room = wide.1 in
@@ -210,6 +222,7 @@ module _ (grants : Grants) (start : List Areas) (history : List Entry) (state : 
         small = let m = most_set passes worker p q at refl in omega arith;
         room = room_kept words (set words 1 value) (row_count start) passes worker p q at refl (nb_stays words 1 value (omega arith)) r.room;
         rows = λ none. (kind_at state, shown_after, rows_beside words 1 value (kind_at state) (inl (omega arith)) (omega arith) written);
+        gap = λ none. subst (IsGapWord (kind_at state)) (sym (get_or-set_other words 1 0 value 0 (λ e. omega arith))) right;
         parts = λ other x there. ⊎_elim (λ t. subst (λ (z : ℕ × Pass). IsPart start history (set words 1 value) z.0 z.1) (λ i. (sym t.0 i, t.1 i))
             (raised_after start history state words worker p (r.parts worker p at) value)) (λ t. other_part 1 value other x (omega arith) t.0 t.1)
             (at_set passes worker other q x there);

@@ -156,6 +156,7 @@ runs_new {start} {calls} {nb} {words} o areas named few callers enough small =
       small = omega arith;
       room = subst (λ (z : ℕ × ℕ). HasRoom z.0 (row_count start) z.1) (λ i. (sym o.blocks i, sym most i)) enough;
       rows = λ none. (kind_at start, shown_new start calls nb (length calls), opens_rows o areas named few);
+      gap = λ none some. let word = o.gap in absurd (omega arith);
       parts = λ worker pass at.
           let f = at_firsts first 0 (length calls) worker pass at in
           subst (λ (q : Pass). IsPart start [] words worker q) (sym f.1) (record {
@@ -167,6 +168,7 @@ runs_new {start} {calls} {nb} {words} o areas named few callers enough small =
             owed = tt;
             laid = λ l e. absurd (none_is l e);
             sequence = λ n e. absurd (none_is n e);
+            gap = λ n e. absurd (none_is n e);
           });
       no_other = λ worker le. refl;
       total = sym (no_entries first 0 (length calls) (λ i. refl));
@@ -177,7 +179,7 @@ backs_new : (grants : Grants) (words : List ℕ) (start : List Area) (calls : Li
 backs_new grants words start calls room callers worker pass at =
     let f = at_firsts (first_of start calls room) 0 callers worker pass at in
     subst (λ (q : Pass). IsBacked grants words start worker q) (sym f.1)
-    (record { reads = inl (refl, refl, refl); rows = λ held has. All-nil (StillStands held words); pending = tt })
+    (record { reads = inl (refl, refl, refl, refl); rows = λ held has. All-nil (StillStands held words); pending = tt })
 
 -- the words of an opening meet the guard
 pub opens : (grants : Grants) {start : List Area} {calls : List ℕ} {nb : ℕ} {words : List ℕ} → IsOpening start calls nb words → IsAreaList start
@@ -203,6 +205,7 @@ caller_with s left more = record {
   count = 0;
   cut = record { at = record { block = 0; place = 0 }; gone = 0 };
   more = more;
+  gap = 0;
   change = None;
 }
 
@@ -237,6 +240,7 @@ pub one_caller : (lists : ℕ) (table : TableId) (start : List Area) (calls : Li
       count = 0;
       cut = record { at = record { block = 0; place = 0 }; gone = 0 };
       more = [];
+      gap = 0;
       change = None;
     } → AreNewCallersIn lists table start calls (made ++ c ∷ [])
 one_caller lists table start calls made {c} {n} e all is =
@@ -246,5 +250,6 @@ one_caller lists table start calls made {c} {n} e all is =
       count = 0;
       cut = record { at = record { block = 0; place = 0 }; gone = 0 };
       more = [];
+      gap = 0;
       change = None;
     }) made c n e all is

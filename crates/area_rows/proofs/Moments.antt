@@ -165,6 +165,7 @@ moment_of {grants} {words} {passes} {seat} here s granted n same = record {
     laid = λ layout e. ap (λ (x : Pass). x.laid) same ∙ e;
     rows = λ index word h. subst (λ (x : Pass). HasRead x.rows index word) (sym same) h;
     sequence = λ k e. ap (λ (x : Pass). x.sequence) same ∙ e;
+    gap = λ k e. ap (λ (x : Pass). x.gap) same ∙ e;
     pending = ap (λ (x : Pass). x.pending) same;
     blocks = ap (λ (x : Pass). x.blocks) same;
   };

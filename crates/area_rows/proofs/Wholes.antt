@@ -207,7 +207,7 @@ rows_counted c held rest known start history state words m =
 -- and its steps from the draw on are those of the writing and of giving back
 pub ends_soon : {a b n w d : SeatState Pass} {p : CallerView} {e : Entry} {pending : Pending} → IsLockCall a b → IsReading b p.seat
     → p.seat.held ≡ Some everything → IsAtRest p.seat.pass → IsKnown p → IsDrawn p.seat e pending n → IsWritten n w → IsRelease rest_of w d
-    → w.trace.taken ≤ n.trace.taken + (2 * length p.more + 13 * blocks_by a.table + 1832)
+    → w.trace.taken ≤ n.trace.taken + (2 * length p.more + 13 * blocks_by a.table + 1833)
     → ((why : Why) → e.reply ≡ Refused why → w.trace.taken ≡ n.trace.taken + 1) → EndsSoon a e d
 ends_soon {a} {d} {p} call reading held rest known drawn written release steps refused =
     let num = drawn.numbered in

@@ -57,7 +57,7 @@ IsAnswered before line call (Given e) after = (0 < before.left) × IsCalled befo
 IsAnswered before line call Spent after = (before.left ≡ 0) × (after ≡ before)
 
 -- how a call under everything ends. From the step that drew its number on it made at most two steps on client words for
--- each row of the state before its entry and for SPARE more, 13 for each block that the space has room for, and 1832
+-- each row of the state before its entry and for SPARE more, 13 for each block that the space has room for, and 1833
 -- more; after a refusal the one that raises the sequence word. That was the last of them, and behind it came one step
 -- of the lock or two, by which the pages were given back
 pub record EndsSoon (before : SeatState Pass) (e : Entry) (after : SeatState Pass) : Type 0 where
@@ -66,7 +66,7 @@ pub record EndsSoon (before : SeatState Pass) (e : Entry) (after : SeatState Pas
   pub runs : Runs 0 before.pass.start history state
   pub in_order : IsAreaList state
   pub seen : after.pass.seen ≡ history ++ e ∷ []
-  pub since : after.pass.since ≤ 2 * (row_count state + SPARE) + 13 * blocks_by before.table + 1832
+  pub since : after.pass.since ≤ 2 * (row_count state + SPARE) + 13 * blocks_by before.table + 1833
   pub refused : (why : Why) → e.reply ≡ Refused why → after.pass.since ≡ 1
   pub step : ℕ
   pub client : after.trace.client ≡ Some (record { place = 1; step = step })

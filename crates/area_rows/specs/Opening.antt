@@ -7,11 +7,12 @@ use Rattle.row_blocks.specs.Blocks.{IsLaidOut, blocks_of, rows_of, rows_in}
 use Rattle.area_guard.specs.Rows.{number_place}
 use Rattle.area_guard.specs.History.{HasRoom}
 
--- no entry, none under everything, the rows of these areas in so many blocks of which one is free, and how many numbers
--- each caller may draw
+-- no entry, none under everything, no gap word, the rows of these areas in so many blocks of which one is free, and how
+-- many numbers each caller may draw
 pub record IsOpening (start : List Area) (calls : List ℕ) (nb : ℕ) (words : List ℕ) : Type 0 where
   pub wide : 36 + 129 * nb ≤ length words
   pub number : slice_index words (number_place nb) ≡ 0
+  pub gap : slice_index words 0 ≡ 0
   pub sequence : slice_index words 1 ≡ 0
   pub count : slice_index words 2 ≡ row_count start
   pub laid : IsLaidOut nb (drop 3 words)

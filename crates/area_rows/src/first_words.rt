@@ -1,6 +1,6 @@
-//! The words of a space at its opening: the counts, the rows of the start in blocks, words that aren't used, how many
-//! blocks there is room for, and how many numbers each caller may draw. A reader may rely on the number of all words of
-//! a table telling how many blocks there are, with any number of lists.
+//! The words of a space at its opening: the counts, a gap word that says nothing, the rows of the start in blocks,
+//! words that aren't used, how many blocks there is room for, and how many numbers each caller may draw. A reader may
+//! rely on the number of all words of a table telling how many blocks there are, with any number of lists.
 ghost use Rattle.std.specs.Prelude.{ℕ, ◌≡◌, ◌≤◌, ◌<◌, ◌+◌, ◌*◌, ◌-◌, ◌/◌, ◌%◌, ◌^◌, ◌++◌, IfOk, OnOk, drop, length, slice_index};
 ghost use Rattle.page_types.specs.declared.TheConstants.{LIMIT};
 ghost use Rattle.space_model.specs.Areas.{IsAreaList, HasNamedKinds, row_count};
@@ -68,8 +68,8 @@ pub(crate) fn spare_words(lock: u64, blocks: u32) -> u32
     ((u64::from(blocks / 8) + 256 * wide) % 257) as u32
 }
 
-/// All words but those of the rows: no entry, none under everything, the row count, and how many blocks there are and
-/// how many numbers each caller may draw.
+/// All words but those of the rows: no entry, none under everything, no gap word, the row count, and how many blocks
+/// there are and how many numbers each caller may draw.
 fn words_around(
     alloc: Global,
     calls: &[u32],
@@ -82,6 +82,7 @@ fn words_around(
     requires spare { spare < 257 }
     ensures wide { IfOk result (λ words. length words.items ≡ 36 + 129 * blocks + spare) }
     ensures number { IfOk result (λ words. slice_index words.items (number_place blocks) ≡ 0) }
+    ensures gap { IfOk result (λ words. slice_index words.items 0 ≡ 0) }
     ensures sequence { IfOk result (λ words. slice_index words.items 1 ≡ 0) }
     ensures count { IfOk result (λ words. slice_index words.items 2 ≡ rows) }
     ensures blocks { IfOk result (λ words. slice_index words.items (length words.items - 17) ≡ blocks) }

@@ -51,6 +51,7 @@ impl Caller {
         let planned = plan_rows(&rows, &mut self.seat, call, &mut self.plan);
         self.count = count;
         self.cut = planned.cut;
+        self.gap = planned.gap.unwrap_or(0);
         (planned.reply, planned.rows)
     }
 }
@@ -63,7 +64,8 @@ impl Space {
     /// one step. It takes no memory. The row count is one load, and a call that its arguments decide takes no more.
     /// Another one searches the pages that it names, once or twice, by at most 24 loads a search and four for each row
     /// that starts among them; one that looks for a place goes through the rows from the last of its window down to
-    /// the first place where the pages fit; and a change takes 24 loads and six for each row among its pages.
+    /// the first place where the pages fit, or from the page down that the gap word names; and a change takes 25 loads
+    /// and six for each row among its pages.
     pub fn plan(&self, caller: &mut Caller, call: &Call) -> (Reply, u32)
         requires table { caller.old.seat.table ≡ self.now.table }
         requires held { caller.old.seat.held ≡ Some everything }
@@ -106,7 +108,7 @@ impl Space {
     /// caller holds all pages, plans the call, draws its number, writes what it leaves, and gives the pages back. The
     /// caller is of this space, holds nothing and has a number left; `line` is the line of the input that names the
     /// call, counted from 1. Behind the draw it makes at most two steps on client words for each row that there was and
-    /// for four more, 13 for each block that the space has room for, and 1832 more; one where the call is refused. Then
+    /// for four more, 13 for each block that the space has room for, and 1833 more; one where the call is refused. Then
     /// one step or two give the pages back.
     pub fn call_whole<R: Wait>(&self, wait: &R, caller: &mut Caller, line: u32, call: Call) -> Entry
         requires table { caller.old.seat.table ≡ self.now.table }

@@ -13,6 +13,8 @@ use Rattle.lock_core.specs.Grants.{Grants}
 use Rattle.lock_core.specs.Client.{adds, IsAllowed}
 use Rattle.space_model.specs.Areas.{kind_at}
 use Rattle.row_plans.specs.RowLists.{ShowFrom, IsBareGap}
+use Rattle.row_plans.specs.Gaps.{IsGapWord}
+use Rattle.row_plans.proofs.GapWords.{gap_shown}
 use Rattle.area_guard.specs.declared.guard.Pass.{Pass}
 use Rattle.area_guard.specs.declared.guard.Pending.TheVariants.{Planned}
 use Rattle.area_guard.specs.declared.guard.Splice.{Splice}
@@ -27,7 +29,7 @@ use Rattle.row_blocks.specs.Blocks.{blocks_of, rows_of, IsLaidOut, rows_in as ro
 use Rattle.std.specs.List.{splice}
 use Rattle.row_blocks.proofs.RowSplices.{length-splice, splice_none}
 use Rattle.row_blocks.proofs.Slots.{length-slots_in, length-rows_in}
-use Rattle.area_guard.specs.Reads.{known_count, known_rows, known_words, KnowsWords, KnowsBlocks}
+use Rattle.area_guard.specs.Reads.{known_count, known_rows, known_words, HasGap, KnowsWords, KnowsBlocks}
 use Rattle.plan_words.proofs.Moments.{here_at, part_at, backs_at}
 use Rattle.plan_words.proofs.Storing.{word_now, count_now}
 
@@ -65,12 +67,27 @@ module _ (seat : ℕ) {held : Option Held} {pass : Pass} (plan : Splice) (all : 
         short = subst (λ (n : ℕ). rows_of n blocks 0 < 64) nb (also_short blocks b.laid fits same b.free b.short);
       }
 
+  -- and the gap word that is noted is right for it
+  gap_right : (grants : Grants) (words : List ℕ) (passes : List Pass) (kept : HasHistory grants words passes) → get_elem? passes seat ≡ some pass
+      → HasGap pass (rows_after plan) → IsGapWord (kind_at kept.2) (slice_index words 0)
+  gap_right grants words passes kept own gap =
+      let part = part_at grants words passes seat pass kept own in
+      let shows = (backs_at grants words passes seat pass kept own plan planned).1 in
+      subst (IsGapWord (kind_at kept.2)) (sym (part.gap gap.0 gap.1)) (gap_shown (rows_after plan) (kind_at kept.2) gap.0 shows.show gap.2)
+
   -- so the sequence word may be raised
-  pub may_raise : KnowsBlocks pass → known_rows pass ≡ rows_after plan → known_count pass ≡ length (rows_after plan)
+  pub may_raise : KnowsBlocks pass → known_rows pass ≡ rows_after plan → known_count pass ≡ length (rows_after plan) → HasGap pass (rows_after plan)
       → IsAllowed HasHistory Allowed no_note seat held pass (adds 1 1)
-  may_raise b has counted grants words passes m there small =
-      let here = here_at m in
-      (after_raise pass, (refl, here, raise plan refl planned (written_shows grants words passes m.met m.grant m.own b has counted) refl))
+  may_raise b has counted gap grants words passes m there small =
+      let here = here_at m in (
+        after_raise pass,
+        (
+          refl,
+          here,
+          raise plan refl planned (written_shows grants words passes m.met m.grant m.own b has counted)
+              (gap_right grants words passes m.met m.own gap) refl,
+        ),
+      )
 
 -- each row of a list is one of them
 all_one_of : (rows : List ℕ) → All (IsOneOf rows) rows

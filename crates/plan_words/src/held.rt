@@ -1,7 +1,7 @@
 //! The rows of a space, as `row_plans` asks for them: found and loaded where a plan needs them, by the seat of a caller
 //! that holds everything and has nothing to write. A reader may rely on all loads finding the rows that the caller
 //! knows.
-use crate::steps::load_word;
+use crate::steps::{load_gap, load_word};
 use area_guard::RowGuard;
 use range_rw::{RangeTable, Seat};
 use row_blocks::{Loads, Position, find, next, previous, row_at};
@@ -106,5 +106,9 @@ impl<'a> Rows for HeldRows<'a> {
 
     fn previous(&self, hand: &mut Seat<RowGuard>, at: Position) -> Position {
         previous(&self.words, hand, self.words.blocks, at)
+    }
+
+    fn gap(&self, hand: &mut Seat<RowGuard>) -> u64 {
+        load_gap(self.words.table, hand)
     }
 }

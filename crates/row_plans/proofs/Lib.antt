@@ -1,5 +1,6 @@
 pub mod ReadBack
 pub mod RowLists
+pub mod GapWords
 pub mod RowPages
 pub mod RowsBetween
 pub mod OneList

@@ -2,4 +2,5 @@ pub mod RowWords
 pub mod RowLists
 pub mod Plans
 pub mod Planning
+pub mod Gaps
 pub mod Loads

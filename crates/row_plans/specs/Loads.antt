@@ -1,7 +1,7 @@
 -- How many loads a plan takes. A search finds the row of its first page, or of its last one, and goes through the rows
 -- that start among its pages, and to one more; a change does so from the row before its pages to the one behind them.
 -- The numbers are those of rows in blocks: at most 20 loads find a row, and one or two more tell a word, the row behind
--- and the row before.
+-- and the row before. The gap word is one load: a search for a place has room for it, and a change takes it beside.
 use Rattle.std.proofs.Common.{ap, true, false, refl, ◌∙◌, inl, inr, arith}
 use Rattle.std.proofs.lemmas.Bool.{cases_lt, lt-ltb, le-ltb}
 use Rattle.std.specs.Prelude.{ℕ, ◌≡◌, ◌<◌, ◌≤◌, ◌+◌, ◌-◌, ◌*◌, ◌⊎◌, Bool, ◌&&◌, nat_lt, if◌then◌else◌, Some, None, List, [], ◌∷◌}
@@ -34,11 +34,12 @@ search_loads rows lo hi = 24 + 4 * rows_between rows lo hi
 abbrev pub change_loads : List ℕ → ℕ → ℕ → ℕ
 change_loads rows lo hi = 24 + 6 * rows_between rows (lo - 1) hi
 
--- the change that a judged call comes to, if it comes to one, from its first page up to the end of its last patch
+-- the change that a judged call comes to, if it comes to one: that of the pages from its first one up to the end of its
+-- last patch, and the gap word, which is loaded once
 abbrev pub judged_loads : List ℕ → Judged → ℕ
 judged_loads rows (Refused why) = 0
 judged_loads rows (Keeps reply) = 0
-judged_loads rows (Changes change) = change_loads rows change.first.lo (last_end 0 (patches_of change))
+judged_loads rows (Changes change) = change_loads rows change.first.lo (last_end 0 (patches_of change)) + 1
 
 -- planning a call on these rows takes no more loads, from one number of them up to another: none where its arguments
 -- decide it, and otherwise those of judging it and of the change that it comes to

@@ -5,6 +5,7 @@
 //! being taken.
 #![tactic(auto)]
 
+mod gaps;
 mod places;
 mod plan;
 mod planning;

@@ -1,7 +1,7 @@
 //! The searches that judging a call takes, over rows that are loaded: the kind of a page, the lowest page of a sort,
 //! and the highest place of free pages, which is this project's own choice beside mmap(2). The first two begin at the
-//! row of a page, and the last goes down from the last row of its window until it finds a gap. A reader may rely on
-//! what is found being so of all kinds that the rows show.
+//! row of a page, and the last goes down from the last row of its window, or from the page that the gap word names,
+//! until it finds a gap. A reader may rely on what is found being so of all kinds that the rows show.
 ghost use Rattle.std.specs.Prelude.{max, drop, length, None, ◌+◌, ◌^◌, ℕ, IsTrue, IsFalse, ◌≡◌, ◌<◌, ◌≤◌, Option, MatchOption};
 ghost use Rattle.page_types.specs.declared.TheConstants.{LIMIT, LOWEST};
 ghost use Rattle.page_types.specs.declared.calls.Kind.{Kind};
@@ -14,6 +14,7 @@ ghost use Rattle.row_plans.specs.RowLists.{rows_start, areas_from};
 ghost use Rattle.row_plans.specs.Plans.{IsPlaceOf};
 ghost use Rattle.row_plans.specs.Loads.{search_loads, search_within};
 
+use crate::gaps::window_by;
 use crate::row_words::read_row;
 use crate::rows::Rows;
 use page_types::{Kind, LIMIT, LOWEST};
@@ -158,8 +159,8 @@ fn fits_in(start: u64, end: u64, kind: Option<Kind>, pages: u64) -> bool
 
 /// The highest start of so many free pages, at or above `LOWEST` and with the end at or below the page where the window
 /// ends. The rows are gone through from the last one on that starts in the window, so the first that the pages fit in
-/// has it.
-fn highest_fit<R: Rows>(rows: &R, hand: &mut R::Hand, window: u64, pages: u64) -> Option<u64>
+/// has it. It takes one load fewer than a search may, so that one is left for the gap word.
+fn highest_below<R: Rows>(rows: &R, hand: &mut R::Hand, window: u64, pages: u64) -> Option<u64>
     requires may { R.may_load rows.now hand.old }
     requires window { window ≤ LIMIT }
     requires some { 0 < pages }
@@ -168,8 +169,8 @@ fn highest_fit<R: Rows>(rows: &R, hand: &mut R::Hand, window: u64, pages: u64) -
         (IsHighestFit (kind_at (areas_from (R.words rows.now hand.old))) window pages) }
     ensures loaded { R.loaded rows.now hand.old hand.new }
     ensures steps { MatchOption result
-        (R.steps rows.now hand.new ≤ R.steps rows.now hand.old + search_loads (R.words rows.now hand.old) 0 window)
-        (λ start. R.steps rows.now hand.new ≤ R.steps rows.now hand.old + search_loads (R.words rows.now hand.old) start window) }
+        (R.steps rows.now hand.new + 1 ≤ R.steps rows.now hand.old + search_loads (R.words rows.now hand.old) 0 window)
+        (λ start. R.steps rows.now hand.new + 1 ≤ R.steps rows.now hand.old + search_loads (R.words rows.now hand.old) start window) }
 {
     if window == 0 {
         return None;
@@ -191,4 +192,23 @@ fn highest_fit<R: Rows>(rows: &R, hand: &mut R::Hand, window: u64, pages: u64) -
         at = rows.previous(hand, at);
         word = rows.load(hand, at);
     }
+}
+
+/// The highest start of so many free pages, at or above `LOWEST` and with the end at or below the page where the window
+/// ends. Where the gap word says that no place of them ends above a page, the search begins there.
+fn highest_fit<R: Rows>(rows: &R, hand: &mut R::Hand, window: u64, pages: u64) -> Option<u64>
+    requires may { R.may_load rows.now hand.old }
+    requires window { window ≤ LIMIT }
+    requires some { 0 < pages }
+    requires few { pages < 2 ^ 62 }
+    ensures fit { MatchOption result ((start : ℕ) → ¬ FitsAt (kind_at (areas_from (R.words rows.now hand.old))) window pages start)
+        (IsHighestFit (kind_at (areas_from (R.words rows.now hand.old))) window pages) }
+    ensures loaded { R.loaded rows.now hand.old hand.new }
+    ensures steps { MatchOption result
+        (R.steps rows.now hand.new ≤ R.steps rows.now hand.old + search_loads (R.words rows.now hand.old) 0 window)
+        (λ start. R.steps rows.now hand.new ≤ R.steps rows.now hand.old + search_loads (R.words rows.now hand.old) start window) }
+{
+    let word = rows.gap(hand);
+    let below = window_by(word, window, pages);
+    highest_below(rows, hand, below, pages)
 }

@@ -4,9 +4,11 @@
 //! are loaded, and in which order.
 ghost use Rattle.std.specs.Prelude.{ℕ, List, ◌≡◌, ◌<◌, ◌≤◌, ◌+◌, length, drop, slice_index};
 ghost use Rattle.page_types.specs.declared.TheConstants.{LIMIT};
+ghost use Rattle.space_model.specs.Areas.{kind_at};
 ghost use Rattle.row_plans.specs.RowWords.{row_start};
-ghost use Rattle.row_plans.specs.RowLists.{rows_start};
+ghost use Rattle.row_plans.specs.RowLists.{rows_start, areas_from};
 ghost use Rattle.row_plans.specs.Plans.{IsRowList, IsPlaceOf};
+ghost use Rattle.row_plans.specs.Gaps.{IsGapWord};
 
 /// A row that was found.
 #[derive(Clone, Copy)]
@@ -101,6 +103,13 @@ pub trait Rows {
         requires there { number self.now hand.old at < length (words self.now hand.old) }
         requires less { 0 < number self.now hand.old at }
         ensures previous { number self.now hand.old result + 1 ≡ number self.now hand.old at }
+        ensures loaded { loaded self.now hand.old hand.new }
+        ensures steps { steps self.now hand.new ≤ steps self.now hand.old + 1 };
+
+    /// A gap word that is right for the rows: 0 where nothing is known.
+    fn gap(&self, hand: &mut Self::Hand) -> u64
+        requires may { may_load self.now hand.old }
+        ensures gap { IsGapWord (kind_at (areas_from (words self.now hand.old))) result }
         ensures loaded { loaded self.now hand.old hand.new }
         ensures steps { steps self.now hand.new ≤ steps self.now hand.old + 1 };
 }

@@ -1,16 +1,19 @@
 ghost use Rattle.std.specs.Prelude.{◌≡◌, ◌≤◌, ◌<◌, ◌+◌, IfOk, IsTrue, length, drop, slice_index};
 ghost use Rattle.page_types.specs.declared.TheConstants.{LIMIT};
 ghost use Rattle.page_types.specs.Named.{IsNamedCall};
+ghost use Rattle.space_model.specs.Areas.{kind_at};
 ghost use Rattle.space_model.specs.Judges.{IsNamedPaint};
 ghost use Rattle.row_plans.specs.RowWords.{row_start};
-ghost use Rattle.row_plans.specs.RowLists.{rows_start};
+ghost use Rattle.row_plans.specs.RowLists.{rows_start, areas_from};
 ghost use Rattle.row_plans.specs.Plans.{IsRowList, spliced};
+ghost use Rattle.row_plans.specs.Gaps.{IsGapWord};
 
+use crate::gaps::{GAP_PAGES, window_by};
 use crate::plan::plan_rows;
 use crate::planning::{Cut, plan_change};
 use crate::row_words::{read_row, write_row};
 use crate::rows::{Found, Rows};
-use page_types::{Call, Kind, LIMIT, MapFlags, PAGE, Prot, ROWS, Reply, SPARE};
+use page_types::{Call, Kind, LIMIT, LOW, MapFlags, PAGE, Prot, ROWS, Reply, SPARE};
 use space_model::{Change, Paint, Patch};
 use std::alloc::{AllocError, Global};
 use std::marker::Model;
@@ -55,21 +58,25 @@ fn find(rows: &[u64], page: u64) -> Found<u32>
     }
 }
 
-/// Rows that were read, as a list.
+/// Rows that were read, as a list, and a gap word that is right for them.
 #[derive(Drop)]
 struct ReadRows<'a> {
     rows: &'a [u64],
+    gap: u64,
 }
 
 impl<'a> Model for ReadRows<'a> {
     ghost use Rattle.std.specs.Prelude.{ℕ, List};
+    ghost use Rattle.space_model.specs.Areas.{kind_at};
+    ghost use Rattle.row_plans.specs.RowLists.{areas_from};
     ghost use Rattle.row_plans.specs.Plans.{IsRowList};
+    ghost use Rattle.row_plans.specs.Gaps.{IsGapWord};
 
     ghost Value = { List ℕ };
 
     ghost view = { λ s. s.rows.now };
 
-    ghost invariant = { λ s. IsRowList s.rows.now };
+    ghost invariant = { λ s. IsRowList s.rows.now × IsGapWord (kind_at (areas_from s.rows.now)) s.gap };
 }
 
 impl<'a> Rows for ReadRows<'a> {
@@ -127,6 +134,10 @@ impl<'a> Rows for ReadRows<'a> {
     fn previous(&self, _hand: &mut (), at: u32) -> u32 {
         at - 1
     }
+
+    fn gap(&self, _hand: &mut ()) -> u64 {
+        self.gap
+    }
 }
 
 /// The list with the splice in it.
@@ -140,15 +151,35 @@ fn spliced(alloc: Global, rows: &[u64], cut: Cut<u32>, more: &[u64]) -> Result<V
     Ok(new)
 }
 
+/// The rows that a call leaves of others, and a gap word that is right for them.
+fn gap_rows_after(
+    alloc: Global,
+    rows: &[u64],
+    gap: u64,
+    call: &Call,
+) -> Result<(Vec<u64>, u64), AllocError>
+    requires old { IsRowList rows.now }
+    requires gap { IsGapWord (kind_at (areas_from rows.now)) gap }
+    requires named { IsNamedCall call.now }
+    ensures { IfOk result (λ new. IsRowList new.0.items × IsGapWord (kind_at (areas_from new.0.items)) new.1) }
+{
+    let mut new = Vec::with_capacity(alloc, ROWS + SPARE)?;
+    let planned = plan_rows(&ReadRows { rows, gap }, &mut (), call, &mut new);
+    let after = spliced(alloc, rows, planned.cut, new.as_slice())?;
+    match planned.gap {
+        Some(right) => Ok((after, right)),
+        None => Ok((after, 0)),
+    }
+}
+
 /// The rows that a call leaves of others.
 fn rows_after(alloc: Global, rows: &[u64], call: &Call) -> Result<Vec<u64>, AllocError>
     requires old { IsRowList rows.now }
     requires named { IsNamedCall call.now }
     ensures { IfOk result (λ new. IsRowList new.items) }
 {
-    let mut new = Vec::with_capacity(alloc, ROWS + SPARE)?;
-    let planned = plan_rows(&ReadRows { rows }, &mut (), call, &mut new);
-    spliced(alloc, rows, planned.cut, new.as_slice())
+    let (new, _) = gap_rows_after(alloc, rows, 0, call)?;
+    Ok(new)
 }
 
 /// Whether a paint gives no bit but the named ones.
@@ -194,6 +225,7 @@ fn change_by(
     let cut = plan_change(
         &ReadRows {
             rows: old.as_slice(),
+            gap: 0,
         },
         &mut (),
         change,
@@ -319,4 +351,52 @@ fn patches_join_their_neighbours_and_make_four_rows_at_most(rt: HostRuntime) -> 
             (31, None),
         ],
     )
+}
+
+/// A Map of so many pages, for whose place there is no hint.
+fn map_any(pages: u64) -> Call
+    requires { pages < 1000 }
+{
+    Call::Map {
+        addr: 0,
+        len: pages * PAGE,
+        prot: Prot::READ,
+        flags: MapFlags::PRIVATE,
+    }
+}
+
+/// An Unmap of the pages from `lo` up to `hi`.
+fn unmap(lo: u64, hi: u64) -> Call
+    requires { (lo ≤ hi) × (hi ≤ LIMIT) }
+{
+    Call::Unmap {
+        addr: lo * PAGE,
+        len: (hi - lo) * PAGE,
+    }
+}
+
+#[test]
+fn a_search_begins_where_the_gap_word_says(rt: HostRuntime) -> Result<(), Fail> {
+    let any = map_any(16);
+    let gone = unmap(LOW - 16, LOW);
+    assert!(rt; any.is_named() && gone.is_named());
+    let none = no_areas(rt.alloc())?;
+    // the pages stand as high as they fit, so no place of so many ends above them
+    let (one, after_one) = gap_rows_after(rt.alloc(), none.as_slice(), 0, &any)?;
+    assert_eq!(rt; one.len(), 3);
+    assert_eq!(rt; read_row(one[1]), (LOW - 16, kind(Prot::READ)));
+    assert_eq!(rt; after_one, (LOW - 16) * GAP_PAGES + 16);
+    assert_eq!(rt; window_by(after_one, LOW, 16), LOW - 16);
+    // so the next ones are found below them
+    let (two, after_two) = gap_rows_after(rt.alloc(), one.as_slice(), after_one, &any)?;
+    assert_eq!(rt; two.len(), 3);
+    assert_eq!(rt; read_row(two[1]), (LOW - 32, kind(Prot::READ)));
+    assert_eq!(rt; after_two, (LOW - 32) * GAP_PAGES + 16);
+    // pages that are free again raise the word
+    let (three, after_three) = gap_rows_after(rt.alloc(), two.as_slice(), after_two, &gone)?;
+    assert_eq!(rt; after_three, LOW * GAP_PAGES + 16);
+    let (four, _) = gap_rows_after(rt.alloc(), three.as_slice(), after_three, &any)?;
+    assert_eq!(rt; four.len(), 3);
+    assert_eq!(rt; read_row(four[1]), (LOW - 32, kind(Prot::READ)));
+    Ok(())
 }

@@ -32,6 +32,7 @@ returns-clause-words c =
     record {
       wide = omega arith;
       number = laid.above (number_place c.args.blocks) (omega arith) ∙ around.number;
+      gap = laid.first 0 (omega arith) ∙ around.gap;
       sequence = laid.first 1 (omega arith) ∙ around.sequence;
       count = laid.first 2 (omega arith) ∙ (around.count ∙ c.requires.rows);
       laid = laid.laid;

@@ -1,5 +1,7 @@
 use Rattle.std.proofs.Common.{ℕ, ◌∙◌, List, length, ap, sym, subst, arith}
+use Rattle.space_model.specs.Areas.{kind_at}
 use Rattle.row_plans.specs.RowLists.{areas_from}
+use Rattle.row_plans.specs.Gaps.{IsGapWord}
 use Rattle.row_plans.specs.Plans.{spliced, IsPlan}
 use Rattle.row_plans.specs.Loads.{TakesLoads}
 use Rattle.row_blocks.specs.declared.positions.Position.{Position}
@@ -9,7 +11,7 @@ use Rattle.plan_words.specs.Places.{number_at}
 use Rattle.plan_words.specs.Reading.{same_known, same_numbers, same_places, same_rows}
 use Rattle.plan_words.proofs.Plans.{plan_stays}
 use Rattle.area_rows.specs.Callers.{CallerView, IsReading}
-use Rattle.area_rows.proofs.Written.{may_load_in}
+use Rattle.area_rows.proofs.Written.{may_load_in, gap_or}
 use Rattle.area_rows.proofs.space.Caller.plan_call.Goals as goal
 
 -- the caller's seat may load all rows of the space
@@ -64,6 +66,10 @@ returns-clause-known c =
           let s = plan_stays (known_rows old.pass) more c.args.call.now p.reply p.rows (number_at old.pass p.cut.at) p.cut.gone may.list
           c.plan_rows-planned.ensures.plan there (omega arith) in
           omega arith;
+      gap =
+          let rows = same_rows old c.plan_rows-planned.new.hand loaded in let places = same_places old c.plan_rows-planned.new.hand loaded in
+          subst (λ (z : List ℕ × (Position → ℕ) × ℕ). IsGapWord (kind_at (areas_from (spliced z.1 z.0 p.cut more))) z.2)
+          (λ i. (sym rows i, sym places i, sym c.unwrap_or-self-inside.ensures i)) (gap_or _ _ p.gap c.plan_rows-planned.ensures.gap);
     }
 
 -- and the splice is the plan of the call

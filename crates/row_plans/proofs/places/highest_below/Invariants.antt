@@ -5,7 +5,7 @@ use Rattle.row_plans.specs.RowLists.{rows_start, areas_from}
 use Rattle.row_plans.specs.RowWords.{row_start}
 use Rattle.row_plans.specs.Planning.{NoneEndsAbove}
 use Rattle.row_plans.specs.Loads.{rows_between}
-use Rattle.row_plans.proofs.places.highest_fit.Given as goal
+use Rattle.row_plans.proofs.places.highest_below.Given as goal
 
 -- no place ends behind the row that was loaded; each row that was passed took three loads
 abbrev pub invariant-rows : goal.invariant-rows
