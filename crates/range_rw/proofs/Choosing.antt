@@ -19,14 +19,14 @@ use Rattle.epoch_pools.specs.declared.views.Standing.TheVariants.{Free, Narrow, 
 use Rattle.epoch_pools.specs.Standings.{is_here, is_whole, is_counted}
 use Rattle.epoch_pools.specs.Beside.{shown_core, shown_grant}
 use Rattle.epoch_pools.specs.Hands.{IsResting}
-use Rattle.marked_list.specs.Order.{IsOutside, MaySweep}
+use Rattle.marked_list.specs.Order.{MaySweep}
 use Rattle.marked_list.specs.Causes.{nodes_in, IsSpent}
 use Rattle.range_rw.specs.declared.refusals.NotHeld.{NotHeld}
 use Rattle.range_rw.specs.declared.refusals.NotHeld.TheVariants.{Busy, Again, Long as TooLong, NoNode}
 use Rattle.range_rw.specs.Contract.{SeatState, Pools, IsLongRefusal, IsReadyLeft, IsWalkOf, IsSpentIn, IsCause, IsListCause, IsLockCall}
 use Rattle.range_rw.specs.Contract.{AsksOnly, OpenScan, WorksIn, TellsList, KeepsOthers, StandsIn, pools_at, in_list}
 use Rattle.range_rw.specs.Seats.{counted_in, pools_of, scan_of, walk_of, placed_scan, placed_in, seat_state_in, seat_state_of}
-use Rattle.range_rw.specs.Trying.{IsLaterInTry}
+use Rattle.range_rw.specs.Trying.{IsLaterInTry, IsLaterOutside}
 use Rattle.range_rw.specs.Several.{list_state, HasLeft, IsLaterInLists, IsFreeSeat, HoldsAlone, IsCauseIn, IsHoldCall, IsWorkFor, ShowsOthers}
 use Rattle.range_rw.proofs.Pieces.{err_free, ok_on, own_at, own_each, only_stays, ready_stays, here_state, rests_free}
 use Rattle.range_rw.proofs.Taking.{cause_within}
@@ -37,9 +37,7 @@ use Rattle.range_rw.proofs.Seated.{count_numbers, pools_shown, try_lists, lists_
 -- a call of a try in the list to which the hand is turned, of a seat that held nothing
 pub record Here {P : Type 0} (p q : SeatPart (Beside P)) : Type 0 where
   pub free : IsFreeSeat p
-  pub later : IsLaterInTry p q
-  pub outside : IsOutside q.core
-  pub cursor : q.core.cursor ≡ None
+  pub later : IsLaterOutside p q
 
 -- where a range stands, by how it counts: with one list in that, with several in the one that it takes, or in list 0
 pub stands_first : {c : Regions} {range : Interval} {s : Standing} → TakesOne c range 0 → s ≡ Free → StandsIn c range (counted_in s)
@@ -75,21 +73,21 @@ module _ {P : Type 0} where
 
   module _ {p q : SeatPart (Beside P)} (h : Here p q) where
     here_list : q.pass.list ≡ p.pass.list
-    here_list = ap (λ (b : Beside P). b.list) h.later.pass
+    here_list = ap (λ (b : Beside P). b.list) h.later.later.pass
 
     here_only : (j : ℕ) → j ≢ p.pass.list → shown_core q j ≡ shown_core p j
-    here_only = only_stays p q here_list (ap (λ (b : Beside P). b.others) h.later.pass)
+    here_only = only_stays p q here_list (ap (λ (b : Beside P). b.others) h.later.later.pass)
 
     here_rests : IsResting q.core
-    here_rests = record { outside = h.outside.even; cursor = h.cursor; hand = h.outside.hand }
+    here_rests = record { outside = h.later.outside.even; cursor = h.later.cursor; hand = h.later.outside.hand }
 
     -- what a call of a try leaves of the list it leaves of the seat
     here_later : IsLaterInLists p q
-    here_later = try_lists p q h.later
+    here_later = try_lists p q h.later.later
 
     -- nothing that counted before counts by another list
     here_standing : q.pass.standing ≡ Free
-    here_standing = ap (λ (b : Beside P). b.standing) h.later.pass ∙ h.free.standing
+    here_standing = ap (λ (b : Beside P). b.standing) h.later.later.pass ∙ h.free.standing
 
     pub here_ready : IsReadyLeft p.core.ready q.core.ready → (j : ℕ) → IsReadyLeft (shown_core p j).ready (shown_core q j).ready
     here_ready left j = dite (ℕ_discrete j p.pass.list)
@@ -130,7 +128,7 @@ module _ {P : Type 0} where
     -- so with one list, which each range takes alone, what is held there is granted, and what is refused leaves nothing
     pub here_call : {A E : Type 0} {r : Result A E} (c : Regions) (asked : Held) → p.pass.list < p.pass.lists → p.pass.lists ≡ 1 → TakesOne c asked.range 0
         → AsksOnly asked p.trace.asked q.trace.asked → OnOk r (held_at q.core.own ≡ Some asked) → OnErr r (q.core.own ≡ Nothing)
-        → IsHoldCall c asked p q r
+        → IsHoldCall c asked r p q
     here_call {A} {E} {r} c asked there one takes asks held free = record {
       work = record { later = here_later; asks = asks; only = here_others c asked.range (omega arith) };
       held = ok_on r (λ own. record {
@@ -157,8 +155,8 @@ pub record Left {P : Type 0} (was at now : TableId) (p m q : SeatPart (Beside P)
 pub left_by : {P : Type 0} (was at now : TableId) {p m q : SeatPart (Beside P)} {c : Regions} {lists : ℕ} → HasLeft c lists p m → IsLaterInLists m q
     → Left was at now p m q
 left_by was at now {p} {m} left on = record {
-  later = left.later;
-  ready = left_ready p m left.later left.ready;
+  later = left.left.later;
+  ready = left_ready p m left.left.later left.left.ready;
   lists = on.lists;
 }
 
@@ -259,10 +257,10 @@ pub record Called {P : Type 0} (c : Regions) (range : Held) (before after : Seat
 pub called_by : {P : Type 0} {was now : TableId} {p m q : SeatPart (Beside P)} {c : Regions} {lists : ℕ} {range : Held} → now ≡ was → HasLeft c lists p m
     → IsWorkFor c range m q → Called c range (seat_state_of (record { table = was; part = p })) (seat_state_of (record { table = now; part = q }))
 called_by {P} {was} {now} {p} {m} {q} {c} {lists} {range} same left work =
-    let first = try_lists p m left.later in let all = lists_on first work.later in
+    let first = try_lists p m left.left.later in let all = lists_on first work.later in
     record {
       call = lists_call was now p q same all;
-      asks = asks_from left.asked work.asks;
+      asks = asks_from left.left.asked work.asks;
       only = λ closed. others_kept was now p m q c range.range (sym first.lists ∙ (sym left.lists.shown ∙ left.lists.many)) all.lists
-          (left.same (closed_even p closed)) work.only;
+          (left.left.same (closed_even p closed)) work.only;
     }

@@ -23,12 +23,12 @@ use Rattle.marked_list.specs.Causes.{IsSpent}
 use Rattle.range_rw.specs.declared.refusals.NotHeld.{NotHeld}
 use Rattle.range_rw.specs.Contract.{AsksOnly, IsLongRefusal, IsReadyLeft, WorksIn}
 use Rattle.range_rw.specs.Several.{IsLaterInLists, IsPiece, MayLinkIn, MayGiveIn, IsLinkedIn, IsFreedIn, IsFreeSeat, HoldsAlone, HoldsIn, IsCauseAt}
-use Rattle.range_rw.specs.Several.{HasLists, HasPassed, TakesNone, IsGranted, IsWorkFor}
-use Rattle.range_rw.specs.Looks.{MayLook, IsDue, IsNarrowDue, IsWideDue, IsHome, LooksAt, LooksAtAll, standing_for}
+use Rattle.range_rw.specs.Several.{HasLists, MayHold, HasPassed, TakesNone, IsGranted, IsWorkFor}
+use Rattle.range_rw.specs.Looks.{MayLook, IsToLook, IsDue, IsNarrowDue, IsWideDue, IsHome, LooksAt, LooksAtAll, standing_for}
 use Rattle.range_rw.proofs.Asking.{asks_from, asks_on, asks_stay}
 use Rattle.range_rw.proofs.Pieces.{err_free, err_on, ok_on}
 use Rattle.range_rw.proofs.Moves.{narrow_beside, narrow_back, wide_beside, wide_back, free_beside, lists_on, turn_on, turn_asks, look_on, look_asks, look_shows}
-use Rattle.range_rw.proofs.Moves.{holds_on, holds_turned, holds_looked, piece_free, ready_each, ready_from, some_held, cause_on}
+use Rattle.range_rw.proofs.Moves.{holds_on, holds_turned, holds_looked, piece_free, piece_alone, ready_each, ready_from, some_held, cause_on}
 use Rattle.range_rw.proofs.Choosing.{alone_there, alone_narrow, alone_wide, stands_narrow, stands_wide}
 
 -- a wide range stands as having passed
@@ -42,7 +42,7 @@ unfolding standing_for
 standing_narrow zero up differ = absurd (differ refl)
 standing_narrow (suc own) up differ = refl
 
-module _ {P : Type 0} {c : Regions} {range : Interval} {own at up : ℕ} {p : SeatPart (Beside P)} (due : IsDue c range p own at up) where
+module _ {P : Type 0} {c : Regions} {range : Interval} {own at up : ℕ} {p : SeatPart (Beside P)} (due : IsDue c range own at up p) where
   -- the list that is looked at is another one
   pub due_differ : at ≢ own
   due_differ = ⊎_elim (λ (n : IsNarrowDue c range p own at). λ e. let a = n.low in let b = n.first in omega arith)
@@ -63,7 +63,7 @@ module _ {P : Type 0} {c : Regions} {range : Interval} {own at up : ℕ} {p : Se
   due_several e = let a = due_differ in let b = due_there in let d = due_own in a (omega arith)
 
   -- it is due still while the standing stays
-  pub due_on : (q : SeatPart (Beside P)) → q.pass.lists ≡ p.pass.lists → q.pass.standing ≡ p.pass.standing → IsDue c range q own at up
+  pub due_on : (q : SeatPart (Beside P)) → q.pass.lists ≡ p.pass.lists → q.pass.standing ≡ p.pass.standing → IsDue c range own at up q
   due_on q lists standing = ⊎_elim
       (λ (n : IsNarrowDue c range p own at). inl
       (record { low = n.low; there = let a = n.there in omega arith; first = n.first; takes = n.takes; free = standing ∙ n.free }))
@@ -97,13 +97,13 @@ module _ {P : Type 0} {c : Regions} {range : Interval} {own at up : ℕ} {p : Se
 
 -- a narrow range of which nothing counts has list 0 due
 pub due_first : {P : Type 0} {c : Regions} {range : Interval} {own lists up : ℕ} {p : SeatPart (Beside P)} → IsHome c range lists own → lists ≡ p.pass.lists
-    → own ≢ 0 → p.pass.standing ≡ Free → IsDue c range p own 0 up
+    → own ≢ 0 → p.pass.standing ≡ Free → IsDue c range own 0 up p
 due_first home many differ free =
     inl (record { low = omega arith; there = let t = home.there in omega arith; first = refl; takes = home.narrow differ; free = free })
 
 -- a wide range has the next list due that it takes
 pub due_next : {P : Type 0} (c : Regions) (at up : ℕ) (range : Interval) (p : SeatPart (Beside P)) → 1 ≤ at → HasPassed c range at p
-    → TakesNone c range (at + 1) up → at + 1 ≤ up → up ≤ p.pass.lists → IsDue c range p 0 at up
+    → TakesNone c range (at + 1) up → at + 1 ≤ up → up ≤ p.pass.lists → IsDue c range 0 at up p
 due_next c at up range p low passed none next most = inr (⊎_elim
     (λ (x : (p.pass.standing ≡ Free) × TakesNone c range 0 at). record {
       first = refl;
@@ -129,8 +129,8 @@ due_next c at up range p low passed none next most = inr (⊎_elim
     passed)
 
 -- the seat may look there, where its hand is turned to the list that holds the range
-pub may_look : {P : Type 0} {c : Regions} {own at up : ℕ} {p : SeatPart (Beside P)} (asked : Held) → IsDue c asked.range p own at up
-    → p.pass.list ≡ own → held_at p.core.own ≡ Some asked → MayLook c p own at up
+pub may_look : {P : Type 0} {c : Regions} {own at up : ℕ} {p : SeatPart (Beside P)} (asked : Held) → IsDue c asked.range own at up p
+    → p.pass.list ≡ own → held_at p.core.own ≡ Some asked → MayLook c own at up p
 may_look {P} {c} {own} {at} {up} {p} asked due way held = ⊎_elim
     (λ (n : IsNarrowDue c asked.range p own at). record {
       turned = way;
@@ -163,7 +163,7 @@ may_look {P} {c} {own} {at} {up} {p} asked due way held = ⊎_elim
     due
 
 -- a node may be linked in the list that is looked at
-pub due_links : {P : Type 0} {c : Regions} {asked : Held} {own at up : ℕ} {p : SeatPart (Beside P)} → IsDue c asked.range p own at up
+pub due_links : {P : Type 0} {c : Regions} {asked : Held} {own at up : ℕ} {p : SeatPart (Beside P)} → IsDue c asked.range own at up p
     → HoldsIn own asked p → MayLinkIn at p
 due_links {P} {c} {asked} {own} {at} due holds =
     record { there = due_there due; resting = holds.rests; free = holds.others at (due_differ due) }
@@ -186,7 +186,7 @@ pub record Swept {P : Type 0} (home other : ℕ) (asked : Held) (p w t : SeatPar
   pub stays : (j : ℕ) → shown_core t j ≡ shown_core w j
   pub rests : IsResting t.core
 
-pub swept_by : {P : Type 0} {c : Regions} {asked : Held} {own at up : ℕ} {p w t : SeatPart (Beside P)} → IsDue c asked.range p own at up → HoldsIn own asked p
+pub swept_by : {P : Type 0} {c : Regions} {asked : Held} {own at up : ℕ} {p w t : SeatPart (Beside P)} → IsDue c asked.range own at up p → HoldsIn own asked p
     → IsFreedIn at p.pass.standing p w → t ≡ turned w own → ((j : ℕ) → shown_core t j ≡ shown_core w j) → IsResting t.core → Swept own at asked p w t
 swept_by due holds sweep turn stays rests =
     record { differ = due_differ due; holds = holds; sweep = sweep; turn = turn; stays = stays; rests = rests }
@@ -236,7 +236,7 @@ module _ {P : Type 0} where
 
   -- what a look comes to behind them
   pub looks_from : {A : Type 0} {first next : TableId} {own at : ℕ} {asked : Held} {s : Standing} {p m q : SeatPart (Beside P)} {r : Result A NotHeld}
-      → next ≡ first → Quiet at p m → LooksAt next own at asked s m q r → LooksAt first own at asked s p q r
+      → next ≡ first → Quiet at p m → LooksAt next own at asked s r m q → LooksAt first own at asked s r p q
   looks_from {A} {first} {next} {own} {at} {asked} {s} {p} {m} {q} {r} same quiet rest = record {
     later = lists_on quiet.later rest.later;
     asks = asks_from quiet.asked rest.asks;
@@ -250,7 +250,7 @@ module _ {P : Type 0} where
 
   -- one that found the list empty: the range is held as it was, and counts there
   pub look_clear : {A : Type 0} {x : A} {table : TableId} {own at : ℕ} {asked : Held} {s : Standing} {p q : SeatPart (Beside P)} {b : Bool}
-      → HoldsAlone own asked p → q ≡ after_look p (standing_by b s p) → b ≡ true → LooksAt table own at asked s p q (Ok x)
+      → HoldsAlone own asked p → q ≡ after_look p (standing_by b s p) → b ≡ true → LooksAt table own at asked s (Ok x) p q
   look_clear {A} {x} {table} {own} {at} {asked} {s} {p} {q} alone is clear = record {
     later = look_on p is;
     asks = asks_stay (look_asks p is);
@@ -266,7 +266,7 @@ module _ {P : Type 0} where
   pub look_refused : {A : Type 0} {table : TableId} {own at : ℕ} {asked : Held} {s : Standing} {p q : SeatPart (Beside P)} {why : NotHeld} → at ≢ own
       → HoldsIn own asked p → IsPiece at p q → AsksOnly asked p.trace.asked q.trace.asked → q.pass.standing ≡ p.pass.standing → q.core.own ≡ Nothing
       → IsReadyLeft (shown_core p at).ready (shown_core q at).ready → IsCauseAt table at p q asked why → (IsLongRefusal why ↔ IsSpent q)
-      → LooksAt {A = A} table own at asked s p q (Err why)
+      → LooksAt {A = A} table own at asked s (Err why) p q
   look_refused differ holds piece asks standing free ready cause long = record {
     later = piece.later;
     asks = asks;
@@ -294,7 +294,7 @@ module _ {P : Type 0} where
 
   -- a look at a list in which it works
   pub work_look : {A : Type 0} {table : TableId} {c : Regions} {own at : ℕ} {asked : Held} {s : Standing} {p q : SeatPart (Beside P)} {r : Result A NotHeld}
-      → WorksIn c asked.range at → LooksAt table own at asked s p q r → IsWorkFor c asked p q
+      → WorksIn c asked.range at → LooksAt table own at asked s r p q → IsWorkFor c asked p q
   work_look works looks = record { later = looks.later; asks = looks.asks; only = λ j none. looks.only j (works_not works none) }
 
   -- a turn
@@ -304,7 +304,7 @@ module _ {P : Type 0} where
 
   -- the link there, and that it is given back
   pub work_link : {A E : Type 0} {c : Regions} {at : ℕ} {asked : Held} {p q : SeatPart (Beside P)} {r : Result A E} → WorksIn c asked.range at
-      → IsLinkedIn at asked p q r → IsWorkFor c asked p q
+      → IsLinkedIn at asked r p q → IsWorkFor c asked p q
   work_link works link = record { later = link.piece.later; asks = link.asks; only = λ j none. link.piece.only j (works_not works none) }
 
   pub work_freed : {c : Regions} {at : ℕ} {asked : Held} {s : Standing} {p q : SeatPart (Beside P)} → WorksIn c asked.range at → IsFreedIn at s p q
@@ -325,9 +325,19 @@ module _ {P : Type 0} where
       record { there = let t = home.there in omega arith; resting = free.rests; free = free.free own }
 
   -- where that is refused the seat holds nothing
-  pub link_free : {A E : Type 0} {own : ℕ} {asked : Held} {p q : SeatPart (Beside P)} {e : E} → IsFreeSeat p → IsLinkedIn {A = A} own asked p q (Err e)
+  pub link_free : {A E : Type 0} {own : ℕ} {asked : Held} {p q : SeatPart (Beside P)} {e : E} → IsFreeSeat p → IsLinkedIn {A = A} own asked (Err e) p q
       → IsFreeSeat q
   link_free free link = piece_free link.piece link.free (link.standing ∙ free.standing) (λ j away. free.free j)
+
+  -- where the range is linked there it has still to look at the other lists, and nothing counts yet
+  pub link_due : {A E : Type 0} {c : Regions} {lists own : ℕ} {asked : Held} {p q : SeatPart (Beside P)} {x : A} → IsHome c asked.range lists own
+      → MayHold c lists p → IsLinkedIn {E = E} own asked (Ok x) p q → IsToLook c lists own asked q
+  link_due home may link = record {
+    lists = lists_still may.lists link.piece.later;
+    home = home;
+    holds = piece_alone may.free link.piece link.held;
+    free = link.standing ∙ may.free.standing;
+  }
 
   -- a range that doesn't count may be given back there
   pub kept_gives : {own : ℕ} {asked : Held} {q : SeatPart (Beside P)} → own < q.pass.lists → HoldsIn own asked q
@@ -355,7 +365,7 @@ module _ {P : Type 0} where
 
   -- a look at list 0 is all that a narrow range has to look at
   pub looks_narrow : {A : Type 0} {table : TableId} {c : Regions} {own looks : ℕ} {asked : Held} {p q : SeatPart (Beside P)} {r : Result A NotHeld} → own ≢ 0
-      → 1 < p.pass.lists → p.pass.standing ≡ Free → LooksAt table own 0 asked (standing_for own 0) p q r → LooksAtAll table c own looks asked p q r
+      → 1 < p.pass.lists → p.pass.standing ≡ Free → LooksAt table own 0 asked (standing_for own 0) r p q → LooksAtAll table c own looks asked r p q
   looks_narrow {A} {table} {c} {own} {looks} {asked} {p} {q} {r} differ several free one = record {
     work = work_look (inl refl) one;
     home = one.only own differ;

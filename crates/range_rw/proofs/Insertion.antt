@@ -15,8 +15,10 @@ use Rattle.lock_core.specs.Views.{todo_of, marked, entered, left, kept_own, read
 use Rattle.lock_core.specs.Machine.{held_at, may_leave, given}
 use Rattle.epoch_pools.specs.declared.views.SeatPart.{SeatPart}
 use Rattle.epoch_pools.specs.Record.{cursor_word, is_judging, gained_by}
-use Rattle.epoch_pools.specs.Hands.{quiet_after}
+use Rattle.epoch_pools.specs.declared.views.Beside.{Beside}
+use Rattle.epoch_pools.specs.Hands.{HandState, ListShape, quiet_after}
 use Rattle.marked_list.proofs.Unlinking.{gone_looked}
+use Rattle.marked_list.specs.declared.cursor.Cursor.{Cursor as Traversal}
 use Rattle.marked_list.specs.declared.answers.Linked.{Linked as LinkAnswer}
 use Rattle.marked_list.specs.declared.answers.Linked.TheVariants.{Done as IsLinked, Lost as NotLinked}
 use Rattle.marked_list.specs.declared.answers.Lost.{Lost as LostAnswer}
@@ -26,10 +28,11 @@ use Rattle.marked_list.specs.Order.{IsInside, HasEnds, HasToValidate, StandsAtPl
 use Rattle.marked_list.specs.Leaves.{IsLaterInWalk, IsCall, IsSameLook, IsNewWalk}
 use Rattle.marked_list.specs.Causes.{asked_of, nodes_in, IsSpent}
 use Rattle.marked_list.specs.Answers.{Answers, Arrives, Links, IsLong, IsMarkCall, linked_own, aimed_own}
+use Rattle.range_rw.specs.Calls.{IsHandOf, Leaves}
 use Rattle.range_rw.specs.Contract.{RefusesTry}
 use Rattle.range_rw.specs.Patience.{InsideEnds, HoldsOrNone}
 use Rattle.range_rw.specs.Trying.{has_come, IsFilling, IsLaterInTry, IsLaterInEpoch, Refuses, LinkEnds, ValidateEnds}
-use Rattle.range_rw.specs.Trying.{InsertEnds, StaysFilled, LeavesNode, EpochEnds}
+use Rattle.range_rw.specs.Trying.{InsertEnds, StaysFilled, LeavesNode, EpochEnds, MayWalkIn, BeginsToValidate, IsLaterInTraversal}
 use Rattle.range_rw.proofs.Later.{later_on, still_on, walk_still, inside_still, Keeps, keeps_all, lost_on, refuses_on, walk_refuses, spent_look, long_after}
 
 -- ---- the walk and the link
@@ -270,6 +273,21 @@ module _ {P : Type 0} (p q : SeatPart P) (a : Walked) (may : MayWalk p.core) (st
       by_answer (Conflict owner range mode) y = (inl y.0, from (Conflict owner range mode) y.1)
       by_answer (Lost l) y = (inl y.0, from (Lost l) y.1)
       by_answer (Long visits) y = (inl y.0, from (Long visits) y.1)
+
+-- so one that was linked in an epoch may be validated there
+pub to_validate : {P : Type 0} {list : ListShape} {h k : HandState (Beside P)} {i j : Traversal} {x y : ℕ} (a : Walked) → IsHandOf (MayWalkIn i) list h
+    → Leaves (IsLaterInTraversal i j) h k x y → LinkEnds h.part k.part a → has_come a ≡ true → IsHandOf (BeginsToValidate j) list k
+to_validate {P} {list} {h} {k} {i} {j} a may on ends came = record {
+  table = on.counted.table ∙ may.table;
+  is = record {
+    may = record {
+      inside = inside_still h.part k.part may.is.order.inside on.is.later;
+      own = insert_validates h.part k.part a may.is.order on.is.later ends came;
+      epoch = ap (λ (t : Traversal). t.epoch) on.is.cursor ∙ (may.is.epoch ∙ sym on.is.later.epoch);
+    };
+    begins = insert_begins h.part k.part a may.is.order on.is.later ends came;
+  };
+}
 
 -- ---- the epoch around them
 

@@ -1,4 +1,5 @@
 pub mod Asking
+pub mod Calls
 pub mod Choosing
 pub mod Dues
 pub mod Giving

@@ -19,12 +19,12 @@ use Rattle.epoch_pools.specs.declared.views.Standing.{Standing}
 use Rattle.epoch_pools.specs.declared.views.Standing.TheVariants.{Free, Narrow, Wide}
 use Rattle.epoch_pools.specs.Standings.{is_here, is_whole, is_counted, standing_back}
 use Rattle.epoch_pools.specs.Beside.{shown_core}
-use Rattle.epoch_pools.specs.Hands.{HandState, IsResting, turned}
+use Rattle.epoch_pools.specs.Hands.{IsResting, turned}
 use Rattle.epoch_pools.specs.Passing.{after_look, HoldsToo}
 use Rattle.range_rw.specs.Contract.{AsksOnly, IsReadyLeft}
 use Rattle.marked_list.specs.Causes.{nodes_in, IsSpent}
 use Rattle.range_rw.specs.declared.refusals.NotHeld.{NotHeld}
-use Rattle.range_rw.specs.Several.{IsCounted, IsLaterInLists, IsPiece, IsFreedIn, IsFreeSeat, HoldsAlone, HoldsIn, HasSpent, HasPassed}
+use Rattle.range_rw.specs.Several.{IsLaterInLists, IsPiece, IsFreedIn, IsFreeSeat, HoldsAlone, HoldsIn, HasSpent, HasPassed}
 use Rattle.range_rw.specs.Several.{TakesNone, list_state, IsCauseAt, KeepsCauses}
 use Rattle.range_rw.specs.Looks.{LooksAt}
 use Rattle.range_rw.proofs.Asking.{asks_kept}
@@ -137,18 +137,6 @@ module _ {P : Type 0} where
 
   pub look_shows : (p : SeatPart (Beside P)) {q : SeatPart (Beside P)} {s : Standing} → q ≡ after_look p s → (j : ℕ) → shown_core q j ≡ shown_core p j
   look_shows p {q} {s} is j = ap (λ (x : SeatPart (Beside P)). shown_core x j) is
-
-  -- calls one after another are counted where each is
-  pub counted_on : {h m k : HandState (Beside P)} {a b c : ℕ} → IsCounted h m a b → IsCounted m k b c → IsCounted h k a c
-  counted_on x y = record { table = y.table ∙ x.table; steps = let u = x.steps in let v = y.steps in omega arith }
-
-  -- a turn, which is no step, and a look, which is one
-  pub counted_turn : {h k : HandState (Beside P)} {a at : ℕ} → k.table ≡ h.table → k.part ≡ turned h.part at → IsCounted h k a a
-  counted_turn same is = record { table = same; steps = let e = ap (λ (x : SeatPart (Beside P)). x.trace.taken) is in omega arith }
-
-  pub counted_look : {h k : HandState (Beside P)} {a b : ℕ} {s : Standing} → k.table ≡ h.table → k.part ≡ after_look h.part s → b ≡ a + 1
-      → IsCounted h k a b
-  counted_look same is one = record { table = same; steps = let e = ap (λ (x : SeatPart (Beside P)). x.trace.taken) is in omega arith }
 
   -- what a hand holds in one list alone, it holds there however it is turned
   pub holds_in : {at : ℕ} {asked : Held} {p : SeatPart (Beside P)} → HoldsAlone at asked p → HoldsIn at asked p
@@ -348,7 +336,7 @@ module _ {P : Type 0} where
 
       -- so the range counts at that list
       pub both_looked : {A : Type 0} {x : A} {table : TableId} → AsksOnly asked p.trace.asked l.trace.asked
-          → IsReadyLeft (shown_core p other).ready (shown_core l other).ready → LooksAt table home other asked s p u (Ok x)
+          → IsReadyLeft (shown_core p other).ready (shown_core l other).ready → LooksAt table home other asked s (Ok x) p u
       both_looked {A} {x} {table} asks left = record {
         later = both_later;
         asks = both_asks asks;

@@ -18,12 +18,12 @@ use Rattle.epoch_pools.specs.declared.views.Beside.{Beside}
 use Rattle.epoch_pools.specs.Standings.{is_counted, standing_back}
 use Rattle.epoch_pools.specs.Beside.{core_at, shown_core, given_back, may_give_back}
 use Rattle.epoch_pools.specs.Hands.{IsResting, turned}
-use Rattle.marked_list.specs.Order.{IsOutside, MaySweep}
+use Rattle.marked_list.specs.Order.{MaySweep}
 use Rattle.marked_list.specs.Answers.{IsMarkCall}
 use Rattle.range_rw.specs.declared.refusals.NotHeld.{NotHeld}
 use Rattle.range_rw.specs.Contract.{AsksOnly, SeatState, IsReadyLeft, IsListCause}
 use Rattle.range_rw.specs.Seats.{IsSettled, IsBetween, pools_of, seat_state_in}
-use Rattle.range_rw.specs.Trying.{IsLaterInTry}
+use Rattle.range_rw.specs.Trying.{IsLaterInTry, IsLaterOutside}
 use Rattle.range_rw.specs.Releasing.{GivesBack}
 use Rattle.range_rw.specs.Several.{list_state, IsCauseAt, IsLinkedIn, IsPiece, KeepsCauses, MayGiveIn, MayLinkIn}
 use Rattle.range_rw.proofs.Asking.{asks_from}
@@ -136,21 +136,21 @@ module _ {P : Type 0} where
     }
 
     -- a call of a try is a piece
-    pub try_piece : IsLaterInTry t q → IsOutside q.core → q.core.cursor ≡ None → IsPiece at p q
-    try_piece l o none = piece_by l.number l.seats (ap (λ (b : Beside P). b.lists) l.pass) (ap (λ (b : Beside P). b.list) l.pass)
+    pub try_piece : IsLaterOutside t q → IsPiece at p q
+    try_piece o = let l = o.later in piece_by l.number l.seats (ap (λ (b : Beside P). b.lists) l.pass) (ap (λ (b : Beside P). b.list) l.pass)
         (ap (λ (b : Beside P). b.others) l.pass) (ap (λ (b : Beside P). b.pass) l.pass) l.client l.taken
-        (record { outside = o.even; cursor = none; hand = o.hand })
+        (record { outside = o.outside.even; cursor = o.cursor; hand = o.outside.hand })
 
     pub try_standing : IsLaterInTry t q → q.pass.standing ≡ p.pass.standing
     try_standing l = ap (λ (b : Beside P). b.standing) l.pass ∙ ap (λ (x : SeatPart (Beside P)). x.pass.standing) is
 
     -- so one that is to hold a range is one that links it there
-    pub try_linked : {A E : Type 0} {asked : Held} {r : Result A E} → IsLaterInTry t q → IsOutside q.core → q.core.cursor ≡ None
-        → AsksOnly asked t.trace.asked q.trace.asked → OnOk r (held_at q.core.own ≡ Some asked) → OnErr r (q.core.own ≡ Nothing) → IsLinkedIn at asked p q r
-    try_linked l o none asks held free = record {
-      piece = try_piece l o none;
+    pub try_linked : {A E : Type 0} {asked : Held} {r : Result A E} → IsLaterOutside t q
+        → AsksOnly asked t.trace.asked q.trace.asked → OnOk r (held_at q.core.own ≡ Some asked) → OnErr r (q.core.own ≡ Nothing) → IsLinkedIn at asked r p q
+    try_linked o asks held free = record {
+      piece = try_piece o;
       asks = asks_from (ap (λ (x : SeatPart (Beside P)). x.trace.asked) is) asks;
-      standing = try_standing l;
+      standing = try_standing o.later;
       held = held;
       free = free;
     }

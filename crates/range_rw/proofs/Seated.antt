@@ -201,7 +201,7 @@ module _ {P : Type 0} where
   pub seat_left : (h : HandState (Beside P)) {s : SeatState P} {c : Regions} {lists : ℕ} {m : SeatPart (Beside P)} → seat_state_of h ≡ s → IsSeated h.part
       → s.held ≡ None → HasLeft c lists h.part m → IsFreeSeat m
   seat_left h {s} {c} {lists} {m} is seated none left = seated_free h.part m seated
-      (seated_none h.part seated (ap (λ (x : SeatState P). x.held) is ∙ none)) left.later.pass left.free left.rests
+      (seated_none h.part seated (ap (λ (x : SeatState P). x.held) is ∙ none)) left.left.later.pass left.left.free.own left.rests
 
   -- a step on a client word leaves all of it
   pub client_seated : (p q : SeatPart (Beside P)) (i : ℕ) (pass : P) → q ≡ client_part p i pass → IsSeated p → IsSeated q

@@ -15,7 +15,7 @@ use Rattle.lock_core.specs.Machine.{held_at, numbers_from}
 use Rattle.epoch_pools.specs.declared.views.SeatPart.{SeatPart}
 use Rattle.epoch_pools.specs.declared.views.Beside.{Beside}
 use Rattle.epoch_pools.specs.Beside.{shown_core, shown_grant}
-use Rattle.epoch_pools.specs.Hands.{IsHandView, IsResting as IsAtRest, quiet_after, turned}
+use Rattle.epoch_pools.specs.Hands.{HandState, ListShape, IsHandView, IsResting as IsAtRest, quiet_after, turned}
 use Rattle.marked_list.specs.declared.answers.Passed.{Passed}
 use Rattle.marked_list.specs.declared.answers.Passed.TheVariants.{Found as NodeFound, End as ListEnd, Lost as NotWon, Long as TooLong}
 use Rattle.marked_list.specs.Order.{IsInside, MaySweep}
@@ -24,11 +24,13 @@ use Rattle.marked_list.specs.Answers.{IsAtEnd}
 use Rattle.marked_list.specs.Walking.{seen_of}
 use Rattle.marked_list.specs.Scanning.{IsResting, Passes}
 use Rattle.range_rw.specs.declared.scan.Scanned.{Scanned}
+use Rattle.range_rw.specs.Calls.{IsHandOf, Leaves}
 use Rattle.range_rw.specs.Contract.{SeatState, TableShape, OpenScan, fresh_in, scan_steps, ready_in}
 use Rattle.range_rw.specs.Seats.{IsBetween, IsSeated, walk_of, scan_of, placed_scan, placed_in, pools_of, seat_state_of}
 use Rattle.range_rw.specs.Trying.{IsLaterInTry}
 use Rattle.range_rw.specs.Scan.{scanned_as, IsScanCall, IsNextIn, IsListEnd, IsPassed, IsNext}
-use Rattle.range_rw.specs.Scan.{IsScanSeat, IsScanLater, OpensEpoch, ClosesEpoch, ListGives, IsNoEnd}
+use Rattle.range_rw.specs.Scan.{IsScanSeat, IsInScan, IsScanLater, StaysInScan, OpensEpoch, ClosesEpoch, ListGives, IsNoEnd}
+use Rattle.range_rw.proofs.Calls.{counted_on}
 use Rattle.range_rw.proofs.Pieces.{own_at, own_each, only_stays}
 use Rattle.range_rw.proofs.Moves.{lists_on, turn_on, turn_asks}
 use Rattle.range_rw.proofs.Scans.{bare_settled, scan_none, scan_some, scan_inside, walk_most, walk_nodes, walk_ended, opened_is}
@@ -81,6 +83,17 @@ module _ {P : Type 0} where
 
   pub scan_on : (p q r : SeatPart (Beside P)) → IsScanLater p q → IsScanLater q r → IsScanLater p r
   scan_on p q r a b = record { later = lists_on a.later b.later; asked = b.asked ∙ a.asked; seat = b.seat; ready = λ j. b.ready j ∙ a.ready j }
+
+  -- and inside one
+  pub stays_on : {h m k : HandState (Beside P)} {a b c : ℕ} → Leaves StaysInScan h m a b → Leaves StaysInScan m k b c → Leaves StaysInScan h k a c
+  stays_on {h} {m} {k} x y = record {
+    counted = counted_on x.counted y.counted;
+    is = record { later = scan_on h.part m.part k.part x.is.later y.is.later; inside = y.is.inside };
+  }
+
+  -- a hand that is left inside one may go on in it
+  pub scan_still : {list : ListShape} {h k : HandState (Beside P)} {a b : ℕ} → IsHandOf IsInScan list h → Leaves StaysInScan h k a b → IsHandOf IsInScan list k
+  scan_still may on = record { table = on.counted.table ∙ may.table; is = record { seat = on.is.later.seat; inside = on.is.inside } }
 
   -- a call in the list to which the hand is turned leaves the others
   pub here_later : (p q : SeatPart (Beside P)) → IsScanSeat p → IsLaterInTry p q → q.trace.asked ≡ p.trace.asked → q.core.own ≡ Nothing

@@ -1,3 +1,4 @@
+pub mod Calls
 pub mod Contract
 pub mod Looks
 pub mod Patience

@@ -11,11 +11,11 @@ use Rattle.epoch_pools.specs.declared.views.Beside.{Beside}
 use Rattle.epoch_pools.specs.declared.views.Standing.{Standing}
 use Rattle.epoch_pools.specs.declared.views.Standing.TheVariants.{Free, Narrow, Wide}
 use Rattle.epoch_pools.specs.Beside.{shown_core}
-use Rattle.epoch_pools.specs.Passing.{MayCount, MayPass}
+use Rattle.epoch_pools.specs.Passing.{MayCount, MayPass, after_look}
 use Rattle.epoch_pools.specs.Standings.{is_counted, passed_by, standing_back}
 use Rattle.range_rw.specs.declared.refusals.NotHeld.{NotHeld}
 use Rattle.range_rw.specs.Contract.{AsksOnly, IsLongRefusal, IsReadyLeft, WorksIn}
-use Rattle.range_rw.specs.Several.{IsLaterInLists, HoldsAlone, HoldsIn, IsCauseAt, HasSpent, IsWorkFor}
+use Rattle.range_rw.specs.Several.{HasLists, IsLaterInLists, HoldsAlone, HoldsIn, IsCauseAt, HasSpent, IsWorkFor}
 
 -- how the range stands once that list is clear: a narrow one counts, and a wide one has passed all below `up`
 unfoldable pub standing_for : ℕ → ℕ → Standing
@@ -31,7 +31,7 @@ pub record IsHome (c : Regions) (range : Interval) (lists own : ℕ) : Type 0 wh
 
 module _ {P : Type 0} where
   -- the range that the hand's list holds may be looked for there
-  pub record MayLook (c : Regions) (p : SeatPart (Beside P)) (own at up : ℕ) : Type 0 where
+  pub record MayLook (c : Regions) (own at up : ℕ) (p : SeatPart (Beside P)) : Type 0 where
     pub turned : p.pass.list ≡ own
     pub pass : own ≡ 0 → MayPass c p at up
     pub count : own ≢ 0 → MayCount c p
@@ -56,12 +56,23 @@ module _ {P : Type 0} where
     pub others : (other : ℕ) → passed_by p.pass.standing ≤ other → other < up → other ≢ at → Takes c range other → ⊥
 
   -- the list `at` is the next that the range has to look at
-  abbrev pub IsDue : Regions → Interval → SeatPart (Beside P) → ℕ → ℕ → ℕ → Type 0
-  IsDue c range p own at up = IsNarrowDue c range p own at ⊎ IsWideDue c range p own at up
+  abbrev pub IsDue : Regions → Interval → ℕ → ℕ → ℕ → SeatPart (Beside P) → Type 0
+  IsDue c range own at up p = IsNarrowDue c range p own at ⊎ IsWideDue c range p own at up
+
+  -- the range that list holds has still to look at all lists that it takes, of so many
+  pub record IsToLook (c : Regions) (n own : ℕ) (asked : Held) (p : SeatPart (Beside P)) : Type 0 where
+    pub lists : HasLists c n p
+    pub home : IsHome c asked.range n own
+    pub holds : HoldsAlone own asked p
+    pub free : p.pass.standing ≡ Free
+
+  -- a look: the seat stands so, and its record has this step
+  abbrev pub IsLook : Standing → SeatPart (Beside P) → SeatPart (Beside P) → Type 0
+  IsLook s p q = q ≡ after_look p s
 
   -- what a look at the list `at` comes to, for a range that the list `own` holds and that is to stand so then; where
   -- that list isn't empty it is swept, and the range is linked there too
-  pub record LooksAt {A : Type 0} (table : TableId) (own at : ℕ) (asked : Held) (stands : Standing) (p q : SeatPart (Beside P)) (result : Result A NotHeld) :
+  pub record LooksAt {A : Type 0} (table : TableId) (own at : ℕ) (asked : Held) (stands : Standing) (result : Result A NotHeld) (p q : SeatPart (Beside P)) :
       Type 0 where
     -- the seat is the same, and asks for that range alone
     pub later : IsLaterInLists p q
@@ -78,7 +89,7 @@ module _ {P : Type 0} where
 
   -- what the looks at all lists come to that a range has to look at which the list `own` holds, where so many may be
   -- made again
-  pub record LooksAtAll {A : Type 0} (table : TableId) (c : Regions) (own looks : ℕ) (asked : Held) (p q : SeatPart (Beside P)) (result : Result A NotHeld) :
+  pub record LooksAtAll {A : Type 0} (table : TableId) (c : Regions) (own looks : ℕ) (asked : Held) (result : Result A NotHeld) (p q : SeatPart (Beside P)) :
       Type 0 where
     -- the call works for that range, and has the list that holds it as before
     pub work : IsWorkFor c asked p q

@@ -15,6 +15,7 @@ use Rattle.epoch_pools.specs.declared.views.Standing.TheVariants.{Free}
 use Rattle.epoch_pools.specs.Beside.{shown_core}
 use Rattle.marked_list.specs.declared.answers.Passed.{Passed}
 use Rattle.marked_list.specs.declared.answers.Passed.TheVariants.{Found as NodeFound, End as ListEnd, Lost as NotWon, Long as TooLong}
+use Rattle.marked_list.specs.Order.{IsInside}
 use Rattle.marked_list.specs.Causes.{IsWalkLoss, nodes_in, judged_in}
 use Rattle.range_rw.specs.declared.scan.Scanned.{Scanned}
 use Rattle.range_rw.specs.declared.scan.Scanned.TheVariants.{Found, End, Again, Long}
@@ -155,12 +156,22 @@ module _ {P : Type 0} where
     pub free : (j : ℕ) → (shown_core p j).own ≡ Nothing
     pub standing : p.pass.standing ≡ Free
 
+  -- the same inside a scan
+  pub record IsInScan (p : SeatPart (Beside P)) : Type 0 where
+    pub seat : IsScanSeat p
+    pub inside : IsInside p.core
+
   -- what a call of a scan leaves of it, in whichever lists it goes
   pub record IsScanLater (p q : SeatPart (Beside P)) : Type 0 where
     pub later : IsLaterInLists p q
     pub asked : q.trace.asked ≡ p.trace.asked
     pub seat : IsScanSeat q
     pub ready : (j : ℕ) → (shown_core q j).ready ≡ (shown_core p j).ready
+
+  -- the same of one that stays inside it
+  pub record StaysInScan (p q : SeatPart (Beside P)) : Type 0 where
+    pub later : IsScanLater p q
+    pub inside : IsInside q.core
 
   -- the hand is turned to that list and entered its epoch there, and begins at the head
   pub record OpensEpoch (at : ℕ) (p q : SeatPart (Beside P)) : Type 0 where

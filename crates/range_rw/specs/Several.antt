@@ -2,7 +2,7 @@
 -- to it, and all other lists are shown as before, so what is said of one list is said of the seat. A seat that holds
 -- nothing holds nothing in any list, and nothing counts; one that holds a range holds it in one list alone, and it
 -- counts. This project's own profile.
-use Rattle.std.specs.Prelude.{◌≡◌, ◌≢◌, ◌⊎◌, ◌↔◌, ℕ, ◌+◌, ◌*◌, ◌%◌, ◌<◌, ◌≤◌, true, false, Some, None, Result, IfErr, OnOk, OnErr}
+use Rattle.std.specs.Prelude.{◌≡◌, ◌≢◌, ◌⊎◌, ◌↔◌, ℕ, ◌+◌, ◌*◌, ◌<◌, ◌≤◌, true, false, Some, None, Result, IfErr, OnOk, OnErr}
 use Rattle.atomic_table.specs.Seated.{TableId}
 use Rattle.list_cuts.specs.Cut.{Regions, list_count, Takes, TakesOne}
 use Rattle.lock_core.specs.Range.{Interval}
@@ -15,12 +15,12 @@ use Rattle.epoch_pools.specs.declared.views.Standing.{Standing}
 use Rattle.epoch_pools.specs.declared.views.Standing.TheVariants.{Free, Wide}
 use Rattle.epoch_pools.specs.Standings.{is_counted}
 use Rattle.epoch_pools.specs.Beside.{shown_core}
-use Rattle.epoch_pools.specs.Hands.{HandState, IsResting}
+use Rattle.epoch_pools.specs.Hands.{IsResting}
 use Rattle.marked_list.specs.Causes.{nodes_in, IsSpent}
 use Rattle.range_rw.specs.declared.refusals.NotHeld.{NotHeld}
 use Rattle.range_rw.specs.Contract.{SeatState, AsksOnly, IsListCause, IsLongRefusal, IsReadyLeft, StandsIn, WorksIn}
 use Rattle.range_rw.specs.Seats.{counted_in, seat_state_in}
-use Rattle.range_rw.specs.Trying.{IsLaterInTry}
+use Rattle.range_rw.specs.Trying.{LeavesEpoch}
 
 -- the range takes one list alone, whichever it is
 abbrev pub TakesAlone : Regions → Interval → Type 0
@@ -35,28 +35,18 @@ module _ {P : Type 0} where
   abbrev pub list_state : TableId → SeatPart (Beside P) → ℕ → SeatState P
   list_state table p i = seat_state_in table (record { number = p.number; seats = p.seats; core = shown_core p i; pass = p.pass; trace = p.trace })
 
-  -- calls on a hand: it is of the same table, and the caller's count of steps rises as its record's does
-  pub record IsCounted (h k : HandState (Beside P)) (before after : ℕ) : Type 0 where
-    pub table : k.table ≡ h.table
-    pub steps : after + h.part.trace.taken ≡ before + k.part.trace.taken
-
   -- so many lists there are, as a table's cut and a hand of it both say
   pub record HasLists (c : Regions) (lists : ℕ) (p : SeatPart (Beside P)) : Type 0 where
     pub shown : lists ≡ p.pass.lists
     pub many : lists ≡ list_count c
     pub regions : 0 < c.count
 
-  -- what leaving the epoch leaves, if the hand was inside one: it rests, without a node of its own, and asks for
-  -- nothing. There are so many lists
+  -- the epoch was left, and the hand rests, turned to one of so many lists
   pub record HasLeft (c : Regions) (n : ℕ) (p q : SeatPart (Beside P)) : Type 0 where
-    pub later : IsLaterInTry p q
-    pub asked : q.trace.asked ≡ p.trace.asked
-    pub free : q.core.own ≡ Nothing
+    pub left : LeavesEpoch p q
     pub rests : IsResting q.core
-    pub ready : q.core.ready ≡ p.core.ready
-    pub same : p.core.epoch % 2 ≡ 0 → q ≡ p
     pub lists : HasLists c n q
-    pub few : q.trace.taken ≤ p.trace.taken + 1
+    pub there : q.pass.list < q.pass.lists
 
   -- what every call leaves, in whichever lists it works
   pub record IsLaterInLists (p q : SeatPart (Beside P)) : Type 0 where
@@ -90,7 +80,7 @@ module _ {P : Type 0} where
 
   -- a piece of work in that list by which a range was to be held there: it asks for no other, and nothing comes to
   -- count. Where it is refused the seat has no node there
-  pub record IsLinkedIn {A E : Type 0} (at : ℕ) (asked : Held) (p q : SeatPart (Beside P)) (result : Result A E) : Type 0 where
+  pub record IsLinkedIn {A E : Type 0} (at : ℕ) (asked : Held) (result : Result A E) (p q : SeatPart (Beside P)) : Type 0 where
     pub piece : IsPiece at p q
     pub asks : AsksOnly asked p.trace.asked q.trace.asked
     pub standing : q.pass.standing ≡ p.pass.standing
@@ -110,6 +100,11 @@ module _ {P : Type 0} where
     pub rests : IsResting p.core
     pub free : (j : ℕ) → (shown_core p j).own ≡ Nothing
     pub standing : p.pass.standing ≡ Free
+
+  -- so it may be made to hold a range, in one of so many lists
+  pub record MayHold (c : Regions) (n : ℕ) (p : SeatPart (Beside P)) : Type 0 where
+    pub lists : HasLists c n p
+    pub free : IsFreeSeat p
 
   -- the seat holds this range in one list, to which its hand is turned, and nothing in any other
   pub record HoldsAlone (at : ℕ) (range : Held) (p : SeatPart (Beside P)) : Type 0 where
@@ -161,18 +156,20 @@ module _ {P : Type 0} where
     pub only : ShowsOthers c asked.range p q
 
   -- a call that is to hold it: the seat holds it then, or nothing
-  pub record IsHoldCall {A E : Type 0} (c : Regions) (asked : Held) (p q : SeatPart (Beside P)) (result : Result A E) : Type 0 where
+  pub record IsHoldCall {A E : Type 0} (c : Regions) (asked : Held) (result : Result A E) (p q : SeatPart (Beside P)) : Type 0 where
     pub work : IsWorkFor c asked p q
     pub held : OnOk result (IsGranted c asked q)
     pub free : OnErr result (IsFreeSeat q)
 
   -- the same of a try: each list's ready nodes are as before, or without the first, and a refusal has a cause in one of
-  -- the lists. It is `Long` exactly where the last walk is spent
-  pub record IsTryCall {A : Type 0} (table : TableId) (c : Regions) (asked : Held) (p q : SeatPart (Beside P)) (result : Result A NotHeld) : Type 0 where
-    pub call : IsHoldCall c asked p q result
+  -- the lists. It is `Long` exactly where the last walk is spent. The lists have so many seats
+  pub record IsTryCall {A : Type 0} (table : TableId) (c : Regions) (many : ℕ) (asked : Held) (result : Result A NotHeld) (p q : SeatPart (Beside P)) :
+      Type 0 where
+    pub call : IsHoldCall c asked result p q
     pub ready : (j : ℕ) → IsReadyLeft (shown_core p j).ready (shown_core q j).ready
     pub cause : IfErr result (IsCauseIn table c p q asked)
     pub long : IfErr result (λ why. IsLongRefusal why ↔ IsSpent q)
+    pub seats : p.seats ≡ many
 
   -- how far a wide range is: nothing is passed yet, and it takes no list before this one; or all below it are passed
   abbrev pub HasPassed : Regions → Interval → ℕ → SeatPart (Beside P) → Type 0

@@ -4,10 +4,11 @@
 //! Kogan, Dice and Issa 2020.
 ghost use Rattle.std.specs.Prelude.{◌≡◌, ◌+◌, ◌*◌, ◌≤◌, ◌↔◌, true, None, MatchOption};
 ghost use Rattle.std.specs.Bool.{OnTrue};
-ghost use Rattle.marked_list.specs.Order.{IsOutside, IsInside, HasEnds, HasToValidate, MayWalk};
 ghost use Rattle.marked_list.specs.Causes.{IsSpent};
 ghost use Rattle.marked_list.specs.Answers.{IsLong};
-ghost use Rattle.range_rw.specs.Trying.{has_come, IsLaterInTry, IsLaterInEpoch, LinkEnds, ValidateEnds, InsertEnds, FoundEmpty, StaysFilled, LeavesNode, EpochEnds};
+ghost use Rattle.range_rw.specs.Calls.{IsHandOf, Leaves};
+ghost use Rattle.range_rw.specs.Trying.{has_come, LinkEnds, ValidateEnds, InsertEnds, FoundEmpty, StaysFilled, LeavesNode};
+ghost use Rattle.range_rw.specs.Trying.{EpochEnds, BeginsToValidate, IsLaterInTraversal, IsLaterOutside, MayInsert, MayWalkIn};
 
 use epoch_pools::{Hand, List};
 use lock_core::Guard;
@@ -44,16 +45,11 @@ pub(crate) fn walk_and_link<G: Guard, L: Ledger>(
     leaves: bool,
     steps: &mut Steps<L>,
 ) -> Option<Walked>
-    requires table { hand.old.table ≡ list.now.table }
-    requires order { MayWalk hand.old.part.core }
-    requires cursor { cursor.old.epoch ≡ hand.old.part.core.epoch }
-    ensures table { hand.new.table ≡ hand.old.table }
-    ensures later { IsLaterInEpoch hand.old.part hand.new.part }
+    requires order { IsHandOf (MayWalkIn cursor.old) list.now hand.old }
+    ensures later { Leaves (IsLaterInTraversal cursor.old cursor.new) hand.old hand.new steps.old steps.new }
     ensures ends { MatchOption result (StaysFilled leaves hand.old.part hand.new.part) (LinkEnds hand.old.part hand.new.part) }
     ensures long { MatchOption result (Unit {0}) (λ walked. IsLong walked ↔ IsSpent hand.new.part) }
     ensures bound { hand.new.part.trace.taken ≤ hand.old.part.trace.taken + 4 + 3 * (16 * hand.old.part.seats + 1) }
-    ensures counted { steps.new + hand.old.part.trace.taken ≡ steps.old + hand.new.part.trace.taken }
-    ensures cursor { cursor.new ≡ cursor.old }
 {
     let walked = walk(list, hand, cursor, steps);
     if !is_place(&walked) {
@@ -75,18 +71,11 @@ fn validate_once<G: Guard, L: Ledger>(
     cursor: &mut Cursor,
     steps: &mut Steps<L>,
 ) -> Walked
-    requires table { hand.old.table ≡ list.now.table }
-    requires inside { IsInside hand.old.part.core }
-    requires own { HasToValidate hand.old.part.core.own }
-    requires begins { hand.old.part.core.cursor ≡ None }
-    requires cursor { cursor.old.epoch ≡ hand.old.part.core.epoch }
-    ensures table { hand.new.table ≡ hand.old.table }
-    ensures later { IsLaterInEpoch hand.old.part hand.new.part }
+    requires order { IsHandOf (BeginsToValidate cursor.old) list.now hand.old }
+    ensures later { Leaves (IsLaterInTraversal cursor.old cursor.new) hand.old hand.new steps.old steps.new }
     ensures ends { ValidateEnds hand.old.part hand.new.part result }
     ensures long { IsLong result ↔ IsSpent hand.new.part }
     ensures bound { hand.new.part.trace.taken ≤ hand.old.part.trace.taken + 3 + 3 * (16 * hand.old.part.seats + 1) }
-    ensures counted { steps.new + hand.old.part.trace.taken ≡ steps.old + hand.new.part.trace.taken }
-    ensures cursor { cursor.new ≡ cursor.old }
 {
     let walked = validate(list, hand, cursor, steps);
     if is_place(&walked) {
@@ -105,16 +94,11 @@ fn insert_and_validate<G: Guard, L: Ledger>(
     leaves: bool,
     steps: &mut Steps<L>,
 ) -> Option<Walked>
-    requires table { hand.old.table ≡ list.now.table }
-    requires order { MayWalk hand.old.part.core }
-    requires cursor { cursor.old.epoch ≡ hand.old.part.core.epoch }
-    ensures table { hand.new.table ≡ hand.old.table }
-    ensures later { IsLaterInEpoch hand.old.part hand.new.part }
+    requires order { IsHandOf (MayWalkIn cursor.old) list.now hand.old }
+    ensures later { Leaves (IsLaterInTraversal cursor.old cursor.new) hand.old hand.new steps.old steps.new }
     ensures ends { MatchOption result (StaysFilled leaves hand.old.part hand.new.part) (InsertEnds hand.old.part hand.new.part) }
     ensures long { MatchOption result (Unit {0}) (λ walked. IsLong walked ↔ IsSpent hand.new.part) }
     ensures bound { hand.new.part.trace.taken ≤ hand.old.part.trace.taken + 7 + 6 * (16 * hand.old.part.seats + 1) }
-    ensures counted { steps.new + hand.old.part.trace.taken ≡ steps.old + hand.new.part.trace.taken }
-    ensures cursor { cursor.new ≡ cursor.old }
 {
     let Some(walked) = walk_and_link(list, hand, cursor, leaves, steps) else {
         return None;
@@ -135,19 +119,13 @@ pub(crate) fn insert_in_epoch<G: Guard, L: Ledger>(
     leaves: bool,
     steps: &mut Steps<L>,
 ) -> Option<Walked>
-    requires table { hand.old.table ≡ list.now.table }
-    requires outside { IsOutside hand.old.part.core }
-    requires own { HasEnds hand.old.part.core.own }
-    ensures table { hand.new.table ≡ hand.old.table }
-    ensures later { IsLaterInTry hand.old.part hand.new.part }
+    requires own { IsHandOf MayInsert list.now hand.old }
+    ensures left { Leaves IsLaterOutside hand.old hand.new steps.old steps.new }
     ensures asked { hand.new.part.trace.asked ≡ hand.old.part.trace.asked }
-    ensures outside { IsOutside hand.new.part.core }
-    ensures cursor { hand.new.part.core.cursor ≡ None }
     ensures ends { MatchOption result (LeavesNode hand.old.part hand.new.part × (leaves ≡ true))
         (EpochEnds hand.old.part hand.new.part) }
     ensures long { MatchOption result (Unit {0}) (λ walked. IsLong walked ↔ IsSpent hand.new.part) }
     ensures bound { hand.new.part.trace.taken ≤ hand.old.part.trace.taken + 9 + 6 * (16 * hand.old.part.seats + 1) }
-    ensures counted { steps.new + hand.old.part.trace.taken ≡ steps.old + hand.new.part.trace.taken }
 {
     let mut cursor = begin(list, hand, steps);
     let walked = insert_and_validate(list, hand, &mut cursor, leaves, steps);

@@ -6,10 +6,10 @@
 //! each other again and again. A reader may rely on the range counting only once all lists are passed, and on nothing
 //! being held where the answer is to begin anew. This project's own profile.
 ghost use Rattle.std.specs.Prelude.{◌≡◌, ◌≢◌, ◌<◌, ◌≤◌, ◌+◌, ◌*◌, OnOk};
-ghost use Rattle.epoch_pools.specs.declared.views.Standing.TheVariants.{Free};
+ghost use Rattle.range_rw.specs.Calls.{IsHandOf, Leaves};
 ghost use Rattle.range_rw.specs.Contract.{AsksFor};
-ghost use Rattle.range_rw.specs.Several.{HasLists, MayLinkIn, IsLinkedIn, IsFreeSeat, HoldsAlone, IsHoldCall};
-ghost use Rattle.range_rw.specs.Looks.{IsHome};
+ghost use Rattle.range_rw.specs.Several.{MayLinkIn, IsLinkedIn, IsHoldCall, MayHold};
+ghost use Rattle.range_rw.specs.Looks.{IsHome, IsToLook};
 ghost use Rattle.word_rows.specs.declared.backoff.TheConstants.{REFUSED_ROUNDS, KEPT_LOOKS};
 
 use crate::patience::{Anew, anew_without, hold_patiently};
@@ -53,10 +53,8 @@ fn link_patiently<G: Guard, L: Ledger>(
     mode: Mode,
     steps: &mut Steps<L>,
 ) -> Result<bool, Anew>
-    requires table { hand.old.table ≡ list.now.table }
-    requires may { MayLinkIn at hand.old.part }
-    ensures table { hand.new.table ≡ hand.old.table }
-    ensures link { IsLinkedIn at (record { range = range; mode = mode }) hand.old.part hand.new.part result }
+    requires may { IsHandOf (MayLinkIn at) list.now hand.old }
+    ensures link { Leaves (IsLinkedIn at (record { range = range; mode = mode }) result) hand.old hand.new steps.old steps.new }
     ensures gets { OnOk result (AsksFor (record { range = range; mode = mode }) hand.old.part.trace.asked hand.new.part.trace.asked) }
 {
     hand.turn(at);
@@ -77,13 +75,8 @@ fn count_or_give<G: Guard, L: Ledger>(
     looks: u32,
     steps: &mut Steps<L>,
 ) -> Result<(), Anew>
-    requires table { hand.old.table ≡ list.now.table }
-    requires lists { HasLists list.now.cut lists hand.old.part }
-    requires home { IsHome list.now.cut range lists own }
-    requires holds { HoldsAlone own (record { range = range; mode = mode }) hand.old.part }
-    requires free { hand.old.part.pass.standing ≡ Free }
-    ensures table { hand.new.table ≡ hand.old.table }
-    ensures call { IsHoldCall list.now.cut (record { range = range; mode = mode }) hand.old.part hand.new.part result }
+    requires due { IsHandOf (IsToLook list.now.cut lists own (record { range = range; mode = mode })) list.now hand.old }
+    ensures call { Leaves (IsHoldCall list.now.cut (record { range = range; mode = mode }) result) hand.old hand.new steps.old steps.new }
     ensures bound { own ≢ 0 → hand.new.part.trace.taken ≤ hand.old.part.trace.taken + 57 + 193 * hand.old.part.seats }
 {
     match look_in_all(list, hand, own, lists, range, mode, looks, steps) {
@@ -107,12 +100,9 @@ pub(crate) fn hold_in_patiently<G: Guard, L: Ledger>(
     looks: u32,
     steps: &mut Steps<L>,
 ) -> Result<bool, Anew>
-    requires table { hand.old.table ≡ list.now.table }
-    requires lists { HasLists list.now.cut lists hand.old.part }
     requires home { IsHome list.now.cut range lists own }
-    requires free { IsFreeSeat hand.old.part }
-    ensures table { hand.new.table ≡ hand.old.table }
-    ensures call { IsHoldCall list.now.cut (record { range = range; mode = mode }) hand.old.part hand.new.part result }
+    requires free { IsHandOf (MayHold list.now.cut lists) list.now hand.old }
+    ensures call { Leaves (IsHoldCall list.now.cut (record { range = range; mode = mode }) result) hand.old hand.new steps.old steps.new }
     ensures gets { OnOk result (AsksFor (record { range = range; mode = mode }) hand.old.part.trace.asked hand.new.part.trace.asked) }
 {
     let quick = match link_patiently(list, hand, own, range, mode, steps) {

@@ -7,9 +7,10 @@
 ghost use Rattle.std.specs.Prelude.{◌≡◌, ◌+◌, ◌≤◌, ◌<◌, true, false, Some, None, OnOk, OnErr};
 ghost use Rattle.lock_core.specs.declared.views.Own.TheVariants.{Nothing};
 ghost use Rattle.lock_core.specs.Machine.{held_at};
-ghost use Rattle.marked_list.specs.Order.{IsOutside, IsInside, HasEnds, HasToValidate, MayWalk, MaySweep, StandsInConflict};
+ghost use Rattle.marked_list.specs.Order.{StandsInConflict};
+ghost use Rattle.range_rw.specs.Calls.{IsHandOf, Leaves};
 ghost use Rattle.range_rw.specs.Contract.{AsksFor, AsksOnly};
-ghost use Rattle.range_rw.specs.Trying.{has_come, IsLaterInTry, IsLaterInEpoch};
+ghost use Rattle.range_rw.specs.Trying.{has_come, BeginsToValidate, IsLaterInTraversal, IsLaterOutside, MayInsert, MayTry, MayValidateIn, MayWalkIn};
 ghost use Rattle.range_rw.specs.Patience.{has_met, holds_at, reads_on, looks_of, most_steps, LookEnds, PatientEnds, InsideEnds, HoldsOrNone};
 ghost use Rattle.word_rows.specs.declared.backoff.TheConstants.{MOST_LOOKS};
 
@@ -64,19 +65,14 @@ fn look_again<G: Guard, L: Ledger>(
     met: Walked,
     steps: &mut Steps<L>,
 ) -> Walked
-    requires table { hand.old.table ≡ list.now.table }
-    requires inside { IsInside hand.old.part.core }
-    requires own { HasToValidate hand.old.part.core.own }
+    requires order { IsHandOf (MayValidateIn cursor.old) list.now hand.old }
     requires reader { reads_on hand.old.part.core.own ≡ true }
     requires conflict { StandsInConflict hand.old.part.seats hand.old.part.core }
     requires met { has_met met ≡ true }
-    requires cursor { cursor.old.epoch ≡ hand.old.part.core.epoch }
-    ensures table { hand.new.table ≡ hand.old.table }
-    ensures later { IsLaterInEpoch hand.old.part hand.new.part }
+    ensures later { Leaves (IsLaterInTraversal cursor.old cursor.new) hand.old hand.new steps.old steps.new }
     ensures ends { LookEnds hand.old.part hand.new.part (has_come result) }
     ensures patient { has_met result ≡ true → hand.old.part.trace.taken + MOST_LOOKS ≤ hand.new.part.trace.taken }
     ensures bound { hand.new.part.trace.taken ≤ hand.old.part.trace.taken + most_steps hand.old.part.seats MOST_LOOKS }
-    ensures cursor { cursor.new ≡ cursor.old }
 {
     let mut backoff = Backoff::new();
     for _ in 0..MOST_LOOKS {
@@ -97,17 +93,11 @@ fn validate_or_look<G: Guard, L: Ledger>(
     cursor: &mut Cursor,
     steps: &mut Steps<L>,
 ) -> Walked
-    requires table { hand.old.table ≡ list.now.table }
-    requires inside { IsInside hand.old.part.core }
-    requires own { HasToValidate hand.old.part.core.own }
-    requires begins { hand.old.part.core.cursor ≡ None }
-    requires cursor { cursor.old.epoch ≡ hand.old.part.core.epoch }
-    ensures table { hand.new.table ≡ hand.old.table }
-    ensures later { IsLaterInEpoch hand.old.part hand.new.part }
+    requires order { IsHandOf (BeginsToValidate cursor.old) list.now hand.old }
+    ensures later { Leaves (IsLaterInTraversal cursor.old cursor.new) hand.old hand.new steps.old steps.new }
     ensures ends { LookEnds hand.old.part hand.new.part (has_come result) }
     ensures patient { has_met result ≡ true → reads_on hand.old.part.core.own ≡ true → hand.old.part.trace.taken + MOST_LOOKS < hand.new.part.trace.taken }
     ensures bound { hand.new.part.trace.taken ≤ hand.old.part.trace.taken + most_steps hand.old.part.seats (1 + looks_of MOST_LOOKS hand.old.part.core.own) }
-    ensures cursor { cursor.new ≡ cursor.old }
 {
     let walked = validate(list, hand, cursor, steps);
     if !is_conflict(&walked) {
@@ -126,15 +116,9 @@ fn validate_patiently<G: Guard, L: Ledger>(
     cursor: &mut Cursor,
     steps: &mut Steps<L>,
 ) -> Walked
-    requires table { hand.old.table ≡ list.now.table }
-    requires inside { IsInside hand.old.part.core }
-    requires own { HasToValidate hand.old.part.core.own }
-    requires begins { hand.old.part.core.cursor ≡ None }
-    requires cursor { cursor.old.epoch ≡ hand.old.part.core.epoch }
-    ensures table { hand.new.table ≡ hand.old.table }
-    ensures later { IsLaterInEpoch hand.old.part hand.new.part }
+    requires order { IsHandOf (BeginsToValidate cursor.old) list.now hand.old }
+    ensures later { Leaves (IsLaterInTraversal cursor.old cursor.new) hand.old hand.new steps.old steps.new }
     ensures ends { PatientEnds hand.old.part hand.new.part (has_come result) }
-    ensures cursor { cursor.new ≡ cursor.old }
 {
     let walked = validate_or_look(list, hand, cursor, steps);
     if is_place(&walked) {
@@ -153,13 +137,9 @@ fn insert_inside<G: Guard, L: Ledger>(
     cursor: &mut Cursor,
     steps: &mut Steps<L>,
 ) -> Option<Walked>
-    requires table { hand.old.table ≡ list.now.table }
-    requires order { MayWalk hand.old.part.core }
-    requires cursor { cursor.old.epoch ≡ hand.old.part.core.epoch }
-    ensures table { hand.new.table ≡ hand.old.table }
-    ensures later { IsLaterInEpoch hand.old.part hand.new.part }
+    requires order { IsHandOf (MayWalkIn cursor.old) list.now hand.old }
+    ensures later { Leaves (IsLaterInTraversal cursor.old cursor.new) hand.old hand.new steps.old steps.new }
     ensures ends { InsideEnds hand.old.part hand.new.part (holds_at result) }
-    ensures cursor { cursor.new ≡ cursor.old }
 {
     let Some(walked) = walk_and_link(list, hand, cursor, true, steps) else {
         return None;
@@ -179,14 +159,9 @@ fn insert_patiently<G: Guard, L: Ledger>(
     hand: &mut Hand<G>,
     steps: &mut Steps<L>,
 ) -> Option<Walked>
-    requires table { hand.old.table ≡ list.now.table }
-    requires outside { IsOutside hand.old.part.core }
-    requires own { HasEnds hand.old.part.core.own }
-    ensures table { hand.new.table ≡ hand.old.table }
-    ensures later { IsLaterInTry hand.old.part hand.new.part }
+    requires own { IsHandOf MayInsert list.now hand.old }
+    ensures left { Leaves IsLaterOutside hand.old hand.new steps.old steps.new }
     ensures asked { hand.new.part.trace.asked ≡ hand.old.part.trace.asked }
-    ensures outside { IsOutside hand.new.part.core }
-    ensures cursor { hand.new.part.core.cursor ≡ None }
     ensures ends { HoldsOrNone hand.old.part hand.new.part (holds_at result) }
 {
     let mut cursor = begin(list, hand, steps);
@@ -225,14 +200,10 @@ pub(crate) fn hold_patiently<G: Guard, L: Ledger>(
     mode: Mode,
     steps: &mut Steps<L>,
 ) -> Result<bool, Anew>
-    requires table { hand.old.table ≡ list.now.table }
-    requires free { MaySweep hand.old.part.core }
-    ensures table { hand.new.table ≡ hand.old.table }
-    ensures later { IsLaterInTry hand.old.part hand.new.part }
+    requires free { IsHandOf MayTry list.now hand.old }
+    ensures left { Leaves IsLaterOutside hand.old hand.new steps.old steps.new }
     ensures asks { AsksOnly (record { range = range; mode = mode }) hand.old.part.trace.asked hand.new.part.trace.asked }
     ensures gets { OnOk result (AsksFor (record { range = range; mode = mode }) hand.old.part.trace.asked hand.new.part.trace.asked) }
-    ensures outside { IsOutside hand.new.part.core }
-    ensures cursor { hand.new.part.core.cursor ≡ None }
     ensures held { OnOk result (held_at hand.new.part.core.own ≡ Some (record { range = range; mode = mode })) }
     ensures free { OnErr result (hand.new.part.core.own ≡ Nothing) }
 {

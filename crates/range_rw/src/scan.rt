@@ -3,15 +3,16 @@
 //! list where it is, until it is ended. A reader may rely on a node that is given having been unmarked at a step of the
 //! call that gives it, and on no list being left out: the hand leaves a list for the next one only where its cursor
 //! stands at the list's end. Kogan, Dice and Issa 2020.
-ghost use Rattle.std.specs.Prelude.{◌≡◌, ◌<◌, ◌≤◌, ◌+◌, ◌-◌, ◌*◌, ◌%◌, Some, None, IfSome, IfNone, true};
+ghost use Rattle.std.specs.Prelude.{◌≡◌, ◌<◌, ◌≤◌, ◌+◌, ◌-◌, ◌*◌, Some, None, IfSome, IfNone, true};
 ghost use Rattle.list_cuts.specs.Cut.{list_count};
 ghost use Rattle.marked_list.specs.declared.answers.Passed.TheVariants.{End as ListEnd, Long as TooLong};
-ghost use Rattle.marked_list.specs.Order.{IsInside};
 ghost use Rattle.marked_list.specs.Answers.{IsAtEnd};
 ghost use Rattle.marked_list.specs.Walking.{seen_of};
+ghost use Rattle.range_rw.specs.Calls.{IsHandOf, Leaves};
 ghost use Rattle.range_rw.specs.Contract.{OpenScan};
 ghost use Rattle.range_rw.specs.Seats.{seat_state_of};
-ghost use Rattle.range_rw.specs.Scan.{scanned_as, IsNext, IsScanSeat, IsScanLater, OpensEpoch, ClosesEpoch, ListGives, IsNoEnd, IsNextIn, IsPassed};
+ghost use Rattle.range_rw.specs.Scan.{scanned_as, IsNext, IsScanSeat, IsScanLater, OpensEpoch, ClosesEpoch};
+ghost use Rattle.range_rw.specs.Scan.{ListGives, IsNoEnd, IsNextIn, IsPassed, IsInScan, StaysInScan};
 
 use crate::several::lists_of;
 use crate::table::{RangeTable, Seat};
@@ -76,8 +77,7 @@ fn answer_of(passed: Passed) -> Scanned
 /// left open is left first.
 fn open_epoch<G: Guard, L: Ledger>(list: &List<G>, hand: &mut Hand<G>, blank: Blank)
     requires blank { (blank.name ≡ L.name) × (blank.parts ≡ L.parts) × (0 < L.parts) }
-    requires table { hand.old.table ≡ list.now.table }
-    requires seat { IsScanSeat hand.old.part }
+    requires seat { IsHandOf IsScanSeat list.now hand.old }
     ensures table { hand.new.table ≡ hand.old.table }
     ensures inside { OpensEpoch 0 hand.old.part hand.new.part }
     ensures seats { hand.new.part.seats ≡ list.now.seats }
@@ -93,8 +93,7 @@ fn open_epoch<G: Guard, L: Ledger>(list: &List<G>, hand: &mut Hand<G>, blank: Bl
 /// Leaves the hand's epoch, if it is inside one. It has no node of its own.
 fn close_epoch<G: Guard, L: Ledger>(list: &List<G>, hand: &mut Hand<G>, blank: Blank)
     requires blank { (blank.name ≡ L.name) × (blank.parts ≡ L.parts) × (0 < L.parts) }
-    requires table { hand.old.table ≡ list.now.table }
-    requires seat { IsScanSeat hand.old.part }
+    requires seat { IsHandOf IsScanSeat list.now hand.old }
     ensures table { hand.new.table ≡ hand.old.table }
     ensures outside { ClosesEpoch hand.old.part hand.new.part }
     ensures bound { hand.new.part.trace.taken ≤ hand.old.part.trace.taken + 1 }
@@ -107,13 +106,10 @@ fn close_epoch<G: Guard, L: Ledger>(list: &List<G>, hand: &mut Hand<G>, blank: B
 /// Leaves the hand's epoch, turns it to the next list, and enters an epoch there: two steps. The hand's cursor stands
 /// at the end of the list that it leaves.
 fn next_list<G: Guard, L: Ledger>(list: &List<G>, hand: &mut Hand<G>, steps: &mut Steps<L>)
-    requires table { hand.old.table ≡ list.now.table }
-    requires seat { IsScanSeat hand.old.part }
-    requires inside { IsInside hand.old.part.core }
+    requires inside { IsHandOf IsInScan list.now hand.old }
     requires end { IsAtEnd hand.old.part.core.cursor }
     requires more { hand.old.part.pass.list + 1 < hand.old.part.pass.lists }
-    ensures table { hand.new.table ≡ hand.old.table }
-    ensures inside { OpensEpoch (hand.old.part.pass.list + 1) hand.old.part hand.new.part }
+    ensures inside { Leaves (OpensEpoch (hand.old.part.pass.list + 1)) hand.old hand.new steps.old steps.new }
     ensures taken { hand.new.part.trace.taken ≡ hand.old.part.trace.taken + 2 }
     ensures looked { hand.new.part.trace.looked ≡ hand.old.part.trace.looked }
 {
@@ -130,12 +126,8 @@ fn pass_here<G: Guard, L: Ledger>(
     hand: &mut Hand<G>,
     steps: &mut Steps<L>,
 ) -> Passed
-    requires table { hand.old.table ≡ list.now.table }
-    requires seat { IsScanSeat hand.old.part }
-    requires inside { IsInside hand.old.part.core }
-    ensures table { hand.new.table ≡ hand.old.table }
-    ensures later { IsScanLater hand.old.part hand.new.part }
-    ensures inside { IsInside hand.new.part.core }
+    requires inside { IsHandOf IsInScan list.now hand.old }
+    ensures later { Leaves StaysInScan hand.old hand.new steps.old steps.new }
     ensures list { hand.new.part.pass.list ≡ hand.old.part.pass.list }
     ensures gives { (was : OpenScan) → (seat_state_of hand.old).scan ≡ Some was
         → ListGives (hand.new.part.pass.list + 1 ≡ hand.new.part.pass.lists) (seat_state_of hand.old) (seat_state_of hand.new) was result }
@@ -172,13 +164,9 @@ fn pass_or_turn<G: Guard, L: Ledger>(
     hand: &mut Hand<G>,
     steps: &mut Steps<L>,
 ) -> Option<Passed>
-    requires table { hand.old.table ≡ list.now.table }
-    requires seat { IsScanSeat hand.old.part }
-    requires inside { IsInside hand.old.part.core }
+    requires inside { IsHandOf IsInScan list.now hand.old }
     requires more { hand.old.part.pass.list + 1 < hand.old.part.pass.lists }
-    ensures table { hand.new.table ≡ hand.old.table }
-    ensures later { IsScanLater hand.old.part hand.new.part }
-    ensures inside { IsInside hand.new.part.core }
+    ensures later { Leaves StaysInScan hand.old hand.new steps.old steps.new }
     ensures passed { IfNone result ((was : OpenScan) → (seat_state_of hand.old).scan ≡ Some was
         → IsPassed (seat_state_of hand.old) (seat_state_of hand.new) was) }
     ensures turned { IfNone result (hand.new.part.pass.list ≡ hand.old.part.pass.list + 1) }
@@ -206,12 +194,9 @@ fn pass_on<G: Guard, L: Ledger>(
     lists: u32,
     steps: &mut Steps<L>,
 ) -> Passed
-    requires table { hand.old.table ≡ list.now.table }
-    requires seat { IsScanSeat hand.old.part }
-    requires inside { IsInside hand.old.part.core }
+    requires inside { IsHandOf IsInScan list.now hand.old }
     requires lists { (lists ≡ hand.old.part.pass.lists) × (lists ≡ list_count list.now.cut) }
-    ensures table { hand.new.table ≡ hand.old.table }
-    ensures later { IsScanLater hand.old.part hand.new.part }
+    ensures later { Leaves IsScanLater hand.old hand.new steps.old steps.new }
     ensures next { (was : OpenScan) → (seat_state_of hand.old).scan ≡ Some was
         → IsNext (seat_state_of hand.old) (seat_state_of hand.new) was (scanned_as result) }
     ensures ended { (was : OpenScan) → (seat_state_of hand.old).scan ≡ Some was → was.ended ≡ true

@@ -6,17 +6,17 @@
 //! own profile.
 ghost use Rattle.std.specs.Prelude.{◌≡◌, ◌≢◌, ◌<◌, ◌≤◌, ◌+◌, ◌*◌, ◌↔◌, ℕ, None, Some, IfErr, OnOk};
 ghost use Rattle.lock_core.specs.declared.range.Held.{Held};
-ghost use Rattle.list_cuts.specs.Cut.{list_count, Takes, TakesTwo};
-ghost use Rattle.epoch_pools.specs.declared.views.Standing.TheVariants.{Free};
+ghost use Rattle.list_cuts.specs.Cut.{list_count, Takes};
 ghost use Rattle.epoch_pools.specs.Standings.{standing_back};
 ghost use Rattle.epoch_pools.specs.Beside.{shown_core};
-ghost use Rattle.epoch_pools.specs.Passing.{HoldsToo, after_look, standing_by};
+ghost use Rattle.epoch_pools.specs.Passing.{HoldsToo, standing_by};
 ghost use Rattle.marked_list.specs.Causes.{nodes_in, IsSpent};
+ghost use Rattle.range_rw.specs.Calls.{IsHandOf, Leaves};
 ghost use Rattle.range_rw.specs.Contract.{IsLongRefusal, IsReadyLeft, TakesMany, try_steps};
 ghost use Rattle.range_rw.specs.Trying.{IsBare};
-ghost use Rattle.range_rw.specs.Several.{IsCounted, HasLeft, HasLists, MayLinkIn, MayGiveIn, IsLinkedIn, IsFreedIn, IsFreeSeat, HoldsAlone, HoldsIn};
+ghost use Rattle.range_rw.specs.Several.{HasLeft, MayLinkIn, MayGiveIn, IsLinkedIn, IsFreedIn, HoldsAlone, HoldsIn, MayHold};
 ghost use Rattle.range_rw.specs.Several.{IsTryCall, IsCauseAt, KeepsCauses, TakesNone, TakesAlone};
-ghost use Rattle.range_rw.specs.Looks.{MayLook, IsDue, IsHome, LooksAt, LooksAtAll, standing_for};
+ghost use Rattle.range_rw.specs.Looks.{MayLook, IsDue, IsHome, LooksAt, LooksAtAll, standing_for, IsLook, IsToLook};
 
 use crate::nodes::refusal_of;
 use crate::refusals::NotHeld;
@@ -60,11 +60,8 @@ pub(crate) fn leave_and_count<G: Guard, L: Ledger>(
     hand: &mut Hand<G>,
     steps: &mut Steps<L>,
 ) -> u32
-    requires table { hand.old.table ≡ list.now.table }
-    requires bare { IsBare hand.old.part }
-    ensures counted { IsCounted hand.old hand.new steps.old steps.new }
-    ensures left { HasLeft list.now.cut result hand.old.part hand.new.part }
-    ensures there { hand.new.part.pass.list < hand.new.part.pass.lists }
+    requires bare { IsHandOf IsBare list.now hand.old }
+    ensures left { Leaves (HasLeft list.now.cut result) hand.old hand.new steps.old steps.new }
 {
     leave_epoch(list, hand, steps);
     let _ = hand.view();
@@ -82,10 +79,8 @@ fn link_piece<G: Guard, L: Ledger>(
     mode: Mode,
     steps: &mut Steps<L>,
 ) -> Result<bool, NotHeld>
-    requires table { hand.old.table ≡ list.now.table }
-    requires may { MayLinkIn at hand.old.part }
-    ensures counted { IsCounted hand.old hand.new steps.old steps.new }
-    ensures link { IsLinkedIn at (record { range = range; mode = mode }) hand.old.part hand.new.part result }
+    requires may { IsHandOf (MayLinkIn at) list.now hand.old }
+    ensures link { Leaves (IsLinkedIn at (record { range = range; mode = mode }) result) hand.old hand.new steps.old steps.new }
     ensures ready { IsReadyLeft (shown_core hand.old.part at).ready (shown_core hand.new.part at).ready }
     ensures cause { IfErr result (IsCauseAt hand.old.table at hand.old.part hand.new.part (record { range = range; mode = mode })) }
     ensures long { IfErr result (λ why. IsLongRefusal why ↔ IsSpent hand.new.part) }
@@ -116,10 +111,8 @@ fn sweep_piece<G: Guard, L: Ledger>(
     at: u32,
     steps: &mut Steps<L>,
 ) -> Result<(), NotHeld>
-    requires table { hand.old.table ≡ list.now.table }
-    requires may { MayLinkIn at hand.old.part }
-    ensures counted { IsCounted hand.old hand.new steps.old steps.new }
-    ensures swept { IsFreedIn at hand.old.part.pass.standing hand.old.part hand.new.part }
+    requires may { IsHandOf (MayLinkIn at) list.now hand.old }
+    ensures swept { Leaves (IsFreedIn at hand.old.part.pass.standing) hand.old hand.new steps.old steps.new }
     ensures cause { IfErr result (λ why. (asked : Held) → IsCauseAt hand.old.table at hand.old.part hand.new.part asked why) }
     ensures long { IfErr result (λ why. IsLongRefusal why ↔ IsSpent hand.new.part) }
     ensures bound { hand.new.part.trace.taken ≤ hand.old.part.trace.taken + 7 + 48 * hand.old.part.seats }
@@ -139,10 +132,8 @@ pub(crate) fn give_piece<G: Guard, L: Ledger>(
     quick: bool,
     steps: &mut Steps<L>,
 )
-    requires table { hand.old.table ≡ list.now.table }
-    requires may { MayGiveIn at hand.old.part }
-    ensures counted { IsCounted hand.old hand.new steps.old steps.new }
-    ensures given { IsFreedIn at (standing_back hand.old.part.pass.standing at) hand.old.part hand.new.part }
+    requires may { IsHandOf (MayGiveIn at) list.now hand.old }
+    ensures given { Leaves (IsFreedIn at (standing_back hand.old.part.pass.standing at)) hand.old hand.new steps.old steps.new }
     ensures bound { hand.new.part.trace.taken ≤ hand.old.part.trace.taken + 2 }
 {
     hand.turn(at);
@@ -152,10 +143,8 @@ pub(crate) fn give_piece<G: Guard, L: Ledger>(
 /// Turns the hand to a list that holds a range which doesn't count, and marks its node there, after a refusal in
 /// another list: one step, which leaves the cause of that refusal in the record.
 fn give_up<G: Guard, L: Ledger>(list: &List<G>, hand: &mut Hand<G>, at: u32, steps: &mut Steps<L>)
-    requires table { hand.old.table ≡ list.now.table }
-    requires may { MayGiveIn at hand.old.part }
-    ensures counted { IsCounted hand.old hand.new steps.old steps.new }
-    ensures given { IsFreedIn at (standing_back hand.old.part.pass.standing at) hand.old.part hand.new.part }
+    requires may { IsHandOf (MayGiveIn at) list.now hand.old }
+    ensures given { Leaves (IsFreedIn at (standing_back hand.old.part.pass.standing at)) hand.old hand.new steps.old steps.new }
     ensures causes { KeepsCauses hand.old.table at hand.old.part hand.new.part }
     ensures look { nodes_in hand.new.part.trace.looked ≡ nodes_in hand.old.part.trace.looked }
     ensures taken { hand.new.part.trace.taken ≡ hand.old.part.trace.taken + 1 }
@@ -175,11 +164,8 @@ fn look<G: Guard, L: Ledger>(
     up: u32,
     steps: &mut Steps<L>,
 ) -> bool
-    requires table { hand.old.table ≡ list.now.table }
-    requires may { MayLook list.now.cut hand.old.part own at up }
-    ensures table { hand.new.table ≡ hand.old.table }
-    ensures part { hand.new.part ≡ after_look hand.old.part (standing_by result (standing_for own up) hand.old.part) }
-    ensures counted { steps.new ≡ steps.old + 1 }
+    requires may { IsHandOf (MayLook list.now.cut own at up) list.now hand.old }
+    ensures look { Leaves (IsLook (standing_by result (standing_for own up) hand.old.part)) hand.old hand.new steps.old steps.new }
 {
     if own == 0 {
         pass_list(list, hand, at, up, steps)
@@ -197,12 +183,9 @@ fn look_held<G: Guard, L: Ledger>(
     up: u32,
     steps: &mut Steps<L>,
 )
-    requires table { hand.old.table ≡ list.now.table }
-    requires may { MayLook list.now.cut hand.old.part own at up }
+    requires may { IsHandOf (MayLook list.now.cut own at up) list.now hand.old }
     requires too { HoldsToo hand.old.part at }
-    ensures table { hand.new.table ≡ hand.old.table }
-    ensures part { hand.new.part ≡ after_look hand.old.part (standing_for own up) }
-    ensures counted { steps.new ≡ steps.old + 1 }
+    ensures look { Leaves (IsLook (standing_for own up)) hand.old hand.new steps.old steps.new }
 {
     if own == 0 {
         pass_held(list, hand, at, up, steps);
@@ -224,11 +207,10 @@ fn link_in_both<G: Guard, L: Ledger>(
     mode: Mode,
     steps: &mut Steps<L>,
 ) -> Result<(), NotHeld>
-    requires table { hand.old.table ≡ list.now.table }
-    requires due { IsDue list.now.cut range hand.old.part own at up }
+    requires due { IsHandOf (IsDue list.now.cut range own at up) list.now hand.old }
     requires holds { HoldsIn own (record { range = range; mode = mode }) hand.old.part }
-    ensures counted { IsCounted hand.old hand.new steps.old steps.new }
-    ensures looks { LooksAt hand.old.table own at (record { range = range; mode = mode }) (standing_for own up) hand.old.part hand.new.part result }
+    ensures looks { Leaves (LooksAt hand.old.table own at (record { range = range; mode = mode }) (standing_for own up) result)
+        hand.old hand.new steps.old steps.new }
     ensures bound { hand.new.part.trace.taken ≤ hand.old.part.trace.taken + 46 + 145 * hand.old.part.seats }
 {
     match link_piece(list, hand, at, range, mode, steps) {
@@ -256,11 +238,10 @@ fn look_swept<G: Guard, L: Ledger>(
     mode: Mode,
     steps: &mut Steps<L>,
 ) -> Result<(), NotHeld>
-    requires table { hand.old.table ≡ list.now.table }
-    requires due { IsDue list.now.cut range hand.old.part own at up }
+    requires due { IsHandOf (IsDue list.now.cut range own at up) list.now hand.old }
     requires holds { HoldsIn own (record { range = range; mode = mode }) hand.old.part }
-    ensures counted { IsCounted hand.old hand.new steps.old steps.new }
-    ensures looks { LooksAt hand.old.table own at (record { range = range; mode = mode }) (standing_for own up) hand.old.part hand.new.part result }
+    ensures looks { Leaves (LooksAt hand.old.table own at (record { range = range; mode = mode }) (standing_for own up) result)
+        hand.old hand.new steps.old steps.new }
     ensures bound { hand.new.part.trace.taken ≤ hand.old.part.trace.taken + 54 + 193 * hand.old.part.seats }
 {
     if let Err(why) = sweep_piece(list, hand, at, steps) {
@@ -286,11 +267,10 @@ fn look_in<G: Guard, L: Ledger>(
     mode: Mode,
     steps: &mut Steps<L>,
 ) -> Result<(), NotHeld>
-    requires table { hand.old.table ≡ list.now.table }
-    requires due { IsDue list.now.cut range hand.old.part own at up }
+    requires due { IsHandOf (IsDue list.now.cut range own at up) list.now hand.old }
     requires holds { HoldsAlone own (record { range = range; mode = mode }) hand.old.part }
-    ensures counted { IsCounted hand.old hand.new steps.old steps.new }
-    ensures looks { LooksAt hand.old.table own at (record { range = range; mode = mode }) (standing_for own up) hand.old.part hand.new.part result }
+    ensures looks { Leaves (LooksAt hand.old.table own at (record { range = range; mode = mode }) (standing_for own up) result)
+        hand.old hand.new steps.old steps.new }
     ensures bound { hand.new.part.trace.taken ≤ hand.old.part.trace.taken + 55 + 193 * hand.old.part.seats }
 {
     if look(list, hand, own, at, up, steps) {
@@ -331,13 +311,9 @@ fn pass_all<G: Guard, L: Ledger>(
     looks: u32,
     steps: &mut Steps<L>,
 ) -> Result<(), NotHeld>
-    requires table { hand.old.table ≡ list.now.table }
-    requires lists { HasLists list.now.cut lists hand.old.part }
-    requires takes { TakesTwo list.now.cut range }
-    requires holds { HoldsAlone 0 (record { range = range; mode = mode }) hand.old.part }
-    requires free { hand.old.part.pass.standing ≡ Free }
-    ensures counted { IsCounted hand.old hand.new steps.old steps.new }
-    ensures looks { LooksAtAll hand.old.table list.now.cut 0 looks (record { range = range; mode = mode }) hand.old.part hand.new.part result }
+    requires due { IsHandOf (IsToLook list.now.cut lists 0 (record { range = range; mode = mode })) list.now hand.old }
+    ensures looks { Leaves (LooksAtAll hand.old.table list.now.cut 0 looks (record { range = range; mode = mode }) result)
+        hand.old hand.new steps.old steps.new }
     ensures each { (k : ℕ) → TakesMany list.now.cut range k
         → hand.new.part.trace.taken ≤ hand.old.part.trace.taken + (55 + 193 * hand.old.part.seats) * (k + looks) }
 {
@@ -375,13 +351,9 @@ pub(crate) fn look_in_all<G: Guard, L: Ledger>(
     looks: u32,
     steps: &mut Steps<L>,
 ) -> Result<(), NotHeld>
-    requires table { hand.old.table ≡ list.now.table }
-    requires lists { HasLists list.now.cut lists hand.old.part }
-    requires home { IsHome list.now.cut range lists own }
-    requires holds { HoldsAlone own (record { range = range; mode = mode }) hand.old.part }
-    requires free { hand.old.part.pass.standing ≡ Free }
-    ensures counted { IsCounted hand.old hand.new steps.old steps.new }
-    ensures looks { LooksAtAll hand.old.table list.now.cut own looks (record { range = range; mode = mode }) hand.old.part hand.new.part result }
+    requires due { IsHandOf (IsToLook list.now.cut lists own (record { range = range; mode = mode })) list.now hand.old }
+    ensures looks { Leaves (LooksAtAll hand.old.table list.now.cut own looks (record { range = range; mode = mode }) result)
+        hand.old hand.new steps.old steps.new }
     ensures narrow { own ≢ 0 → hand.new.part.trace.taken ≤ hand.old.part.trace.taken + 55 + 193 * hand.old.part.seats }
     ensures wide { own ≡ 0 → (k : ℕ) → TakesMany list.now.cut range k
         → hand.new.part.trace.taken ≤ hand.old.part.trace.taken + (55 + 193 * hand.old.part.seats) * (k + looks) }
@@ -421,13 +393,10 @@ fn hold_in<G: Guard, L: Ledger>(
     mode: Mode,
     steps: &mut Steps<L>,
 ) -> Result<bool, NotHeld>
-    requires table { hand.old.table ≡ list.now.table }
-    requires lists { HasLists list.now.cut lists hand.old.part }
     requires home { IsHome list.now.cut range lists own }
-    requires free { IsFreeSeat hand.old.part }
-    ensures counted { IsCounted hand.old hand.new steps.old steps.new }
-    ensures tried { IsTryCall hand.old.table list.now.cut (record { range = range; mode = mode }) hand.old.part hand.new.part result }
-    ensures seats { hand.old.part.seats ≡ list.now.seats }
+    requires free { IsHandOf (MayHold list.now.cut lists) list.now hand.old }
+    ensures tried { Leaves (IsTryCall hand.old.table list.now.cut list.now.seats (record { range = range; mode = mode }) result)
+        hand.old hand.new steps.old steps.new }
     ensures narrow { own ≢ 0 → hand.new.part.trace.taken ≤ hand.old.part.trace.taken + 99 + 338 * hand.old.part.seats }
     ensures wide { own ≡ 0 → (k : ℕ) → TakesMany list.now.cut range k
         → hand.new.part.trace.taken ≤ hand.old.part.trace.taken + 44 + 145 * hand.old.part.seats + (55 + 193 * hand.old.part.seats) * k }
@@ -457,12 +426,9 @@ pub(crate) fn try_hold<G: Guard, L: Ledger>(
     mode: Mode,
     steps: &mut Steps<L>,
 ) -> Result<bool, NotHeld>
-    requires table { hand.old.table ≡ list.now.table }
-    requires lists { HasLists list.now.cut lists hand.old.part }
-    requires free { IsFreeSeat hand.old.part }
-    ensures counted { IsCounted hand.old hand.new steps.old steps.new }
-    ensures tried { IsTryCall hand.old.table list.now.cut (record { range = range; mode = mode }) hand.old.part hand.new.part result }
-    ensures seats { hand.old.part.seats ≡ list.now.seats }
+    requires free { IsHandOf (MayHold list.now.cut lists) list.now hand.old }
+    ensures tried { Leaves (IsTryCall hand.old.table list.now.cut list.now.seats (record { range = range; mode = mode }) result)
+        hand.old hand.new steps.old steps.new }
     ensures narrow { TakesAlone list.now.cut range → hand.new.part.trace.taken ≤ hand.old.part.trace.taken + 63 + 386 * hand.old.part.seats }
     ensures each { (k : ℕ) → TakesMany list.now.cut range k → hand.new.part.trace.taken + 1 ≤ hand.old.part.trace.taken + try_steps hand.old.part.seats k }
 {

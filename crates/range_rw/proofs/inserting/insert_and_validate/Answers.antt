@@ -1,8 +1,9 @@
 use Rattle.std.proofs.Common.{sym, ◌∙◌}
-use Rattle.range_rw.proofs.Insertion.{insert_validates}
+use Rattle.range_rw.proofs.Insertion.{to_validate}
 use Rattle.range_rw.proofs.inserting.insert_and_validate.Goals as goal
 
 -- the node that was linked has its validation to do
-pub validate_once-requires-clause-own : goal.validate_once-requires-clause-own
-validate_once-requires-clause-own g c = let w = c.walk_and_link in insert_validates c.args.hand.now.part w.new.hand.part c.in-Some.walked c.requires.order
-    w.ensures.later c.in-Some.ensures.ends (sym c.is_place.ensures ∙ c.if-not-is_place.false)
+pub validate_once-requires : goal.validate_once-requires
+validate_once-requires g c = let w = c.walk_and_link in record {
+  order = to_validate c.in-Some.walked c.requires.order w.ensures.later c.in-Some.ensures.ends (sym c.is_place.ensures ∙ c.if-not-is_place.false);
+}

@@ -1,4 +1,4 @@
-use Rattle.std.proofs.Common.{◌↔◌, sym, ◌∙◌}
+use Rattle.std.proofs.Common.{rules, ◌↔◌, sym, ◌∙◌}
 use Rattle.epoch_pools.specs.Beside.{given_back}
 use Rattle.marked_list.specs.Answers.{IsLong}
 use Rattle.marked_list.specs.Causes.{IsSpent}
@@ -12,13 +12,14 @@ use Rattle.range_rw.proofs.inserting.validate_once.Goals as goal
 marked : (g : Over) (c : After-mark g) → IsLaterInEpoch c.args.hand.now.part c.mark.new.hand.part
     × ValidateEnds c.args.hand.now.part c.mark.new.hand.part c.validate-walked.result
     × (IsLong c.validate-walked.result ↔ IsSpent c.mark.new.hand.part)
-marked g c = let v = c.validate-walked.ensures in marked_all c.args.hand.now.part c.validate-walked.new.hand.part c.validate-walked.result c.requires.own
-    v.later v.answer (v.walk c.requires.begins) (sym c.is_place.ensures ∙ c.if-is_place.false) (given_back g.G.Guard.rested) c.mark.new.hand.part
+marked g c = let v = c.validate-walked.ensures in marked_all c.args.hand.now.part c.validate-walked.new.hand.part c.validate-walked.result
+    c.requires.order.is.may.own
+    v.later v.answer (v.walk c.requires.order.is.begins) (sym c.is_place.ensures ∙ c.if-is_place.false) (given_back g.G.Guard.rested) c.mark.new.hand.part
     c.mark.ensures.marked v.long
 
 -- validation and mark are in one epoch
 pub returns-clause-later : goal.returns-clause-later
-returns-clause-later g c = (marked g c).0
+returns-clause-later g c = record { counted = search rules; is = record { later = (marked g c).0; cursor = search rules } }
 
 -- the node is marked, and the answer refuses the try
 pub returns-clause-ends : goal.returns-clause-ends

@@ -1,17 +1,18 @@
 use Rattle.std.proofs.Common.{ap}
 use Rattle.epoch_pools.specs.declared.views.SeatPart.{SeatPart}
 use Rattle.range_rw.proofs.Asking.{for_from}
-use Rattle.range_rw.proofs.Pieces.{turned_free, try_linked, ok_on}
+use Rattle.range_rw.proofs.Calls.{counted_on, counted_turn}
+use Rattle.range_rw.proofs.Pieces.{try_linked, ok_on}
 use Rattle.range_rw.proofs.keeping.link_patiently.Goals as goal
 
 -- the hand rests in the list, without a node of its own
-pub hold_patiently-requires-clause-free : goal.hold_patiently-requires-clause-free
-hold_patiently-requires-clause-free g c = turned_free c.requires.may c.turn.ensures.part c.turn.ensures.rests
-
 -- the call is a piece of work in that list
 pub returns-clause-link : goal.returns-clause-link
-returns-clause-link g c = let done = c.hold_patiently.ensures in try_linked c.args.at c.args.hand.now.part c.turn.new.self.part c.hold_patiently.new.hand.part
-    c.turn.ensures.part c.turn.ensures.stays done.later done.outside done.cursor done.asks done.held done.free
+returns-clause-link g c = let done = c.hold_patiently.ensures in record {
+  counted = counted_on (counted_turn c.turn.ensures.table c.turn.ensures.part) done.left.counted;
+  is = try_linked c.args.at c.args.hand.now.part c.turn.new.self.part c.hold_patiently.new.hand.part c.turn.ensures.part c.turn.ensures.stays done.left.is
+      done.asks done.held done.free;
+}
 
 -- it asked for the range where it holds it
 pub returns-clause-gets : goal.returns-clause-gets

@@ -8,7 +8,7 @@ use Rattle.range_rw.proofs.nodes.sweep_and_take.Goals as goal
 -- the sweep's answer is why there is no node
 pub returns-in-Some-clause-missed : goal.returns-in-Some-clause-missed
 returns-in-Some-clause-missed g c = let same = ap (λ (b : Beside _). b.list) c.sweep-walked.ensures.swept.pass in swept_misses c.list-here.result
-    c.args.hand.now.table c.args.hand.now.part c.sweep-walked.new.hand.part c.sweep-walked.ensures.swept c.sweep-walked.ensures.walk c.requires.empty
+    c.args.hand.now.table c.args.hand.now.part c.sweep-walked.new.hand.part c.sweep-walked.ensures.swept c.sweep-walked.ensures.walk c.requires.empty.is.empty
     (c.list-here.ensures.noted ∙ same) (c.list-here.ensures.list ∙ same) c.sweep-walked.result c.in-Some.why (sym c.refusal_of.ensures ∙ c.in-Some.is)
     c.sweep-walked.ensures.answer c.sweep-walked.ensures.long
 
@@ -16,6 +16,6 @@ returns-in-Some-clause-missed g c = let same = ap (λ (b : Beside _). b.list) c.
 pub returns-in-Out-clause-missed : goal.returns-in-Out-clause-missed
 returns-in-Out-clause-missed g c = let s = c.sweep-walked.new.hand.part in let q = c.take-taken.new.hand.part in
     let same = ap (λ (b : Beside _). b.list) c.sweep-walked.ensures.swept.pass in stuck_misses c.list-here.result c.args.hand.now.table c.args.hand.now.part s
-    c.sweep-walked.ensures.swept c.sweep-walked.ensures.walk c.requires.empty (c.list-here.ensures.noted ∙ same) (c.list-here.ensures.list ∙ same) q
+    c.sweep-walked.ensures.swept c.sweep-walked.ensures.walk c.requires.empty.is.empty (c.list-here.ensures.noted ∙ same) (c.list-here.ensures.list ∙ same) q
     c.take-taken.ensures.call c.sweep-walked.result c.in-Out.stuck (sym c.refusal_of.ensures ∙ c.in_default.is) c.sweep-walked.ensures.answer
     c.sweep-walked.ensures.long (subst (λ (t : Taken). IsTaken s q t) c.in-Out.is c.take-taken.ensures.cause) c.take-taken.ensures.outside c.view.ensures.sound

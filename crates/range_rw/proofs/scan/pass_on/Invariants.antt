@@ -1,19 +1,17 @@
 use Rattle.std.proofs.Common.{◌≡◌, ℕ, ◌+◌, ◌-◌, ◌*◌, ◌≤◌}
 use Rattle.std.specs.Prelude.{Some, true}
 use Rattle.list_cuts.specs.Cut.{list_count}
-use Rattle.marked_list.specs.Order.{IsInside}
 use Rattle.range_rw.specs.declared.scan.Scanned.{Scanned}
+use Rattle.range_rw.specs.Calls.{Leaves}
 use Rattle.range_rw.specs.Contract.{SeatState, OpenScan}
 use Rattle.range_rw.specs.Seats.{seat_state_of}
-use Rattle.range_rw.specs.Scan.{IsNext, IsScanLater}
+use Rattle.range_rw.specs.Scan.{IsNext, StaysInScan}
 use Rattle.range_rw.proofs.scan.pass_on.Given as goal
 
 -- each list behind the first was passed, so what the call comes to from here on is what it comes to
 abbrev pub invariant-all : goal.invariant-all
 invariant-all g l = record {
-  table : l.hand.table ≡ l.initial.hand.table;
-  later : IsScanLater l.initial.hand.part l.hand.part;
-  inside : IsInside l.hand.part.core;
+  later : Leaves StaysInScan l.initial.hand l.hand l.initial.steps l.steps;
   lists : (l.lists ≡ l.hand.part.pass.lists) × (l.lists ≡ list_count l.list.cut);
   gone : (n : ℕ) × (l.hand.part.pass.list ≡ l.initial.hand.part.pass.list + n)
       × (l.hand.part.trace.taken ≤ l.initial.hand.part.trace.taken + (4 + 3 * (16 * l.initial.hand.part.seats + 1)) * n);

@@ -2,8 +2,9 @@ use Rattle.std.proofs.Common.{◌≡◌, ◌+◌, ◌*◌, ℕ, refl, sym, ap, �
 use Rattle.epoch_pools.specs.Beside.{shown_core}
 use Rattle.range_rw.specs.Contract.{IsReadyLeft}
 use Rattle.range_rw.specs.Several.{IsWorkFor}
-use Rattle.range_rw.proofs.Moves.{counted_on, linked_cause, piece_alone, ready_each, ready_all, ready_kept, spent_kept}
-use Rattle.range_rw.proofs.Dues.{work_on, work_link, work_freed, home_works, home_links, home_granted, link_free, kept_gives, given_free, lists_still}
+use Rattle.range_rw.proofs.Calls.{counted_on}
+use Rattle.range_rw.proofs.Moves.{linked_cause, ready_each, ready_all, ready_kept, spent_kept}
+use Rattle.range_rw.proofs.Dues.{work_on, work_link, work_freed, home_works, home_granted, link_free, given_free}
 use Rattle.range_rw.proofs.several.hold_in.Given.{Over}
 use Rattle.range_rw.proofs.several.hold_in.Goals.{After-look_in_all}
 use Rattle.range_rw.proofs.several.hold_in.Goals as goal
@@ -15,99 +16,94 @@ so_many {m} {n} same k = let e : k + 0 ≡ k = omega arith in ap (λ x. (55 + 19
 -- the seat works for the range alone
 work : (g : Over) (c : After-look_in_all g) → IsWorkFor c.args.list.now.cut (record { range = c.args.range; mode = c.args.mode }) c.args.hand.now.part
     c.look_in_all.new.hand.part
-work g c = work_on (work_link (home_works c.requires.home) c.link_piece.ensures.link) c.look_in_all.ensures.looks.work
+work g c = work_on (work_link (home_works c.requires.home) c.link_piece.ensures.link.is) c.look_in_all.ensures.looks.is.work
 
 -- each list's ready nodes are as before or without the first
 ready : (g : Over) (c : After-look_in_all g) (j : ℕ) → IsReadyLeft (shown_core c.args.hand.now.part j).ready (shown_core c.look_in_all.new.hand.part j).ready
 ready g c = ready_all c.args.own c.args.hand.now.part c.link_piece.new.hand.part c.look_in_all.new.hand.part c.link_piece.ensures.ready
-    c.link_piece.ensures.link.piece.only (c.look_in_all.ensures.looks.ready refl) c.look_in_all.ensures.looks.home
+    c.link_piece.ensures.link.is.piece.only (c.look_in_all.ensures.looks.is.ready refl) c.look_in_all.ensures.looks.is.home
 
 -- a node may be linked in that list
-pub link_piece-requires-clause-may : goal.link_piece-requires-clause-may
-link_piece-requires-clause-may g c = home_links c.requires.home c.requires.lists.shown c.requires.free
-
 -- a refused link leaves nothing held
 pub returns-in-Err-clause-tried : goal.returns-in-Err-clause-tried
 returns-in-Err-clause-tried g c =
     let link = c.link_piece.ensures.link in let works = home_works c.requires.home in record {
-      call = record { work = work_link works link; held = tt; free = link_free c.requires.free c.in-Err.ensures.link };
-      -- no other list has changed
-      ready = ready_each c.args.own c.args.hand.now.part c.link_piece.new.hand.part c.link_piece.ensures.ready link.piece.only;
-      -- what refused the link refuses the call
-      cause = (c.args.own, (let t = c.requires.home.there in let l = c.requires.lists.shown in omega arith), works, c.in-Err.ensures.cause);
-      long = c.in-Err.ensures.long;
+      counted = link.counted;
+      is = record {
+        call = record { work = work_link works link.is; held = tt; free = link_free c.requires.free.is.free c.in-Err.ensures.link.is };
+        -- no other list has changed
+        ready = ready_each c.args.own c.args.hand.now.part c.link_piece.new.hand.part c.link_piece.ensures.ready link.is.piece.only;
+        -- what refused the link refuses the call
+        cause = (c.args.own, (let t = c.requires.home.there in let l = c.requires.free.is.lists.shown in omega arith), works, c.in-Err.ensures.cause);
+        long = c.in-Err.ensures.long;
+        seats = c.link_piece.ensures.seats;
+      };
     }
 
 -- its steps
 pub returns-in-Err-clause-wide : goal.returns-in-Err-clause-wide
 returns-in-Err-clause-wide g c = λ _ k _. let a = c.link_piece.ensures.bound in omega arith
 
--- there are these lists still
-pub look_in_all-requires-clause-lists : goal.look_in_all-requires-clause-lists
-look_in_all-requires-clause-lists g c = lists_still c.requires.lists c.link_piece.ensures.link.piece.later
-
--- the range is held in its list
-pub look_in_all-requires-clause-holds : goal.look_in_all-requires-clause-holds
-look_in_all-requires-clause-holds g c = piece_alone c.requires.free c.link_piece.ensures.link.piece c.in-Ok.ensures.link.held
-
--- and nothing counts
-pub look_in_all-requires-clause-free : goal.look_in_all-requires-clause-free
-look_in_all-requires-clause-free g c = c.link_piece.ensures.link.standing ∙ c.requires.free.standing
-
+-- the range is held in its list, and nothing counts yet
 -- the range is held, and counts
 pub returns-in-Ok-look_in_all : goal.returns-in-Ok-look_in_all
 returns-in-Ok-look_in_all g c =
-    let h = (goal.at.returns-in-Ok-look_in_all g c).After-look_in_all in let all = work g h in let done = c.in-Ok-look_in_all.ensures.looks.done in record {
-      counted = counted_on c.link_piece.ensures.counted c.look_in_all.ensures.counted;
+    let h = (goal.at.returns-in-Ok-look_in_all g c).After-look_in_all in let all = work g h in let done = c.in-Ok-look_in_all.ensures.looks.is.done in record {
       tried = record {
-        call = record { work = all; held = home_granted c.requires.home (c.requires.lists.shown ∙ sym all.later.lists) done.0 done.1; free = tt };
-        ready = ready g h;
-        cause = tt;
-        long = tt;
+        counted = counted_on c.link_piece.ensures.link.counted c.look_in_all.ensures.looks.counted;
+        is = record {
+          call = record {
+            work = all;
+            held = home_granted c.requires.home (c.requires.free.is.lists.shown ∙ sym all.later.lists) done.0 done.1;
+            free = tt;
+          };
+          ready = ready g h;
+          cause = tt;
+          long = tt;
+          seats = c.link_piece.ensures.seats;
+        };
       };
-      seats = c.link_piece.ensures.seats;
       -- the steps of the link and the looks
-      narrow = λ far. let a = c.link_piece.ensures.bound in let s = c.link_piece.ensures.link.piece.later.seats in let b = c.look_in_all.ensures.narrow far in
-          omega arith;
-      wide = λ e k many. let same = so_many c.link_piece.ensures.link.piece.later.seats k in let a = c.link_piece.ensures.bound in
+      narrow = λ far. let a = c.link_piece.ensures.bound in let s = c.link_piece.ensures.link.is.piece.later.seats in
+          let b = c.look_in_all.ensures.narrow far in omega arith;
+      wide = λ e k many. let same = so_many c.link_piece.ensures.link.is.piece.later.seats k in let a = c.link_piece.ensures.bound in
           let b = c.look_in_all.ensures.wide e k many in omega arith;
     }
 
 -- the range is held, and doesn't count
-pub give_up-requires-clause-may : goal.give_up-requires-clause-may
-give_up-requires-clause-may g c = let kept = c.in-Err-look_in_all.ensures.looks.kept in kept_gives (let e = (work g
-    (goal.at.give_up-requires-clause-may g c).After-look_in_all).later.lists in let t = c.requires.home.there in let l = c.requires.lists.shown in omega arith)
-    kept.0 kept.1
-
 -- after a refusal in another list it is given up
 pub returns-in-Err-look_in_all : goal.returns-in-Err-look_in_all
 returns-in-Err-look_in_all g c =
     let h = (goal.at.returns-in-Err-look_in_all g c).After-look_in_all in let link = c.link_piece.ensures.link in
-    let looks = c.in-Err-look_in_all.ensures.looks in let given = c.give_up.ensures.given in let x = looks.cause refl in record {
-      counted = counted_on (counted_on c.link_piece.ensures.counted c.look_in_all.ensures.counted) c.give_up.ensures.counted;
+    let all = c.look_in_all.ensures.looks in let looks = c.in-Err-look_in_all.ensures.looks.is in let given = c.give_up.ensures.given in
+    let x = looks.cause refl in record {
       tried = record {
-        -- the seat holds nothing
-        call = record {
-          work = work_on (work g h) (work_freed (home_works c.requires.home) given);
-          held = tt;
-          free = given_free looks.kept.0 looks.kept.2 given;
+        counted = counted_on (counted_on link.counted all.counted) given.counted;
+        is = record {
+          -- the seat holds nothing
+          call = record {
+            work = work_on (work g h) (work_freed (home_works c.requires.home) given.is);
+            held = tt;
+            free = given_free looks.kept.0 looks.kept.2 given.is;
+          };
+          ready = ready_kept c.args.own c.args.hand.now.part c.look_in_all.new.hand.part c.give_up.new.hand.part (ready g h) given.is.ready
+              given.is.piece.only;
+          -- what refused it in a list refuses the call, and is still in the record
+          cause = (
+            x.0,
+            (let a = x.2 in let e = link.is.piece.later.lists in omega arith),
+            x.3,
+            linked_cause link.counted.table all.counted.table link.is.piece x.0 x.1 c.look_in_all.new.hand.part
+                c.give_up.new.hand.part c.give_up.ensures.causes (record { range = c.args.range; mode = c.args.mode }) c.in-Err-look_in_all.why x.4,
+          );
+          -- Long comes exactly where the last walk is spent
+          long = spent_kept c.look_in_all.new.hand.part c.give_up.new.hand.part c.give_up.ensures.look given.is.piece.later.seats given.is.free looks.long;
+          seats = c.link_piece.ensures.seats;
         };
-        ready = ready_kept c.args.own c.args.hand.now.part c.look_in_all.new.hand.part c.give_up.new.hand.part (ready g h) given.ready given.piece.only;
-        -- what refused it in a list refuses the call, and is still in the record
-        cause = (
-          x.0,
-          (let a = x.2 in let e = link.piece.later.lists in omega arith),
-          x.3,
-          linked_cause c.link_piece.ensures.counted.table c.look_in_all.ensures.counted.table link.piece x.0 x.1 c.look_in_all.new.hand.part
-              c.give_up.new.hand.part c.give_up.ensures.causes (record { range = c.args.range; mode = c.args.mode }) c.in-Err-look_in_all.why x.4,
-        );
-        -- Long comes exactly where the last walk is spent
-        long = spent_kept c.look_in_all.new.hand.part c.give_up.new.hand.part c.give_up.ensures.look given.piece.later.seats given.free looks.long;
       };
-      seats = c.link_piece.ensures.seats;
       -- the steps of the link, the looks and the mark
-      narrow = λ far. let a = c.link_piece.ensures.bound in let s = link.piece.later.seats in let b = c.look_in_all.ensures.narrow far in
+      narrow = λ far. let a = c.link_piece.ensures.bound in let s = link.is.piece.later.seats in let b = c.look_in_all.ensures.narrow far in
           let m = c.give_up.ensures.taken in omega arith;
-      wide = λ e k many. let same = so_many link.piece.later.seats k in let a = c.link_piece.ensures.bound in let b = c.look_in_all.ensures.wide e k many in
+      wide = λ e k many. let same = so_many link.is.piece.later.seats k in let a = c.link_piece.ensures.bound in let b = c.look_in_all.ensures.wide e k many in
           let m = c.give_up.ensures.taken in omega arith;
     }

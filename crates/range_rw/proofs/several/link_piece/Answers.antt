@@ -1,29 +1,26 @@
 use Rattle.std.proofs.Common.{refl, sym, ap, ◌∙◌, arith}
 use Rattle.epoch_pools.specs.declared.views.SeatPart.{SeatPart}
-use Rattle.range_rw.proofs.Moves.{counted_on, counted_turn}
-use Rattle.range_rw.proofs.Pieces.{err_on, turned_free, try_linked, ready_piece, cause_piece}
+use Rattle.range_rw.proofs.Calls.{counted_on, counted_turn}
+use Rattle.range_rw.proofs.Pieces.{err_on, try_linked, ready_piece, cause_piece}
 use Rattle.range_rw.proofs.several.link_piece.Goals as goal
 
 -- the hand rests in the list, without a node of its own
-pub try_range-requires-clause-free : goal.try_range-requires-clause-free
-try_range-requires-clause-free g c = turned_free c.requires.may c.turn.ensures.part c.turn.ensures.rests
-
 -- the try is a piece of work in that list
 pub returns : goal.returns
 returns g c =
     let p = c.args.hand.now.part in let t = c.turn.new.self.part in let q = c.try_range.new.hand.part in let is = c.turn.ensures.part in
-    let done = c.try_range.ensures in
-    let link = try_linked c.args.at p t q is c.turn.ensures.stays done.later done.outside done.cursor done.asks done.held done.free in record {
-      counted = counted_on (counted_turn c.turn.ensures.table is) (record { table = done.table; steps = done.counted });
-      link = link;
+    let done = c.try_range.ensures.tried in
+    let link = try_linked c.args.at p t q is c.turn.ensures.stays done.is.later done.is.asks done.is.held done.is.free in record {
+      link = record { counted = counted_on (counted_turn c.turn.ensures.table is) done.counted; is = link };
       -- the ready nodes of that list are as before, or without the first
-      ready = ready_piece c.args.at p t q is c.turn.ensures.stays link.piece.turned done.ready;
+      ready = ready_piece c.args.at p t q is c.turn.ensures.stays link.piece.turned done.is.ready;
       -- the cause of a refusal is that of the try
       cause = err_on _ _ c.try_range.result (cause_piece c.args.at p t q is c.turn.ensures.stays c.args.hand.now.table c.turn.new.self.table
-          c.turn.ensures.table link.piece.turned (record { range = c.args.range; mode = c.args.mode })) done.cause;
-      long = done.long;
+          c.turn.ensures.table link.piece.turned (record { range = c.args.range; mode = c.args.mode })) done.is.cause;
+      long = done.is.long;
       -- the table has as many seats as the hand's part says
-      seats = sym (ap (λ (x : SeatPart _). x.seats) is) ∙ done.seats;
+      seats = sym (ap (λ (x : SeatPart _). x.seats) is) ∙ done.is.seats;
       -- the turn makes no step, so the steps are those of the try
-      bound = let e = ap (λ (x : SeatPart _). x.trace.taken) is in let s = ap (λ (x : SeatPart _). x.seats) is in let b = done.once refl in omega arith;
+      bound = let e = ap (λ (x : SeatPart _). x.trace.taken) is in let s = ap (λ (x : SeatPart _). x.seats) is in let b = c.try_range.ensures.once refl in
+          omega arith;
     }

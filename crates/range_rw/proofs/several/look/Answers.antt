@@ -2,15 +2,20 @@ use Rattle.std.proofs.Common.{sym, ap, ◌∙◌}
 use Rattle.epoch_pools.specs.declared.views.Standing.{Standing}
 use Rattle.epoch_pools.specs.declared.views.Standing.TheVariants.{Narrow}
 use Rattle.epoch_pools.specs.Passing.{after_look, standing_by}
+use Rattle.range_rw.proofs.Calls.{counted_look}
 use Rattle.range_rw.proofs.Dues.{standing_wide, standing_narrow}
 use Rattle.range_rw.proofs.several.look.Goals as goal
 
 -- a wide range has passed all below `up`
-pub returns-then-own-eq0-clause-part : goal.returns-then-own-eq0-clause-part
-returns-then-own-eq0-clause-part g c = c.pass_list.ensures.part ∙ ap (λ (s : Standing). after_look c.args.hand.now.part (standing_by c.pass_list.result s
-    c.args.hand.now.part)) (sym (standing_wide c.args.own c.args.up c.if-own-eq0.true))
+pub returns-then-own-eq0 : goal.returns-then-own-eq0
+returns-then-own-eq0 g c = let done = c.pass_list.ensures in record {
+  look = counted_look done.table (done.part ∙ ap (λ (s : Standing). after_look c.args.hand.now.part (standing_by c.pass_list.result s
+      c.args.hand.now.part)) (sym (standing_wide c.args.own c.args.up c.if-own-eq0.true))) done.counted;
+}
 
 -- a narrow one, which the hand's list holds, counts
-pub returns-else-own-eq0-clause-part : goal.returns-else-own-eq0-clause-part
-returns-else-own-eq0-clause-part g c = c.count_narrow.ensures.part ∙ ap (λ (s : Standing). after_look c.args.hand.now.part (standing_by c.count_narrow.result s
-    c.args.hand.now.part)) (ap Narrow c.requires.may.turned ∙ sym (standing_narrow c.args.own c.args.up c.if-own-eq0.false))
+pub returns-else-own-eq0 : goal.returns-else-own-eq0
+returns-else-own-eq0 g c = let done = c.count_narrow.ensures in record {
+  look = counted_look done.table (done.part ∙ ap (λ (s : Standing). after_look c.args.hand.now.part (standing_by c.count_narrow.result s
+      c.args.hand.now.part)) (ap Narrow c.requires.may.is.turned ∙ sym (standing_narrow c.args.own c.args.up c.if-own-eq0.false))) done.counted;
+}

@@ -2,19 +2,24 @@ use Rattle.std.proofs.Common.{sym, ap, ◌∙◌, subst}
 use Rattle.epoch_pools.specs.declared.views.Standing.{Standing}
 use Rattle.epoch_pools.specs.declared.views.Standing.TheVariants.{Narrow}
 use Rattle.epoch_pools.specs.Passing.{after_look, HoldsToo}
+use Rattle.range_rw.proofs.Calls.{counted_look}
 use Rattle.range_rw.proofs.Dues.{standing_wide, standing_narrow}
 use Rattle.range_rw.proofs.several.look_held.Goals as goal
 
 -- a wide range has passed all below `up`
-pub returns-then-own-eq0-clause-part : goal.returns-then-own-eq0-clause-part
-returns-then-own-eq0-clause-part g c = c.pass_held.ensures.part
-    ∙ ap (λ (s : Standing). after_look c.args.hand.now.part s) (sym (standing_wide c.args.own c.args.up c.if-own-eq0.true))
+pub returns-then-own-eq0 : goal.returns-then-own-eq0
+returns-then-own-eq0 g c = let done = c.pass_held.ensures in record {
+  look = counted_look done.table (done.part ∙ ap (λ (s : Standing). after_look c.args.hand.now.part s)
+      (sym (standing_wide c.args.own c.args.up c.if-own-eq0.true))) done.counted;
+}
 
 -- a narrow one, which the hand's list holds, counts
-pub returns-else-own-eq0-clause-part : goal.returns-else-own-eq0-clause-part
-returns-else-own-eq0-clause-part g c = c.count_held.ensures.part ∙ ap (λ (s : Standing). after_look c.args.hand.now.part s) (ap Narrow c.requires.may.turned ∙
-    sym (standing_narrow c.args.own c.args.up c.if-own-eq0.false))
+pub returns-else-own-eq0 : goal.returns-else-own-eq0
+returns-else-own-eq0 g c = let done = c.count_held.ensures in record {
+  look = counted_look done.table (done.part ∙ ap (λ (s : Standing). after_look c.args.hand.now.part s)
+      (ap Narrow c.requires.may.is.turned ∙ sym (standing_narrow c.args.own c.args.up c.if-own-eq0.false))) done.counted;
+}
 
 -- list 0 is the one that a narrow range looks at
 pub count_held-requires-clause-too : goal.count_held-requires-clause-too
-count_held-requires-clause-too g c = subst (HoldsToo c.args.hand.now.part) (c.requires.may.first c.if-own-eq0.false) c.requires.too
+count_held-requires-clause-too g c = subst (HoldsToo c.args.hand.now.part) (c.requires.may.is.first c.if-own-eq0.false) c.requires.too

@@ -2,7 +2,8 @@ use Rattle.std.proofs.Common.{◌≡◌, ℕ, ◌+◌, ◌-◌, ◌*◌, ◌<◌
 use Rattle.list_cuts.specs.Cut.{Takes}
 use Rattle.epoch_pools.specs.Beside.{shown_core}
 use Rattle.range_rw.specs.Contract.{IsReadyLeft, TakesBelow}
-use Rattle.range_rw.specs.Several.{IsCounted, HasLists, HoldsAlone, HasPassed, IsWorkFor}
+use Rattle.range_rw.specs.Calls.{IsCounted}
+use Rattle.range_rw.specs.Several.{HasLists, HoldsAlone, HasPassed, IsWorkFor}
 use Rattle.range_rw.proofs.several.pass_all.Given as goal
 
 -- the range is held in list 0 all the while, by the same node, and doesn't count; all lists before this one are passed

@@ -11,31 +11,33 @@ use Rattle.range_rw.proofs.TakenLists.{some_below, takes_first}
 use Rattle.range_rw.proofs.several.try_hold.Goals as goal
 
 -- the hand may try in its list
-pub try_range-requires-clause-free : goal.try_range-requires-clause-free
-try_range-requires-clause-free g c = free_sweeps c.args.hand.now.part c.requires.free
+pub try_range-requires : goal.try_range-requires
+try_range-requires g c = let free = c.requires.free in
+    record { free = record { table = free.table; is = free_sweeps c.args.hand.now.part free.is.free } }
 
 -- with one list the try is the list's
 pub returns-then-lists-eq1 : goal.returns-then-lists-eq1
 returns-then-lists-eq1 g c =
-    let tried = c.try_range.ensures in let asked : Held = record { range = c.args.range; mode = c.args.mode } in let cut = c.args.list.now.cut in
-    let h : Here c.args.hand.now.part c.try_range.new.hand.part =
-    record { free = c.requires.free; later = tried.later; outside = tried.outside; cursor = tried.cursor } in
-    let there = is_there c.list.ensures.list c.list.ensures.there in let one = sym c.requires.lists.shown ∙ c.if-lists-eq1.true in record {
-      counted = record { table = tried.table; steps = tried.counted };
+    let tried = c.try_range.ensures.tried in let asked : Held = record { range = c.args.range; mode = c.args.mode } in let cut = c.args.list.now.cut in
+    let may = c.requires.free.is in let h : Here c.args.hand.now.part c.try_range.new.hand.part = record { free = may.free; later = tried.is.later } in
+    let there = is_there c.list.ensures.list c.list.ensures.there in let one = sym may.lists.shown ∙ c.if-lists-eq1.true in record {
       tried = record {
-        call = here_call h cut asked there one (takes_first cut c.args.range c.requires.lists.regions
-            (sym c.requires.lists.many ∙ c.if-lists-eq1.true) c.lo.ensures.bounds.0) tried.asks tried.held tried.free;
-        -- the list's ready nodes are as before or without the first, and there is no other list
-        ready = here_ready h tried.ready;
-        -- the cause of a refusal is that of the try
-        cause = err_on _ _ c.try_range.result (here_cause h c.args.hand.now.table c.args.hand.now.table cut (λ i. c.args.hand.now.table) there asked
-            (inl (omega arith))) tried.cause;
-        long = tried.long;
+        counted = tried.counted;
+        is = record {
+          call = here_call h cut asked there one (takes_first cut c.args.range may.lists.regions
+              (sym may.lists.many ∙ c.if-lists-eq1.true) c.lo.ensures.bounds.0) tried.is.asks tried.is.held tried.is.free;
+          -- the list's ready nodes are as before or without the first, and there is no other list
+          ready = here_ready h tried.is.ready;
+          -- the cause of a refusal is that of the try
+          cause = err_on _ _ c.try_range.result (here_cause h c.args.hand.now.table c.args.hand.now.table cut (λ i. c.args.hand.now.table) there asked
+              (inl (omega arith))) tried.is.cause;
+          long = tried.is.long;
+          seats = tried.is.seats;
+        };
       };
-      seats = tried.seats;
       -- its steps are those of one list, and few
-      narrow = λ _. let b = tried.bound in omega arith;
-      each = λ k _. let b = tried.bound in omega arith;
+      narrow = λ _. let b = c.try_range.ensures.bound in omega arith;
+      each = λ k _. let b = c.try_range.ensures.bound in omega arith;
     }
 
 -- a range that takes one list alone isn't held in list 0 where there are several
@@ -50,7 +52,7 @@ returns-clause-each g c = λ k many. let n = c.args.hand.now.part.seats in let c
     let s = c.seats.ensures.some in let y = c.seats.ensures.seats in dite (ℕ_discrete c.home_of-own.result 0)
     (λ e. let two = c.home_of-own.ensures.wide e in
     let more : 1 ≤ k = some_below cut c.args.range (list_count cut) k two.one
-    (takes_there cut c.args.range two.one c.requires.lists.regions two.takes_one) two.takes_one many in let whole : k ≡ suc (k - 1) = omega arith in
+    (takes_there cut c.args.range two.one c.requires.free.is.lists.regions two.takes_one) two.takes_one many in let whole : k ≡ suc (k - 1) = omega arith in
     let product : (55 + 193 * n) * k ≡ (55 + 193 * n) * (k - 1) + (55 + 193 * n) = ap (λ m. (55 + 193 * n) * m) whole ∙ mul-suc (55 + 193 * n) (k - 1) in
     let b = c.hold_in.ensures.wide e k many in omega arith)
     (λ far. let b = c.hold_in.ensures.narrow far in omega arith)

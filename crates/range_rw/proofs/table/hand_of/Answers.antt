@@ -7,17 +7,14 @@ use Rattle.epoch_pools.specs.declared.views.Beside.{Beside}
 use Rattle.epoch_pools.specs.Hands.{IsIdle}
 use Rattle.range_rw.specs.Contract.{SeatState}
 use Rattle.range_rw.proofs.Pieces.{own_at}
-use Rattle.range_rw.proofs.Seated.{seat_bare, seat_left}
+use Rattle.range_rw.proofs.Seated.{seat_left}
 use Rattle.range_rw.proofs.table.hand_of.Goals as goal
 
 -- the hand has no node of its own, and none in its hand
-pub leave_and_count-lists-requires-clause-bare : goal.leave_and_count-lists-requires-clause-bare
-leave_and_count-lists-requires-clause-bare g c = seat_bare c.seat.inside.hand c.seat.view_is c.seat.invariant c.requires.free
-
 -- so it has none in any list
 pub all-init : goal.all-init
 all-init g c =
-    let l = c.leave_and_count-lists.ensures.left in
+    let l = c.leave_and_count-lists.ensures.left.is in
     record {
       table = refl;
       number = refl;
@@ -56,10 +53,10 @@ all-preserved g c =
 -- it is of the same seat, and idle where it is turned
 pub returns-clause-hand : goal.returns-clause-hand
 returns-clause-hand g c =
-    let i = c.all.invariant in let l = c.leave_and_count-lists.ensures.left in let q = c.all.hand.part in (
-      i.table ∙ (c.leave_and_count-lists.ensures.counted.table ∙ ap (λ (s : SeatState _). s.table) c.seat.view_is),
-      i.number ∙ (l.later.number ∙ ap (λ (s : SeatState _). s.number) c.seat.view_is),
-      i.pass ∙ (ap (λ (b : Beside _). b.pass) l.later.pass ∙ ap (λ (s : SeatState _). s.pass) c.seat.view_is),
+    let i = c.all.invariant in let l = c.leave_and_count-lists.ensures.left.is in let q = c.all.hand.part in (
+      i.table ∙ (c.leave_and_count-lists.ensures.left.counted.table ∙ ap (λ (s : SeatState _). s.table) c.seat.view_is),
+      i.number ∙ (l.left.later.number ∙ ap (λ (s : SeatState _). s.number) c.seat.view_is),
+      i.pass ∙ (ap (λ (b : Beside _). b.pass) l.left.later.pass ∙ ap (λ (s : SeatState _). s.pass) c.seat.view_is),
       record {
         outside = i.rests.outside;
         own = ap (λ (v : View). v.own) (sym (own_at q q.pass.list refl)) ∙ i.free q.pass.list;

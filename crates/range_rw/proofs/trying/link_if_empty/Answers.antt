@@ -1,6 +1,20 @@
+use Rattle.std.proofs.Common.{arith}
 use Rattle.range_rw.proofs.Asking.{for_only}
 use Rattle.range_rw.proofs.trying.link_if_empty.Goals as goal
 
 -- the node that was ready is filled with the range
-pub returns-clause-asks : goal.returns-clause-asks
-returns-clause-asks g c = for_only c.link_ready_node.ensures.tried.asks
+pub returns : goal.returns
+returns g c =
+    let node = c.link_ready_node.ensures in record {
+      link = record {
+        counted = node.left.counted;
+        is = record {
+          later = node.left.is;
+          asks = for_only node.tried.asks;
+          tried = node.tried;
+          missed = tt;
+          seats = node.seats;
+          few = let t = node.taken in omega arith;
+        };
+      };
+    }

@@ -1,31 +1,42 @@
 use Rattle.std.proofs.Common.{sym, ◌∙◌}
-use Rattle.range_rw.proofs.Asking.{asks_kept, for_only}
-use Rattle.range_rw.proofs.Taking.{tried_ends, insert_ready, insert_cause}
+use Rattle.range_rw.proofs.Taking.{tried_ends, Inserted, inserted, not_inserted, held_at_once}
+use Rattle.range_rw.proofs.trying.try_again.Given.{Over}
+use Rattle.range_rw.proofs.trying.try_again.Goals.{After-refusal_of}
 use Rattle.range_rw.proofs.trying.try_again.Goals as goal
 
 -- the node that the fast path didn't link is filled
-pub insert_in_epoch-requires-clause-own : goal.insert_in_epoch-requires-clause-own
-insert_in_epoch-requires-clause-own g c = tried_ends c.link_ready_node-held.ensures.tried c.if-held.false
+pub insert_in_epoch-requires : goal.insert_in_epoch-requires
+insert_in_epoch-requires g c = let first = c.link_ready_node-held.ensures in record {
+  own = record {
+    table = first.left.counted.table ∙ c.requires.some.table;
+    is = record { outside = first.left.is.outside; own = tried_ends first.tried c.if-held.false };
+  };
+}
 
--- the refused node is ready again, or was marked
-pub returns-in-Some-refusal_of-clause-ready : goal.returns-in-Some-refusal_of-clause-ready
-returns-in-Some-refusal_of-clause-ready g c =
-    insert_ready c.link_ready_node-held.ensures.tried c.if-held.false c.insert_in_epoch.new.hand.part c.in-Some.walked c.in-Some.ensures.ends
+-- what it links is held
+pub returns-then-held-clause-tried : goal.returns-then-held-clause-tried
+returns-then-held-clause-tried g c = let first = c.link_ready_node-held.ensures in held_at_once first.left first.tried c.if-held.true first.seats
 
--- the list's answer is the cause
-pub returns-in-Some-refusal_of-clause-cause : goal.returns-in-Some-refusal_of-clause-cause
-returns-in-Some-refusal_of-clause-cause g c = insert_cause c.link_ready_node-held.ensures.tried c.if-held.false c.insert_in_epoch.new.hand.part
-    c.list.result c.args.hand.now.table c.list.ensures.noted c.list.ensures.list c.link_ready_node-held.ensures.later c.insert_in_epoch.ensures.later
-    c.in-Some.walked c.in-Some-refusal_of.refusal (sym c.refusal_of.ensures ∙ c.in-Some-refusal_of.is) c.in-Some.ensures.ends c.in-Some.ensures.long
+-- the node that it didn't link is inserted
+insertion : (g : Over) (c : After-refusal_of g) → Inserted (record { range = c.args.range; mode = c.args.mode }) c.args.hand.now
+    c.link_ready_node-held.new.hand c.insert_in_epoch.new.hand c.args.steps.now c.link_ready_node-held.new.steps c.insert_in_epoch.new.steps c.in-Some.walked
+insertion g c = let first = c.link_ready_node-held.ensures in let epoch = c.insert_in_epoch.ensures in record {
+  first = first.left;
+  linked = c.link_ready_node-held.result;
+  node = first.tried;
+  isnt = c.if-held.false;
+  next = epoch.left;
+  asks = epoch.asked;
+  ends = c.in-Some.ensures.ends;
+  long = c.in-Some.ensures.long;
+}
 
--- what the fast path tried is all that is asked for
-pub returns-then-held-clause-asks : goal.returns-then-held-clause-asks
-returns-then-held-clause-asks g c = for_only c.link_ready_node-held.ensures.tried.asks
+-- the validation holds the range
+pub returns-in-None-clause-tried : goal.returns-in-None-clause-tried
+returns-in-None-clause-tried g c = inserted (insertion g (goal.at.returns-in-None-clause-tried g c).After-refusal_of)
+    c.link_ready_node-held.ensures.seats c.list.result (sym c.refusal_of.ensures ∙ c.in-None.is)
 
--- also where it is refused
-pub returns-in-Some-refusal_of-clause-asks : goal.returns-in-Some-refusal_of-clause-asks
-returns-in-Some-refusal_of-clause-asks g c = asks_kept (for_only c.link_ready_node-held.ensures.tried.asks) c.insert_in_epoch.ensures.asked
-
--- and where it is held
-pub returns-in-None-clause-asks : goal.returns-in-None-clause-asks
-returns-in-None-clause-asks g c = asks_kept (for_only c.link_ready_node-held.ensures.tried.asks) c.insert_in_epoch.ensures.asked
+-- or the list's answer refuses the try
+pub returns-in-Some-refusal_of-clause-tried : goal.returns-in-Some-refusal_of-clause-tried
+returns-in-Some-refusal_of-clause-tried g c = not_inserted (insertion g (goal.at.returns-in-Some-refusal_of-clause-tried g c).After-refusal_of)
+    c.link_ready_node-held.ensures.seats c.list.result c.list.ensures.noted c.list.ensures.list (sym c.refusal_of.ensures ∙ c.in-Some-refusal_of.is)

@@ -2,13 +2,10 @@ use Rattle.std.proofs.Common.{ap, ◌∙◌, subst, arith}
 use Rattle.range_rw.specs.Contract.{TableShape, SeatState}
 use Rattle.range_rw.specs.Seats.{seat_state_of}
 use Rattle.range_rw.specs.Scan.{IsScanCall}
-use Rattle.range_rw.proofs.SeatedScans.{scan_seat, scan_seated, scan_call, opens_fresh}
+use Rattle.range_rw.proofs.SeatedScans.{scan_seated, scan_call, opens_fresh}
 use Rattle.range_rw.proofs.table.RangeTable.begin_scan.Goals as goal
 
 -- the seat holds nothing
-pub open_epoch-requires-clause-seat : goal.open_epoch-requires-clause-seat
-open_epoch-requires-clause-seat g c = scan_seat c.seat.inside.hand.part c.seat.invariant (ap (λ (s : SeatState _). s.held) c.seat.view_is ∙ c.requires.free)
-
 -- it is between two calls still
 pub invariant_of-seat : goal.invariant_of-seat
 invariant_of-seat g c = scan_seated c.open_epoch.new.hand.part c.open_epoch.ensures.inside.later.seat

@@ -1,14 +1,11 @@
-use Rattle.std.proofs.Common.{ap, ◌∙◌, subst, arith}
+use Rattle.std.proofs.Common.{ap, subst, arith}
 use Rattle.range_rw.specs.Contract.{SeatState}
 use Rattle.range_rw.specs.Seats.{seat_state_of}
 use Rattle.range_rw.specs.Scan.{IsScanCall}
-use Rattle.range_rw.proofs.SeatedScans.{scan_seat, scan_seated, scan_call, closes_none}
+use Rattle.range_rw.proofs.SeatedScans.{scan_seated, scan_call, closes_none}
 use Rattle.range_rw.proofs.table.RangeTable.end_scan.Goals as goal
 
 -- the seat holds nothing
-pub close_epoch-requires-clause-seat : goal.close_epoch-requires-clause-seat
-close_epoch-requires-clause-seat g c = scan_seat c.seat.inside.hand.part c.seat.invariant (ap (λ (s : SeatState _). s.held) c.seat.view_is ∙ c.requires.free)
-
 -- it is between two calls still
 pub invariant_of-seat : goal.invariant_of-seat
 invariant_of-seat g c = scan_seated c.close_epoch.new.hand.part c.close_epoch.ensures.outside.later.seat

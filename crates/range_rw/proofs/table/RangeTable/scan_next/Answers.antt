@@ -1,4 +1,4 @@
-use Rattle.std.proofs.Common.{◌+◌, ◌*◌, sym, ap, ◌∙◌, subst}
+use Rattle.std.proofs.Common.{rules, ◌+◌, ◌*◌, sym, ap, ◌∙◌, subst}
 use Rattle.std.specs.Prelude.{IsSome}
 use Rattle.list_cuts.specs.Cut.{list_count}
 use Rattle.epoch_pools.specs.Hands.{HandState}
@@ -11,38 +11,41 @@ use Rattle.range_rw.proofs.table.RangeTable.scan_next.Given.{Over}
 use Rattle.range_rw.proofs.table.RangeTable.scan_next.Goals.{After-lists_of-lists}
 use Rattle.range_rw.proofs.table.RangeTable.scan_next.Goals as goal
 
--- the seat holds nothing
-pub pass_on-requires-clause-seat : goal.pass_on-requires-clause-seat
-pass_on-requires-clause-seat g c = subst (λ (h : HandState _). IsScanSeat h.part) (sym c.lists_of-lists.ensures.hand)
-    (scan_seat c.seat.inside.hand.part c.seat.invariant (ap (λ (s : SeatState _). s.held) c.seat.view_is ∙ c.requires.free))
-
--- and its hand is inside its epoch
+-- its hand is inside its epoch
 inside : (g : Over) (c : After-lists_of-lists g) → IsInside c.lists_of-lists.new.hand.part.core
 inside g c = subst (λ (h : HandState _). IsInside h.part.core) (sym c.lists_of-lists.ensures.hand) (opened_in c.seat.inside.hand.part
     (scan_seat c.seat.inside.hand.part c.seat.invariant (ap (λ (s : SeatState _). s.held) c.seat.view_is ∙ c.requires.free)) (subst
     (λ (s : SeatState _). IsSome s.scan) (sym c.seat.view_is) c.requires.inside))
 
+-- and the seat holds nothing
 pub pass_on-requires-clause-inside : goal.pass_on-requires-clause-inside
-pass_on-requires-clause-inside g c = inside g (goal.at.pass_on-requires-clause-inside g c).After-lists_of-lists
+pass_on-requires-clause-inside g c = record {
+  table = search rules;
+  is = record {
+    seat = subst (λ (h : HandState _). IsScanSeat h.part) (sym c.lists_of-lists.ensures.hand)
+        (scan_seat c.seat.inside.hand.part c.seat.invariant (ap (λ (s : SeatState _). s.held) c.seat.view_is ∙ c.requires.free));
+    inside = inside g (goal.at.pass_on-requires-clause-inside g c).After-lists_of-lists;
+  };
+}
 
 -- it is between two calls still
 pub invariant_of-seat : goal.invariant_of-seat
-invariant_of-seat g c = scan_seated c.pass_on.new.hand.part c.pass_on.ensures.later.seat
+invariant_of-seat g c = scan_seated c.pass_on.new.hand.part c.pass_on.ensures.later.is.seat
 
 -- the call is one of a scan
 pub returns : goal.returns
 returns g c =
     let h = c.lists_of-lists.new.hand in let q = c.pass_on.new.hand in let done = c.pass_on.ensures in
     let same = ap seat_state_of c.lists_of-lists.ensures.hand ∙ c.seat.view_is in record {
-      call = subst (λ (s : SeatState _). IsScanCall s (seat_state_of q)) same (scan_call h.table q.table h.part q.part done.table done.later);
+      call = subst (λ (s : SeatState _). IsScanCall s (seat_state_of q)) same (scan_call h.table q.table h.part q.part done.later.counted.table done.later.is);
       -- with its answer and cause
       next = λ was opened. subst (λ (s : SeatState _). IsNext s (seat_state_of q) was c.answer_of.result) same (subst (λ answer. IsNext (seat_state_of h)
           (seat_state_of q) was answer) (sym c.answer_of.ensures) (done.next was (ap (λ (s : SeatState _). s.scan) same ∙ opened)));
       -- at the end of the last list it stays, and where it has looked at as many nodes as it may
       ended = λ was opened ended. let s = done.ended was (ap (λ (s : SeatState _). s.scan) same ∙ opened) ended in
-          (seat_stays h.table q.table h.part q.part done.table s.0 ∙ same, c.answer_of.ensures ∙ ap scanned_as s.1);
+          (seat_stays h.table q.table h.part q.part done.later.counted.table s.0 ∙ same, c.answer_of.ensures ∙ ap scanned_as s.1);
       spent = λ was opened spent. let s = done.spent was (ap (λ (s : SeatState _). s.scan) same ∙ opened) spent in
-          (seat_stays h.table q.table h.part q.part done.table s.0 ∙ same, c.answer_of.ensures ∙ ap scanned_as s.1);
+          (seat_stays h.table q.table h.part q.part done.later.counted.table s.0 ∙ same, c.answer_of.ensures ∙ ap scanned_as s.1);
       -- its steps are those of the lists that are left
       bound = λ was opened. let shown = ap (λ (s : SeatState _). s.scan) same ∙ opened in
           let odd = inside g (goal.at.returns g c).After-lists_of-lists in

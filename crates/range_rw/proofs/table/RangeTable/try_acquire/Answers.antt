@@ -7,7 +7,7 @@ use Rattle.range_rw.proofs.Moves.{ready_from}
 use Rattle.range_rw.proofs.Choosing.{Called, called_by, Left, seat_cause_in, seat_told_in, seat_long_in, left_by, ready_at}
 use Rattle.range_rw.proofs.Pieces.{is_there}
 use Rattle.range_rw.proofs.TakenLists.{wide_steps}
-use Rattle.range_rw.proofs.Seated.{seat_bare, seat_left, free_seated, free_grant, alone_seated, alone_grant, rests_closed, none_here, try_lists}
+use Rattle.range_rw.proofs.Seated.{free_seated, free_grant, alone_seated, alone_grant, rests_closed, none_here, try_lists}
 use Rattle.range_rw.proofs.table.RangeTable.try_acquire.Given.{Over}
 use Rattle.range_rw.proofs.table.RangeTable.try_acquire.Goals.{After-list}
 use Rattle.range_rw.proofs.table.RangeTable.try_acquire.Goals as goal
@@ -17,50 +17,45 @@ called : (g : Over) (c : After-list g) → Called c.args.self.now.cut (record { 
     (seat_state_of c.try_hold-tried.new.hand)
 called g c = subst (λ (z : TableShape × SeatState _). Called z.0.cut (record { range = c.args.range; mode = c.args.mode }) z.1
     (seat_state_of c.try_hold-tried.new.hand)) (λ i. (c.self.view_is i, c.seat.view_is i))
-    (called_by (c.try_hold-tried.ensures.counted.table ∙ c.leave_and_count-lists.ensures.counted.table) c.leave_and_count-lists.ensures.left
-    c.try_hold-tried.ensures.tried.call.work)
+    (called_by (c.try_hold-tried.ensures.tried.counted.table ∙ c.leave_and_count-lists.ensures.left.counted.table) c.leave_and_count-lists.ensures.left.is
+    c.try_hold-tried.ensures.tried.is.call.work)
 
 -- and of its lists
 left : (g : Over) (c : After-list g) → Left c.seat.inside.hand.table c.leave_and_count-lists.new.hand.table c.try_hold-tried.new.hand.table
     c.seat.inside.hand.part c.leave_and_count-lists.new.hand.part c.try_hold-tried.new.hand.part
-left g c = left_by c.seat.inside.hand.table c.leave_and_count-lists.new.hand.table c.try_hold-tried.new.hand.table c.leave_and_count-lists.ensures.left
-    c.try_hold-tried.ensures.tried.call.work.later
+left g c = left_by c.seat.inside.hand.table c.leave_and_count-lists.new.hand.table c.try_hold-tried.new.hand.table c.leave_and_count-lists.ensures.left.is
+    c.try_hold-tried.ensures.tried.is.call.work.later
 
 -- each list's ready nodes are as before or without the first
 ready : (g : Over) (c : After-list g) (j : ℕ) → IsReadyLeft (pools_at c.args.seat.now j).ready (pools_at (seat_state_of c.try_hold-tried.new.hand) j).ready
 ready g c j = let p = c.seat.inside.hand.part in let l = left g c in subst (λ (s : SeatState _). IsReadyLeft (pools_at s j).ready (pools_at
     (seat_state_of c.try_hold-tried.new.hand) j).ready) c.seat.view_is (ready_at c.seat.inside.hand.table c.try_hold-tried.new.hand.table p
     c.try_hold-tried.new.hand.part (l.lists ∙ (try_lists p c.leave_and_count-lists.new.hand.part l.later).lists) (λ i. ready_from (l.ready i)
-    (c.try_hold-tried.ensures.tried.ready i)) j)
+    (c.try_hold-tried.ensures.tried.is.ready i)) j)
 
 -- so many lists have so many steps
 each : (g : Over) (c : After-list g) (k : ℕ) → TakesMany c.args.self.now.cut c.args.range k
     → c.try_hold-tried.new.hand.part.trace.taken ≤ c.args.seat.now.trace.taken + try_steps c.args.self.now.seats k
 each g c k takes = let b = c.try_hold-tried.ensures.each k (subst (λ (t : TableShape). TakesMany t.cut c.args.range k) (sym c.self.view_is) takes) in
-    let all = ap (λ n. try_steps n k) (c.try_hold-tried.ensures.seats ∙ ap (λ (t : TableShape). t.seats) c.self.view_is) in
-    let l = c.leave_and_count-lists.ensures.left.few in let w = ap (λ (s : SeatState _). s.trace.taken) c.seat.view_is in omega arith
+    let all = ap (λ n. try_steps n k) (c.try_hold-tried.ensures.tried.is.seats ∙ ap (λ (t : TableShape). t.seats) c.self.view_is) in
+    let l = c.leave_and_count-lists.ensures.left.is.left.few in let w = ap (λ (s : SeatState _). s.trace.taken) c.seat.view_is in omega arith
 
 -- and one list those of one
 bound : (g : Over) (c : After-list g) → TakesAlone c.args.self.now.cut c.args.range
     → c.try_hold-tried.new.hand.part.trace.taken ≤ c.args.seat.now.trace.taken + (64 + 386 * c.args.self.now.seats)
 bound g c alone = let n = c.try_hold-tried.ensures.narrow (subst (λ (t : TableShape). TakesAlone t.cut c.args.range) (sym c.self.view_is) alone) in
-    let s = c.try_hold-tried.ensures.seats in let t = ap (λ (t : TableShape). t.seats) c.self.view_is in let l = c.leave_and_count-lists.ensures.left.few in
+    let s = c.try_hold-tried.ensures.tried.is.seats in let t = ap (λ (t : TableShape). t.seats) c.self.view_is in
+    let l = c.leave_and_count-lists.ensures.left.is.left.few in
     let w = ap (λ (s : SeatState _). s.trace.taken) c.seat.view_is in omega arith
 
 -- whichever lists it takes, no more than those of one for each
 wide : (g : Over) (c : After-list g)
     → c.try_hold-tried.new.hand.part.trace.taken ≤ c.args.seat.now.trace.taken + (64 + 386 * c.args.self.now.seats) * list_count c.args.self.now.cut
 wide g c = wide_steps c.args.self.now.cut c.args.range c.args.self.now.seats c.try_hold-tried.new.hand.part.trace.taken c.args.seat.now.trace.taken
-    (subst (λ (t : TableShape). 0 < t.cut.count) c.self.view_is c.leave_and_count-lists.ensures.left.lists.regions) (each g c)
+    (subst (λ (t : TableShape). 0 < t.cut.count) c.self.view_is c.leave_and_count-lists.ensures.left.is.lists.regions) (each g c)
 
 -- the hand has no node of its own, and none in its hand
-pub leave_and_count-lists-requires-clause-bare : goal.leave_and_count-lists-requires-clause-bare
-leave_and_count-lists-requires-clause-bare g c = seat_bare c.seat.inside.hand c.seat.view_is c.seat.invariant c.requires.free
-
 -- so the seat holds nothing in any list
-pub try_hold-tried-requires-clause-free : goal.try_hold-tried-requires-clause-free
-try_hold-tried-requires-clause-free g c = seat_left c.seat.inside.hand c.seat.view_is c.seat.invariant c.requires.free c.leave_and_count-lists.ensures.left
-
 -- the range is held
 pub returns-in-Ok : goal.returns-in-Ok
 returns-in-Ok g c =
@@ -69,12 +64,12 @@ returns-in-Ok g c =
       call = call.call;
       asks = call.asks;
       -- the seat is outside its epoch
-      outside = rests_closed c.try_hold-tried.new.hand.part c.in-Ok.ensures.tried.call.held.held.rests;
+      outside = rests_closed c.try_hold-tried.new.hand.part c.in-Ok.ensures.tried.is.call.held.held.rests;
       -- and holds the range
-      held = alone_grant (is_there c.list.ensures.list c.list.ensures.there) c.in-Ok.ensures.tried.call.held;
+      held = alone_grant (is_there c.list.ensures.list c.list.ensures.there) c.in-Ok.ensures.tried.is.call.held;
       -- in the list that it takes alone, or in list 0
       stands = subst (λ (t : TableShape). StandsIn t.cut c.args.range (counted_in c.try_hold-tried.new.hand.part.pass.standing)) c.self.view_is
-          c.in-Ok.ensures.tried.call.held.stands;
+          c.in-Ok.ensures.tried.is.call.held.stands;
       free = tt;
       cause = tt;
       told = tt;
@@ -89,24 +84,24 @@ returns-in-Ok g c =
       wide = wide g h;
       each = each g h;
       -- which are counted
-      counted = let a = c.leave_and_count-lists.ensures.counted.steps in let b = c.try_hold-tried.ensures.counted.steps in
+      counted = let a = c.leave_and_count-lists.ensures.left.counted.steps in let b = c.try_hold-tried.ensures.tried.counted.steps in
           let w = ap (λ (s : SeatState _). s.trace.taken) c.seat.view_is in omega arith;
     }
 
 -- it is between two calls
 pub invariant_of-seat : goal.invariant_of-seat
-invariant_of-seat g c = alone_seated (is_there c.list.ensures.list c.list.ensures.there) c.in-Ok.ensures.tried.call.held
+invariant_of-seat g c = alone_seated (is_there c.list.ensures.list c.list.ensures.there) c.in-Ok.ensures.tried.is.call.held
 
 -- the range is refused
 pub returns-in-Err : goal.returns-in-Err
 returns-in-Err g c =
     let h = (goal.at.returns-in-Err g c).After-list in let call = called g h in
-    let none = free_grant (is_there c.list.ensures.list c.list.ensures.there) c.in-Err.ensures.tried.call.free in record {
+    let none = free_grant (is_there c.list.ensures.list c.list.ensures.there) c.in-Err.ensures.tried.is.call.free in record {
       -- the call is one on the seat, which asks for the range alone
       call = call.call;
       asks = call.asks;
       -- the seat is outside its epoch
-      outside = rests_closed c.try_hold-tried.new.hand.part c.in-Err.ensures.tried.call.free.rests;
+      outside = rests_closed c.try_hold-tried.new.hand.part c.in-Err.ensures.tried.is.call.free.rests;
       -- and holds nothing
       held = tt;
       stands = tt;
@@ -114,15 +109,16 @@ returns-in-Err g c =
       -- the cause of the refusal, in the words of the seat
       cause = subst (λ (s : SeatState _). IsCause s (seat_state_of c.try_hold-tried.new.hand) (record { range = c.args.range; mode = c.args.mode })
           c.in-Err.why) c.seat.view_is (seat_cause_in (left g h) c.self.inside.list.cut (record { range = c.args.range; mode = c.args.mode }) c.in-Err.why
-          c.in-Err.ensures.tried.cause);
+          c.in-Err.ensures.tried.is.cause);
       -- the list that it tells is one in which the call works
       told = subst (λ (t : TableShape). TellsList t.cut c.args.range c.in-Err.why) c.self.view_is
-          (seat_told_in (left g h) c.self.inside.list.cut (record { range = c.args.range; mode = c.args.mode }) c.in-Err.why c.in-Err.ensures.tried.cause);
+          (seat_told_in (left g h) c.self.inside.list.cut (record { range = c.args.range; mode = c.args.mode }) c.in-Err.why c.in-Err.ensures.tried.is.cause);
       -- Long comes exactly where a walk of the call is spent
       long = subst (λ (s : SeatState _). IsLongRefusal c.in-Err.why ↔ IsSpentIn c.args.self.now.seats s (seat_state_of c.try_hold-tried.new.hand))
-          c.seat.view_is (seat_long_in (left g h) c.self.inside.list.cut c.args.self.now.seats (c.try_hold-tried.ensures.tried.call.work.later.seats ∙
-          (c.try_hold-tried.ensures.seats ∙ ap (λ (t : TableShape). t.seats) c.self.view_is)) (record { range = c.args.range; mode = c.args.mode }) c.in-Err.why
-          c.in-Err.ensures.tried.cause none (none_here c.try_hold-tried.new.hand.part c.in-Err.ensures.tried.call.free) c.in-Err.ensures.tried.long);
+          c.seat.view_is (seat_long_in (left g h) c.self.inside.list.cut c.args.self.now.seats (c.try_hold-tried.ensures.tried.is.call.work.later.seats ∙
+          (c.try_hold-tried.ensures.tried.is.seats ∙ ap (λ (t : TableShape). t.seats) c.self.view_is)) (record { range = c.args.range; mode = c.args.mode })
+          c.in-Err.why
+          c.in-Err.ensures.tried.is.cause none (none_here c.try_hold-tried.new.hand.part c.in-Err.ensures.tried.is.call.free) c.in-Err.ensures.tried.is.long);
       -- the ready nodes of list 0, and those of every list
       ready = ready g h 0;
       further = ready g h;
@@ -133,10 +129,11 @@ returns-in-Err g c =
       wide = wide g h;
       each = each g h;
       -- which are counted
-      counted = let a = c.leave_and_count-lists.ensures.counted.steps in let b = c.try_hold-tried.ensures.counted.steps in
+      counted = let a = c.leave_and_count-lists.ensures.left.counted.steps in let b = c.try_hold-tried.ensures.tried.counted.steps in
           let w = ap (λ (s : SeatState _). s.trace.taken) c.seat.view_is in omega arith;
     }
 
 -- it is between two calls
 pub invariant_of-seat-in-Err : goal.invariant_of-seat-in-Err
-invariant_of-seat-in-Err g c = free_seated c.try_hold-tried.new.hand.part (is_there c.list.ensures.list c.list.ensures.there) c.in-Err.ensures.tried.call.free
+invariant_of-seat-in-Err g c = free_seated c.try_hold-tried.new.hand.part (is_there c.list.ensures.list c.list.ensures.there)
+    c.in-Err.ensures.tried.is.call.free
