@@ -25,7 +25,7 @@ function take(line,    name) {
     failed = 1
 }
 
-FNR == 1 { again = FILENAME in text || FILENAME !~ /\.(rt|rs|c|h|cpp|hpp)$/; inside = 0 }
+FNR == 1 { again = FILENAME in text || FILENAME !~ /\.(rt|rt\.txt|rs|c|h|cpp|hpp)$/; inside = 0 }
 !again { line = bare($0); if (line != "" && line !~ /^\/\//) text[FILENAME] = text[FILENAME] (text[FILENAME] ? "" : "\n") line "\n"; next }
 FILENAME ~ /\.rt$/ && bare($0) !~ /^\/\/[\/!]/ { next }
 { line = bare($0); if (FILENAME ~ /\.rt$/) { sub(/^\/\/[\/!] ?/, "", line) } take(line) }

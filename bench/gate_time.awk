@@ -1,29 +1,35 @@
-# Reads lines `WORK<tab>CRATE<tab>TICKS` and writes the minutes of processor time by work, and by crate and work, beside
-# those that the table `before` has of the proofs. A process whose words could not be read has no crate.
-BEGIN {
-    while ((getline line < before) > 0) {
-        if (line ~ /^Taken at commit /) { split(line, word, /[ ,]+/); taken = word[4] }
-        if (split(line, cell, / *\| */) > 4 && cell[3] ~ /^[0-9.]+$/) was[cell[2]] = cell[3]
-    }
-}
+# Reads what `bench/figures sample` noted, and perhaps behind it what it noted beside the gate of another commit: lines
+# `WORK<tab>CRATE<tab>TICKS`, and one `whole<tab>COMMIT<tab>SECONDS<tab>PROCESSORS<tab>SPEED<tab>NAME`. Writes the minutes
+# of processor time by crate and work, beside all that the crate took at the other commit. A process whose words could not
+# be read has no crate.
+FNR == 1 { files++ }
+$1 == "whole" { commit[files] = $2; next }
 $2 ~ /[^a-z0-9_]/ { next }
-{ sum[$1] += $3; by[$2 FS $1] += $3; if ($2 != "") all[$2] += $3 }
+{ sum[files, $1] += $3; by[files, $2, $1] += $3; if ($1 != "programs") sum[files, "all"] += $3 }
+$2 != "" { by[files, $2, "all"] += $3; if (files == 1) all[$2] += $3; else was[$2] }
 END {
-    print "Minutes of processor time, sampled each second."
-    print ""
-    print "| Crate | Proofs | Tests | Edits | Proofs at commit " taken " |"
-    print "|---|---|---|---|---|"
+    before = files == 2 ? " All at commit " commit[2] " |" : ""
+    print "Minutes of processor time, sampled each second.\n"
+    print "| Crate | Proofs | Tests | Edits | All |" before
+    print "|---|---|---|---|---|" (before ? "---|" : "")
     while (1) {
         most = ""
         for (crate in all) if (most == "" || all[crate] > all[most]) most = crate
         if (most == "") break
-        printf "| `%s` | %s | %s | %s | %s |\n", most, minutes_of(most FS "proofs"), minutes_of(most FS "tests"),
-            minutes_of(most FS "edits"), was["`" most "`"]
+        row(most)
         delete all[most]
+        delete was[most]
     }
-    printf "| all | %.0f | %.0f | %.0f | %s |\n", minutes(sum["proofs"]), minutes(sum["tests"]), minutes(sum["edits"]), was["all"]
-    if (!("programs" in sum)) exit
-    printf "\nCompiling and linking programs, by other tools of the kit: %.0f.\n", minutes(sum["programs"])
+    for (crate in was) row(crate)
+    printf "| all | %.0f | %.0f | %.0f | %.0f |%s\n", minutes(sum[1, "proofs"]), minutes(sum[1, "tests"]), minutes(sum[1, "edits"]),
+        minutes(sum[1, "all"]), before ? sprintf(" %.0f |", minutes(sum[2, "all"])) : ""
+    if ((1, "programs") in sum) printf "\nCompiling and linking programs, by other tools of the kit: %.0f.\n", minutes(sum[1, "programs"])
+}
+function row(crate) {
+    print "| `" crate "` |" cell(1, crate, "proofs") cell(1, crate, "tests") cell(1, crate, "edits") cell(1, crate, "all") \
+        (before ? cell(2, crate, "all") : "")
 }
 function minutes(ticks) { return ticks / hertz / 60 }
-function minutes_of(what) { return what in by ? sprintf("%.1f", minutes(by[what])) : "" }
+function cell(file, crate, work) {
+    return ((file, crate, work) in by ? sprintf(" %.1f", minutes(by[file, crate, work])) : "") " |"
+}
