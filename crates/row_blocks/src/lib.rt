@@ -33,8 +33,3 @@ pub use removing::take_out;
 pub use splitting::split;
 pub use words::{Loads, Words};
 pub use writing::write;
-
-#[cfg(test)]
-mod fill_tests;
-#[cfg(test)]
-mod tests;

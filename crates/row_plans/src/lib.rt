@@ -13,9 +13,6 @@ mod row_words;
 mod rows;
 
 pub use plan::{Planned, plan_rows};
-pub use planning::Cut;
+pub use planning::{Cut, plan_change};
 pub use row_words::{read_row, write_row};
 pub use rows::{Found, Rows};
-
-#[cfg(test)]
-mod tests;

@@ -341,8 +341,9 @@ fn end_of(change: Change) -> u64
     }
 }
 
-/// The splice that a change makes of the rows: which go, and which come in their place.
-pub(crate) fn plan_change<R: Rows>(
+/// The splice that a change makes of the rows: which go, and which come in their place. Those that come are put into
+/// `rows`, which is emptied first and has room for the old ones and two more for each patch. It takes no memory.
+pub fn plan_change<R: Rows>(
     old: &R,
     hand: &mut R::Hand,
     change: Change,

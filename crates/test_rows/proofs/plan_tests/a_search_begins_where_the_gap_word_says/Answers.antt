@@ -2,7 +2,7 @@ use Rattle.std.proofs.Common.{sym, subst}
 use Rattle.space_model.specs.Areas.{kind_at}
 use Rattle.row_plans.specs.RowLists.{areas_from}
 use Rattle.row_plans.specs.Gaps.{IsGapWord}
-use Rattle.row_plans.proofs.tests.a_search_begins_where_the_gap_word_says.Goals as goal
+use Rattle.test_rows.proofs.plan_tests.a_search_begins_where_the_gap_word_says.Goals as goal
 
 -- the gap word of each plan is right for the rows that it leaves
 pub gap_rows_after-requires-2-clause-gap : goal.gap_rows_after-requires-2-clause-gap

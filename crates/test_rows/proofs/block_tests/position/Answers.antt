@@ -1,8 +1,8 @@
 use Rattle.std.proofs.Common.{◌+◌, ◌<◌, refl, arith}
 use Rattle.row_blocks.specs.Blocks.{blocks_of}
 use Rattle.row_blocks.proofs.Counts.{count_next, block_there}
-use Rattle.row_blocks.proofs.tests.position.Goals.{In-passed}
-use Rattle.row_blocks.proofs.tests.position.Goals as goal
+use Rattle.test_rows.proofs.block_tests.position.Goals.{In-passed}
+use Rattle.test_rows.proofs.block_tests.position.Goals as goal
 
 -- where rows are left behind a block, there is one behind it
 behind : (c : In-passed) → c.passed.i + 1 < blocks_of c.args.blocks c.args.words.now

@@ -1,6 +1,6 @@
 use Rattle.std.proofs.Common.{◌<◌, ◌≤◌, ◌-◌, drop, length}
 use Rattle.row_plans.specs.RowLists.{rows_start}
-use Rattle.row_plans.proofs.tests.find.Given as goal
+use Rattle.test_rows.proofs.plan_tests.find.Given as goal
 
 -- the row starts at or before the page
 abbrev pub invariant-rows : goal.invariant-rows

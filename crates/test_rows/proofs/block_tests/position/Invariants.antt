@@ -1,6 +1,6 @@
 use Rattle.std.proofs.Common.{◌≡◌, ◌+◌, ◌<◌}
 use Rattle.row_blocks.specs.Blocks.{blocks_of, rows_of, count_to}
-use Rattle.row_blocks.proofs.tests.position.Given as goal
+use Rattle.test_rows.proofs.block_tests.position.Given as goal
 
 -- so many blocks were passed
 abbrev pub invariant-passed : goal.invariant-passed

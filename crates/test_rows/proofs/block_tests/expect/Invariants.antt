@@ -1,6 +1,6 @@
 use Rattle.std.proofs.Common.{◌≡◌, ◌-◌, ◌<◌, ◌≤◌}
 use Rattle.row_blocks.specs.Positions.{IsRowAt}
-use Rattle.row_blocks.proofs.tests.expect.Given as goal
+use Rattle.test_rows.proofs.block_tests.expect.Given as goal
 
 -- so many rows were read, and nothing was stored
 abbrev pub invariant-rows : goal.invariant-rows

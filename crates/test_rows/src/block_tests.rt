@@ -3,10 +3,7 @@
 ghost use Rattle.std.specs.Prelude.{ℕ, ◌≡◌, ◌+◌, ◌-◌, ◌*◌, ◌<◌, ◌≤◌, length, slice_index, vec_capacity};
 ghost use Rattle.row_blocks.specs.Blocks.{IsLaidOut, blocks_of, rows_of, rows_in, rank};
 
-use crate::filling;
-use crate::positions::{Position, next, previous};
-use crate::words::{Loads, Words};
-use crate::writing::write;
+use row_blocks::{Loads, Position, Words, gather, next, previous, write};
 use std::process::Abort;
 use std::test::Fail;
 
@@ -221,7 +218,7 @@ fn expect<A: Abort>(
 {
     let rt = words.rt;
     out.clear();
-    filling::gather(bench.words.as_slice(), blocks, out);
+    gather(bench.words.as_slice(), blocks, out);
     let rows = out.as_slice();
     let mut at = Position { block: 0, place: 0 };
     let mut k = 0;
@@ -245,7 +242,7 @@ fn play<A: Abort>(words: &Plain<'_, A>, bench: &mut Bench, out: &mut Vec<u64>)
     requires wide { length bench.old.words.items ≡ 1033 }
     requires room { 379 ≤ vec_capacity out.old }
 {
-    filling::fill(bench.words.as_mut_slice(), 8, &[0]);
+    row_blocks::fill(bench.words.as_mut_slice(), 8, &[0]);
     fill(words, bench, 8, 1, 70);
     splice_at(words, bench, 8, 10, 250, &[]);
     expect(words, bench, 8, 31, out);

@@ -2,7 +2,7 @@ use Rattle.std.proofs.Common.{subst}
 use Rattle.space_model.specs.Areas.{kind_at}
 use Rattle.row_plans.specs.RowLists.{areas_from}
 use Rattle.row_plans.specs.Gaps.{IsGapWord}
-use Rattle.row_plans.proofs.tests.ReadRowsRows.gap.Goals as goal
+use Rattle.test_rows.proofs.plan_tests.ReadRowsRows.gap.Goals as goal
 
 -- the word is right for the rows
 pub returns-clause-gap : goal.returns-clause-gap

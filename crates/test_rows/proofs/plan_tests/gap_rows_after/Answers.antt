@@ -5,8 +5,8 @@ use Rattle.row_plans.specs.RowLists.{areas_from}
 use Rattle.row_plans.specs.Plans.{IsRowList, LeavesRows, spliced}
 use Rattle.row_plans.specs.Gaps.{IsGapWord}
 use Rattle.row_plans.proofs.PlanLeft.{planned_list}
-use Rattle.row_plans.proofs.tests.gap_rows_after.Goals.{In_ok-after}
-use Rattle.row_plans.proofs.tests.gap_rows_after.Goals as goal
+use Rattle.test_rows.proofs.plan_tests.gap_rows_after.Goals.{In_ok-after}
+use Rattle.test_rows.proofs.plan_tests.gap_rows_after.Goals as goal
 
 -- the rows are those after the splice
 are_spliced : (c : In_ok-after) → c.in_ok-after.after.items

@@ -1,6 +1,6 @@
 use Rattle.std.proofs.Common.{◌≡◌, ◌+◌, ◌-◌, ◌*◌, ◌<◌, ◌≤◌, length}
 use Rattle.row_blocks.specs.Blocks.{IsLaidOut, blocks_of, rows_of, rows_in}
-use Rattle.row_blocks.proofs.tests.fill.Given as goal
+use Rattle.test_rows.proofs.block_tests.fill.Given as goal
 
 -- four rows have come so many times
 abbrev pub invariant-fours : goal.invariant-fours

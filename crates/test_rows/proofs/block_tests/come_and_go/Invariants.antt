@@ -1,6 +1,6 @@
 use Rattle.std.proofs.Common.{◌≡◌, ◌-◌, ◌<◌, ◌≤◌, length}
 use Rattle.row_blocks.specs.Blocks.{IsLaidOut, blocks_of, rows_of, rows_in}
-use Rattle.row_blocks.proofs.tests.come_and_go.Given as goal
+use Rattle.test_rows.proofs.block_tests.come_and_go.Given as goal
 
 -- as many rows stand there as before
 abbrev pub invariant-places : goal.invariant-places

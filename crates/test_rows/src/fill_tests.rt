@@ -3,7 +3,7 @@
 ghost use Rattle.std.specs.Prelude.{◌<◌, ◌≤◌, ◌≡◌, length};
 ghost use Rattle.page_types.specs.declared.TheConstants.{ROWS};
 
-use crate::filling::{blocks_for, fill, gather};
+use row_blocks::{blocks_for, fill, gather};
 use std::alloc::{AllocError, Global};
 use std::process::Abort;
 use std::test::Fail;

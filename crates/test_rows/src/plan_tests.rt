@@ -1,3 +1,5 @@
+//! Plans over rows in a list of one's own: two patches at once, what they join, and searches by the gap word. A reader
+//! may rely on what the trait `Rows` asks being met by that list.
 ghost use Rattle.std.specs.Prelude.{◌≡◌, ◌≤◌, ◌<◌, ◌+◌, IfOk, IsTrue, length, drop, slice_index};
 ghost use Rattle.page_types.specs.declared.TheConstants.{LIMIT};
 ghost use Rattle.page_types.specs.Named.{IsNamedCall};
@@ -8,26 +10,17 @@ ghost use Rattle.row_plans.specs.RowLists.{rows_start, areas_from};
 ghost use Rattle.row_plans.specs.Plans.{IsRowList, spliced};
 ghost use Rattle.row_plans.specs.Gaps.{IsGapWord};
 
-use crate::gaps::{GAP_PAGES, window_by};
-use crate::plan::plan_rows;
-use crate::planning::{Cut, plan_change};
-use crate::row_words::{read_row, write_row};
-use crate::rows::{Found, Rows};
+use crate::starts::no_areas;
 use page_types::{Call, Kind, LIMIT, LOW, MapFlags, PAGE, Prot, ROWS, Reply, SPARE};
+use row_plans::{Cut, Found, Rows, plan_change, plan_rows, read_row};
 use space_model::{Change, Paint, Patch};
 use std::alloc::{AllocError, Global};
 use std::marker::Model;
 use std::process::Abort;
 use std::test::Fail;
 
-/// The rows of a space in which nothing is mapped.
-fn no_areas(alloc: Global) -> Result<Vec<u64>, AllocError>
-    ensures { IfOk result (λ rows. IsRowList rows.items) }
-{
-    let mut rows = Vec::new(alloc);
-    rows.push(write_row(0, None))?;
-    Ok(rows)
-}
+/// A gap word has the pages of a search below this, and the page at which it may begin above.
+const GAP_PAGES: u64 = 268_435_456;
 
 /// The row that has a page.
 fn find(rows: &[u64], page: u64) -> Found<u32>
@@ -386,7 +379,6 @@ fn a_search_begins_where_the_gap_word_says(rt: HostRuntime) -> Result<(), Fail> 
     assert_eq!(rt; one.len(), 3);
     assert_eq!(rt; read_row(one[1]), (LOW - 16, kind(Prot::READ)));
     assert_eq!(rt; after_one, (LOW - 16) * GAP_PAGES + 16);
-    assert_eq!(rt; window_by(after_one, LOW, 16), LOW - 16);
     // so the next ones are found below them
     let (two, after_two) = gap_rows_after(rt.alloc(), one.as_slice(), after_one, &any)?;
     assert_eq!(rt; two.len(), 3);
