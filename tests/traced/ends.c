@@ -1,0 +1,24 @@
+/* A program that ends at once, or as its word says: by SIGKILL, with a child that goes on for a while, by the system call
+   exit of its one thread, or with a status. */
+#define _GNU_SOURCE
+#include <signal.h>
+#include <stdlib.h>
+#include <string.h>
+#include <sys/syscall.h>
+#include <unistd.h>
+
+int main(int words, char **word)
+{
+    if (words < 2)
+        return 0;
+    if (strcmp(word[1], "killed") == 0)
+        kill(getpid(), SIGKILL);
+    if (strcmp(word[1], "forks") == 0) {
+        if (fork() == 0)
+            sleep(5);
+        return 0;
+    }
+    if (strcmp(word[1], "otherwise") == 0)
+        syscall(SYS_exit, 0);
+    return atoi(word[1]);
+}
