@@ -268,7 +268,8 @@ step_of call is = record {
 
 -- a load of the number word is a look
 pub look_is : (place : ℕ) {s u : SeatState Pass} (found : ℕ) → s.pass.keeps ≡ true → s.pass.blocks ≡ blocks_by s.table
-    → place ≡ number_place (blocks_by s.table) → IsClientCall s place u → IsMade HasHistory Allowed no_note s.number s.held s.pass (loads place) found u.pass → IsLook s found u
+    → place ≡ number_place (blocks_by s.table) → IsClientCall s place u
+    → IsMade HasHistory Allowed no_note s.number s.held s.pass (loads place) found u.pass → IsLook s found u
 look_is place {s} {u} found kept blocks at call made =
     let m = made.3 in let here = made.5.0 in
     let same : here.pass ≡ s.pass = some-injective here.pass s.pass (sym here.own ∙ m.own) in

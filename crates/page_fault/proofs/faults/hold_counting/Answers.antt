@@ -25,8 +25,9 @@ returns-clause-called g c =
 
 -- the page is held
 pub returns-clause-held : goal.returns-clause-held
-returns-clause-held g c = c.answer_held.ensures.held ∙ (c.acquire.ensures.held ∙ ap Some (span_page c.args.mode c.args.addr c.args.access c.access_of-access.result.0 c.access_of-access.result.1
-    c.access_of-access.ensures))
+returns-clause-held g c =
+    let page = span_page c.args.mode c.args.addr c.args.access c.access_of-access.result.0 c.access_of-access.result.1 c.access_of-access.ensures in
+    c.answer_held.ensures.held ∙ (c.acquire.ensures.held ∙ ap Some page)
 
 -- that page is all that is asked for
 pub returns-clause-asks : goal.returns-clause-asks
