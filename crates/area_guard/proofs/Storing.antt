@@ -1,7 +1,8 @@
 -- A run is legal, and the history of the rule is stored once.
-use Rattle.std.proofs.Common.{◌≡◌, ℕ, zero, suc, ◌+◌, ◌<◌, Bool, true, false, cond, eqb, List, [], ◌∷◌, ◌++◌, length}
+use Rattle.std.proofs.Common.{◌≡◌, ℕ, zero, suc, ◌+◌, ◌*◌, ◌%◌, ◌^◌, ◌<◌, ◌≤◌, set, true≢false, Bool, true, false, cond, eqb, List, [], ◌∷◌, ◌++◌, length}
 use Rattle.std.proofs.Common.{sym, refl, ap, ◌∙◌, subst, arith, inl, inr, ⊎_elim}
 use Rattle.std.proofs.lemmas.Bool.{cases_lt}
+use Rattle.std.proofs.lemmas.List.{get_or-set_other}
 use mathlib.Core.Option.{some, some-injective, some-ne-none}
 use lib.ListN.{get_elem?}
 use Rattle.space_model.specs.declared.areas.Area.{Area}
@@ -13,19 +14,20 @@ use Rattle.area_guard.specs.declared.guard.Note.{Note}
 use Rattle.area_guard.specs.declared.guard.Pending.{Pending}
 use Rattle.area_guard.specs.declared.guard.Pending.TheVariants.{AtRest, Planned, OneRow}
 use Rattle.area_guard.specs.History.{FitsAndReplies, entries_of, entry_of, rows_after, HoldsFor, IsOwed, IsRunningSpace, Backs, AreBacked, Here}
-use Rattle.area_guard.specs.History.{Allowed, IsNew, MayLoad, MayStore, MayWrite, MayAdd}
+use Rattle.area_guard.specs.History.{Allowed, HasBlocks, HasDrawn, IsNew, MayLoad, MayStore, MayWrite, MayAdd}
 use Rattle.area_guard.specs.History.MayLoad.{number, glance, sequence, layout, gap_word, row}
 use Rattle.area_guard.specs.History.MayStore.{store_row, store_count, store_gap, store_layout}
 use Rattle.area_guard.specs.History.MayAdd.{draw, raise}
 use Rattle.area_guard.specs.declared.guard.Splice.{Splice}
 use Rattle.area_guard.specs.Rows.{nb_in, number_place, IsLayoutPlace}
-use Rattle.area_guard.specs.Draws.{draw_seen, draw_drew, draw_since, leaves_plan}
+use Rattle.area_guard.specs.Draws.{none_else, draw_seen, draw_drew, draw_since, leaves_plan}
 use Rattle.lock_core.specs.Grants.{Grants}
 use Rattle.lock_core.specs.Client.{ClientStep, loads, stores, adds, exchanges}
 use Rattle.lock_core.specs.declared.range.Held.{Held}
-use Rattle.std.specs.Prelude.{Option}
+use Rattle.std.specs.Prelude.{Option, slice_index}
 use Rattle.area_guard.specs.Stored.{Stores, IsStoredOnce, IsStored, HistoryIsStored, IsOfWhole, CountIsOfWhole, LayoutIsOfWhole}
-use Rattle.area_guard.specs.Stored.{StoresAreNew, RunsAreLegal, DrawsHold, KeepsDraw, IsNoDraw, LastDrawIsKept, StepsAreCounted}
+use Rattle.area_guard.specs.Stored.{StoresAreNew, RunsAreLegal, DrawsHold, KeepsDraw, IsDraw, LastDrawIsKept, StepsAreCounted, WordStands, KeptWordStands}
+use Rattle.area_guard.specs.Stands.{keeps_stays}
 use Rattle.lock_core.proofs.ByPlace.{there}
 use Rattle.area_guard.proofs.Entries.{runs_number, own_at, at_own}
 
@@ -100,7 +102,7 @@ module _ (grants : Grants) (start : List Area) (history : List Entry) (state : L
     pending = λ worker pass at. (backed worker pass at).pending;
     owed = λ worker pass at. (r.parts worker pass at).owed;
     sequence = r.sequence;
-    count = sym r.number;
+    count = λ keeps. sym (r.number keeps);
     numbered = number_at;
     once = stored;
     no_other = λ worker place e s. (stands_in worker place e s).0;
@@ -166,24 +168,38 @@ pub layout_stores : LayoutIsOfWhole
 layout_stores grants words passes worker place value note after at may =
     layout_of grants words passes worker place value may.0 may.0.pass.pending after at refl may.1
 
-hold_of : (grants : Grants) (words : List ℕ) (passes : List Pass) (worker : ℕ) (note : Note)
-    (here : Here grants words passes worker) (after : Pass) → MayAdd grants words passes worker note here (number_place (nb_in words)) after
-    → (held : Option Held) × (get_elem? grants worker ≡ some held) × HoldsFor held note.under × (after.drew ≡ held)
-    × (history : List Entry) × (after.seen ≡ history ++ entry_of (length history) worker note ∷ [])
-hold_of grants words passes worker note here after (raise plan e pends written right is) = absurd (omega arith)
-hold_of grants words passes worker note here after (draw e d is) =
-    let f = entry_of (length here.history) worker note in (
-      d.held.0,
-      d.held.1,
-      d.held.2,
-      ap (λ (p : Pass). p.drew) is ∙ draw_drew here.history f d.held.0 here.pass note.pending,
-      here.history,
-      ap (λ (p : Pass). p.seen) is ∙ draw_seen here.history f d.held.0 here.pass note.pending,
-    )
+-- a step that draws a number is an addition that draws one, or a load that does
+add_draws : {grants : Grants} {words : List ℕ} {passes : List Pass} {worker : ℕ} {note : Note} {here : Here grants words passes worker} {after : Pass}
+    {place : ℕ} → place ≡ number_place (nb_in words) → MayAdd grants words passes worker note here place after
+    → HasDrawn grants words passes worker note here after
+add_draws at (raise plan e pends written right is) = absurd (omega arith)
+add_draws at (draw e keeps drew) = drew
+
+-- so a caller that makes such a step has drawn a number
+step_draws : (grants : Grants) (words : List ℕ) (passes : List Pass) (worker : ℕ) (step : ClientStep) (note : Note) (after : Pass)
+    → IsDraw words step → Allowed grants words passes worker step note after
+    → (here : Here grants words passes worker) × HasDrawn grants words passes worker note here after
+step_draws grants words passes worker (loads i) note after is may =
+    let has = (may.0.running.parts worker may.0.pass may.0.own).room in
+    (may.0, ⊎_elim (λ load. absurd (none_else (has.2 ∙ is.1) (is.0 ∙ ap number_place (sym has.0)) load)) (λ q. q.drawn) may.1)
+step_draws grants words passes worker (stores i value) note after is may = absurd is
+step_draws grants words passes worker (adds i by) note after is may = (may.1, add_draws is may.2)
+step_draws grants words passes worker (exchanges i expected new) note after is may = absurd is
 
 -- each draw is made by a caller that holds what its entry names
 pub all_hold : DrawsHold
-all_hold grants words passes worker by note after may = hold_of grants words passes worker note may.1 after may.2
+all_hold grants words passes worker step note after is may =
+    let drew = step_draws grants words passes worker step note after is may in
+    let here = drew.0 in
+    let d = drew.1.0 in
+    let f = entry_of (length here.history) worker note in (
+      d.held.0,
+      d.held.1,
+      subst (λ (keeps : Bool). HoldsFor keeps d.held.0 note.under) (here.running.parts worker here.pass here.own).room.2 d.held.2,
+      ap (λ (p : Pass). p.drew) drew.1.1 ∙ draw_drew here.history f d.held.0 here.pass note.pending,
+      here.history,
+      ap (λ (p : Pass). p.seen) drew.1.1 ∙ draw_seen here.history f d.held.0 here.pass note.pending,
+    )
 
 -- one step more since the last draw, with the same entries
 abbrev Counts : Pass → Pass → Type 0
@@ -195,7 +211,7 @@ same_draw p q after is m d s = (record { mine = ap (λ (x : Pass). x.mine) is �
 
 load_keeps : (own : Option Held → Type 0) (free held : Type 0) (words : List ℕ) (history : List Entry) (place : ℕ) (p after : Pass)
     → MayLoad own free held words history place p after → Counts p after
-load_keeps own free held words history place p after (number h o e is) = same_draw p _ after is refl refl refl
+load_keeps own free held words history place p after (number h o k e is) = same_draw p _ after is refl refl refl
 load_keeps own free held words history place p after (glance f e is) = same_draw p _ after is refl refl refl
 load_keeps own free held words history place p after (sequence h e is) = same_draw p _ after is refl refl refl
 load_keeps own free held words history place p after (layout h e is) = same_draw p _ after is refl refl refl
@@ -216,21 +232,26 @@ write_keeps words (OneRow c) place value p after may = same_draw p _ after may.3
 raise_keeps : (grants : Grants) (words : List ℕ) (passes : List Pass) (worker place : ℕ) (note : Note)
     (here : Here grants words passes worker) (after : Pass) → (place ≡ number_place (nb_in words) → ⊥)
     → MayAdd grants words passes worker note here place after → Counts here.pass after
-raise_keeps grants words passes worker place note here after differ (draw e d is) =
+raise_keeps grants words passes worker place note here after differ (draw e keeps drew) =
     absurd (differ (e ∙ ap number_place (here.running.parts worker here.pass here.own).room.0))
 raise_keeps grants words passes worker place note here after differ (raise plan e pends written right is) = same_draw here.pass _ after is refl refl refl
 
 -- a step of a caller at a moment, from the pass that it has there
 step_keeps : (grants : Grants) (words : List ℕ) (passes : List Pass) (worker : ℕ) (step : ClientStep) (note : Note) (after : Pass)
-    → IsNoDraw words step → Allowed grants words passes worker step note after → (here : Here grants words passes worker) × Counts here.pass after
-step_keeps grants words passes worker (loads i) note after other may = (may.0, load_keeps _ _ _ words may.0.history i may.0.pass after may.1)
+    → ¬ IsDraw words step → Allowed grants words passes worker step note after → (here : Here grants words passes worker) × Counts here.pass after
+step_keeps grants words passes worker (loads i) note after other may =
+    let blocks = (may.0.running.parts worker may.0.pass may.0.own).room in (
+      may.0,
+      ⊎_elim (λ load. load_keeps _ _ _ words may.0.history i may.0.pass after load)
+          (λ q. absurd (other (q.number ∙ ap number_place blocks.0, sym blocks.2 ∙ q.unkept))) may.1,
+    )
 step_keeps grants words passes worker (stores i value) note after other may = (may.0, write_keeps words may.0.pass.pending i value may.0.pass after may.1)
 step_keeps grants words passes worker (adds i by) note after other may = (may.1, raise_keeps grants words passes worker i note may.1 after other may.2)
 step_keeps grants words passes worker (exchanges i expected new) note after other may = absurd may
 
 -- the same from the pass that the caller is known to have
 counts_of : (grants : Grants) (words : List ℕ) (passes : List Pass) (worker : ℕ) (step : ClientStep) (note : Note) (pass after : Pass)
-    → get_elem? passes worker ≡ some pass → IsNoDraw words step → Allowed grants words passes worker step note after → Counts pass after
+    → get_elem? passes worker ≡ some pass → ¬ IsDraw words step → Allowed grants words passes worker step note after → Counts pass after
 counts_of grants words passes worker step note pass after own other may =
     let k = step_keeps grants words passes worker step note after other may in
     subst (λ (x : Pass). Counts x after) (some-injective k.0.pass pass (sym k.0.own ∙ own)) k.1
@@ -240,19 +261,49 @@ pub draw_kept : LastDrawIsKept
 draw_kept grants words passes worker step note pass after own other may =
     ((counts_of grants words passes worker step note pass after own other may).0, record { mine = refl; drew = refl })
 
--- a draw begins the count of steps anew
-begins_anew : (grants : Grants) (words : List ℕ) (passes : List Pass) (worker : ℕ) (note : Note) (here : Here grants words passes worker)
-    (after : Pass) → MayAdd grants words passes worker note here (number_place (nb_in words)) after → after.since ≡ 0
-begins_anew grants words passes worker note here after (raise plan e pends written right is) = absurd (omega arith)
-begins_anew grants words passes worker note here after (draw e d is) =
-    ap (λ (p : Pass). p.since) is ∙ draw_since here.history (entry_of (length here.history) worker note) d.held.0 here.pass note.pending
-
--- and every other step is counted
+-- a draw begins the count of steps anew, and every other step is counted
 pub all_counted : StepsAreCounted
 all_counted grants words passes worker step note pass after own may = (
   λ other. (counts_of grants words passes worker step note pass after own other may).1,
-  λ by is.
-      let m = subst (λ (s : ClientStep). Allowed grants words passes worker s note after) is may in
-      begins_anew grants words passes worker note m.1 after m.2,
+  λ is.
+      let d = step_draws grants words passes worker step note after is may in
+      ap (λ (p : Pass). p.since) d.1.1
+      ∙ draw_since d.0.history (entry_of (length d.0.history) worker note) d.1.0.held.0 d.0.pass note.pending,
   refl,
 )
+
+-- what is written goes before the number word
+writes_low : (words : List ℕ) (pending : Pending) (place value : ℕ) (p after : Pass) → p.blocks ≡ nb_in words → MayWrite words pending place value p after
+    → place < 4 + 129 * nb_in words
+writes_low words AtRest place value p after nb may = absurd may
+writes_low words (Planned plan) place value p after nb (store_row index slot e v is, new) = omega arith
+writes_low words (Planned plan) place value p after nb (store_count e v is, new) = omega arith
+writes_low words (Planned plan) place value p after nb (store_gap e is, new) = omega arith
+writes_low words (Planned plan) place value p after nb (store_layout index few e is, new) = omega arith
+writes_low words (OneRow c) place value p after nb may = let e = may.0 in let few = may.2.there in omega arith
+
+-- a store before the number word leaves it, and the word that tells whether the history is kept
+low_stands : (words : List ℕ) (place value : ℕ) → 36 + 129 * nb_in words ≤ length words → place < 4 + 129 * nb_in words
+    → WordStands words (set words place value)
+low_stands words place value wide low =
+    (keeps_stays words place value (omega arith), λ unkept. get_or-set_other words place (number_place (nb_in words)) value 0 (λ e. omega arith))
+
+-- so does each addition
+adds_stand : {grants : Grants} {words : List ℕ} {passes : List Pass} {worker : ℕ} {note : Note} {here : Here grants words passes worker} {after : Pass}
+    {place : ℕ} (value : ℕ) → HasBlocks words here.pass.blocks here.pass.keeps → MayAdd grants words passes worker note here place after
+    → WordStands words (set words place value)
+adds_stand {words} value has (raise plan e pends written right is) =
+    subst (λ (n : ℕ). WordStands words (set words n value)) (sym e) (low_stands words 1 value has.1 (omega arith))
+adds_stand {words} {place} value has (draw e keeps drew) = let blocks = has.0 in let wide = has.1 in
+    (keeps_stays words place value (omega arith), λ unkept. absurd (true≢false (sym keeps ∙ (has.2 ∙ unkept))))
+
+-- no allowed step stores them
+pub all_stand_still : KeptWordStands
+all_stand_still grants words passes worker (loads i) note after may = (refl, λ unkept. refl)
+all_stand_still grants words passes worker (stores i value) note after may =
+    let here = may.0 in let has = (here.running.parts worker here.pass here.own).room in
+    low_stands words i value has.1 (writes_low words here.pass.pending i value here.pass after has.0 may.1)
+all_stand_still grants words passes worker (adds i by) note after may =
+    let here = may.1 in
+    adds_stand ((slice_index words i + by) % 2 ^ 64) (here.running.parts worker here.pass here.own).room may.2
+all_stand_still grants words passes worker (exchanges i expected new) note after may = absurd may

@@ -1,7 +1,7 @@
 -- That a draw of a number keeps the rule: the history grows by the entry, and what its call leaves is to be written.
 -- These are parts of the proofs in `Keeping`; a reader who trusts the check may pass them over.
 use Rattle.std.specs.Prelude.{All, Option, None, slice_index}
-use Rattle.std.proofs.Common.{◌≡◌, ◌≢◌, ℕ, ◌+◌, ◌*◌, ◌%◌, ◌^◌, ◌<◌, ◌≤◌, inl, inr, List, [], ◌∷◌, ◌++◌, length, set, sym, refl}
+use Rattle.std.proofs.Common.{Bool, true, false, true≢false, ◌⊎◌, ◌≡◌, ◌≢◌, ℕ, ◌+◌, ◌*◌, ◌<◌, ◌≤◌, inl, inr, List, [], ◌∷◌, ◌++◌, length, set, sym, refl}
 use Rattle.std.proofs.Common.{ap, ◌∙◌, subst, arith, length-set, length-append, append_assoc, ⊎_elim}
 use Rattle.std.proofs.lemmas.List.{append-nil, get_or-set_same, get_or-set_other}
 use Rattle.std.proofs.lemmas.List.Elements.{All-nil, All-weaker}
@@ -26,9 +26,9 @@ use Rattle.space_model.proofs.Histories.{runs_more}
 use Rattle.space_model.proofs.SomeAnswer.{leaves_areas}
 use Rattle.space_model.proofs.TwiceOnce.{spare_rows}
 use Rattle.lock_core.specs.Grants.{Grants, Holds, IsExclusive}
-use Rattle.lock_core.specs.Client.{adds, words_after}
 use Rattle.lock_core.specs.declared.range.Held.{Held}
 use Rattle.area_guard.specs.declared.guard.Change.{Change}
+use Rattle.area_guard.specs.declared.guard.Note.{Note}
 use Rattle.area_guard.specs.declared.guard.Pass.{Pass}
 use Rattle.area_guard.specs.declared.guard.Pending.{Pending}
 use Rattle.area_guard.specs.declared.guard.Splice.{Splice}
@@ -36,16 +36,17 @@ use Rattle.area_guard.specs.declared.guard.Pending.TheVariants.{AtRest, Planned,
 use Rattle.row_plans.specs.Plans.{PlanShows}
 use Rattle.row_plans.specs.Gaps.{IsGapWord}
 use Rattle.row_plans.proofs.GapWords.{gap_less}
-use Rattle.area_guard.specs.Rows.{nb_in, number_place, room_of}
+use Rattle.area_guard.specs.Rows.{nb_in, keeps_in, number_place, room_of}
 use Rattle.area_guard.specs.Reads.{everything, StillStands}
 use Rattle.area_guard.specs.Changes.{alone, IsChange}
 use Rattle.area_guard.specs.History.{with_whole, IsPart, planned_calls, own_planned, planned_count, HoldsPages, IsShown}
 use Rattle.area_guard.specs.History.{RowsStandFor, IsRunningSpace, Backs, IsBacked, AreBacked, HoldsFor, Leaves, after_draw}
-use Rattle.area_guard.specs.History.{Runs, IsRight, FitsIn, IsOfLastEntry, IsOwed, rows_after}
+use Rattle.area_guard.specs.History.MayLoad.{number, glance, sequence, layout, gap_word, row}
+use Rattle.area_guard.specs.History.{Here, MayLoad, IsQuietDraw, Runs, IsRight, FitsIn, IsOfLastEntry, IsOwed, rows_after}
 use Rattle.area_guard.specs.Replies.{all_more, reply_named, left_named, left_few}
-use Rattle.area_guard.specs.Stands.{nb_stays, room_stays, layout_beside, HasSameWords, exact_stands, all_stand, rows_beside, shown_set}
+use Rattle.area_guard.specs.Stands.{nb_stays, keeps_stays, room_stays, layout_beside, HasSameWords, exact_stands, all_stand, rows_beside, shown_set}
 use Rattle.area_guard.specs.Slots.{slot_in}
-use Rattle.area_guard.specs.Parts.{own_more, own_same, count_set, most_set, room_kept, rows_fit_more, no_wrap}
+use Rattle.area_guard.specs.Parts.{own_more, own_same, count_set, most_set, room_kept, rows_fit_more}
 use Rattle.area_guard.specs.Parts.{whole_more, none_planned, planned_set, resting_of, none_is}
 use Rattle.area_guard.specs.Writes.{everything_pages, span_pages, clash, held_is, plan_length}
 use Rattle.area_guard.specs.RowStores.{in_or_out, shown_after_draw, others_back}
@@ -93,9 +94,9 @@ leaves_change state left (Area span) c l = (span, refl, l)
 leaves_change state left Whole c l = absurd l
 
 -- whose caller holds its span
-held_alone : (grants : Grants) (worker : ℕ) (h : Option Held) (under : Under) (span : Span) → under ≡ Area span
-    → get_elem? grants worker ≡ some h → HoldsFor h under → Holds grants worker (alone span)
-held_alone grants worker h under span is at holds = let e : HoldsFor h (Area span) = subst (HoldsFor h) is holds in at ∙ ap some e
+held_alone : (grants : Grants) (worker : ℕ) (keeps : Bool) (h : Option Held) (under : Under) (span : Span) → under ≡ Area span
+    → get_elem? grants worker ≡ some h → HoldsFor keeps h under → Holds grants worker (alone span)
+held_alone grants worker keeps h under span is at holds = let e : HoldsFor keeps h (Area span) = subst (HoldsFor keeps h) is holds in at ∙ ap some e
 
 module _ (history : List Entry) (e : Entry) (held : Option Held) (p : Pass) where
   pub draw_pending : (pending : Pending) → (after_draw history e pending held p).pending ≡ pending
@@ -122,6 +123,11 @@ module _ (history : List Entry) (e : Entry) (held : Option Held) (p : Pass) wher
   draw_blocks AtRest = refl
   draw_blocks (Planned plan) = refl
   draw_blocks (OneRow c) = refl
+
+  pub draw_keeps : (pending : Pending) → (after_draw history e pending held p).keeps ≡ p.keeps
+  draw_keeps AtRest = refl
+  draw_keeps (Planned plan) = refl
+  draw_keeps (OneRow c) = refl
 
   pub draw_most : (pending : Pending) → (after_draw history e pending held p).most ≡ p.most
   draw_most AtRest = refl
@@ -240,7 +246,7 @@ own_part start history state left words value worker p e (OneRow c) held is few 
 -- what the rows show after a draw, where no plan is to be written
 shown_drawn : (grants : Grants) (history : List Entry) (state left : List Areas) (words : List ℕ) (passes : List Pass)
     (worker value : ℕ) (p : Pass) (e : Entry) (pending : Pending) (held : Option Held)
-    → AreBacked grants words state passes → IsExclusive grants → get_elem? grants worker ≡ some held → HoldsFor held e.under
+    → AreBacked grants words state passes → IsExclusive grants → get_elem? grants worker ≡ some held → HoldsFor p.keeps held e.under
     → get_elem? passes worker ≡ some p → p.pending ≡ AtRest → Leaves state e.under pending left → planned_calls pending ≡ 0 → RowsStandFor state passes words
     → RowsStandFor left (set passes worker (after_draw history e pending held p)) (numbered words value)
 shown_drawn grants history state left words passes worker value p e AtRest held backed exclusive has holds at rest leaves none s =
@@ -256,7 +262,7 @@ shown_drawn grants history state left words passes worker value p e (OneRow c) h
     let l = leaves_change state left e.under c leaves in (
       s.0,
       shown_after_draw grants state left passes worker p q l.0 c words backed exclusive at
-          (held_alone grants worker held e.under l.0 l.1 has holds) l.2 s.0 rest refl s.1,
+          (held_alone grants worker p.keeps held e.under l.0 l.1 has holds) l.2 s.0 rest refl s.1,
       rows_beside words (number_place (nb_in words)) value s.0 (inr (omega arith)) (omega arith) s.2,
     )
 
@@ -272,20 +278,20 @@ gap_drawn state left under (OneRow c) word leaves none right =
     (λ page low free. in_or_out c.place page (kind_at state page ≡ None) (λ i. absurd (none_is c.new (sym free ∙ change.after page i)))
     (λ out. sym (change.elsewhere page out) ∙ free)) right
 
--- a draw of a number
+-- a draw of a number: where the space keeps its history the number word counts one entry more, and otherwise it may be
+-- what it was
 module _ (grants : Grants) (start : List Areas) (history : List Entry) (state left : List Areas) (words : List ℕ)
     (passes : List Pass) (worker : ℕ) (p : Pass) (e : Entry) (pending : Pending) (held : Option Held)
     (r : IsRunningSpace start history state words passes) (backed : AreBacked grants words state passes)
-    (exclusive : IsExclusive grants) (has : get_elem? grants worker ≡ some held) (holds : HoldsFor held e.under)
+    (exclusive : IsExclusive grants) (has : get_elem? grants worker ≡ some held) (holds : HoldsFor p.keeps held e.under)
     (at : get_elem? passes worker ≡ some p) (num : e.number ≡ length history) (is : e.worker ≡ worker)
     (leaves : Leaves state e.under pending left) (rest : p.pending ≡ AtRest) where
-  pub drawn : IsNamedCall e.call → FitsUnder state e.call e.under → Answers state e.call e.reply left → length p.mine + 1 ≤ p.most
-      → IsRunningSpace start (history ++ e ∷ []) left (words_after words (adds (number_place (nb_in words)) 1))
-      (set passes worker (after_draw history e pending held p))
-  drawn call fits answers few =
+  pub drawn : (value : ℕ) → (keeps_in words ≡ true → value ≡ length history + 1) → IsNamedCall e.call → FitsUnder state e.call e.under
+      → Answers state e.call e.reply left → length p.mine + 1 ≤ p.most
+      → IsRunningSpace start (history ++ e ∷ []) left (numbered words value) (set passes worker (after_draw history e pending held p))
+  drawn value counts call fits answers few =
       let q : Pass = after_draw history e pending held p in
       let place : ℕ = number_place (nb_in words) in
-      let value = (slice_index words place + 1) % 2 ^ 64 in
       let wide : length (set passes worker q) ≡ length passes = length-set passes worker q in
       let more : length (history ++ e ∷ []) ≡ length history + 1 = length-append history (e ∷ []) in
       let pends : planned_count (set passes worker q) ≡ planned_count passes + planned_calls pending =
@@ -305,8 +311,9 @@ module _ (grants : Grants) (start : List Areas) (history : List Entry) (state le
         named = left_named state left e.call e.reply r.named call answers;
         limit = left_few state left e.call e.reply r.limit answers;
         grown = let g = r.grown in omega arith;
-        number = ap (λ (n : ℕ). slice_index (numbered words value) (number_place n)) same
-            ∙ (get_or-set_same words place value 0 there ∙ (let w = no_wrap start history state words passes r in omega arith));
+        number = λ keeps. ap (λ (n : ℕ). slice_index (numbered words value) (number_place n)) same
+            ∙ (get_or-set_same words place value 0 there
+            ∙ (counts (sym (keeps_stays words place value (omega arith)) ∙ keeps) ∙ sym more));
         sequence = let g : slice_index (numbered words value) 1 ≡ slice_index words 1 =
             get_or-set_other words place 1 value 0 (λ e. omega arith) in let s = r.sequence in let m = whole_more history e in
             let c = leaves_counts state left e.under pending leaves in omega arith;
@@ -324,6 +331,28 @@ module _ (grants : Grants) (start : List Areas) (history : List Entry) (state le
         no_other = λ other le. let b = below passes worker p at in own_same other history e (λ w. omega arith) ∙ r.no_other other (omega arith);
         total = let s = count_set passes worker p q 1 at grown in omega arith;
       }
+
+-- a load of another word than the number word draws nothing
+pub only_load : {grants : Grants} {words : List ℕ} {passes : List Pass} {worker : ℕ} {note : Note} {here : Here grants words passes worker} {place : ℕ}
+    {after : Pass} {A : Type 0} → (place ≡ number_place here.pass.blocks → ⊥) → A ⊎ IsQuietDraw grants words passes worker note here place after → A
+only_load differ (inl load) = load
+only_load differ (inr q) = absurd (differ q.number)
+
+-- nor does one where the space keeps its history
+pub kept_load : {grants : Grants} {words : List ℕ} {passes : List Pass} {worker : ℕ} {note : Note} {here : Here grants words passes worker} {place : ℕ}
+    {after : Pass} {A : Type 0} → here.pass.keeps ≡ true → A ⊎ IsQuietDraw grants words passes worker note here place after → A
+kept_load keeps (inl load) = load
+kept_load keeps (inr q) = absurd (true≢false (sym keeps ∙ q.unkept))
+
+-- where the space keeps no history no other load than a draw is one of the number word
+pub none_else : {own : Option Held → Type 0} {free held : Type 0} {words : List ℕ} {history : List Entry} {place : ℕ} {p after : Pass}
+    → p.keeps ≡ false → place ≡ number_place p.blocks → MayLoad own free held words history place p after → ⊥
+none_else unkept at (number h o keeps e is) = true≢false (sym keeps ∙ unkept)
+none_else unkept at (glance f e is) = omega arith
+none_else unkept at (sequence h e is) = omega arith
+none_else unkept at (layout h among is) = ⊎_elim (λ two. omega arith) (λ t. let a = t.1 in omega arith) among
+none_else unkept at (gap_word h e is) = omega arith
+none_else unkept at (row i h few e is) = omega arith
 
 -- there is room for what a draw leaves to be written
 pub plan_fits : (start : List Areas) (history : List Entry) (state left : List Areas) (words : List ℕ) (passes : List Pass)
@@ -402,12 +431,12 @@ module _ (grants : Grants) (start : List Areas) (history : List Entry) (state le
   others_rest worker other (Planned plan) differ held b = absurd (clash grants worker other exclusive differ held (everything, b.0, everything_pages))
   others_rest worker other (OneRow c) differ held b = absurd (clash grants worker other exclusive differ held (alone c.span, b.0, span_pages c.span))
 
-  held_whole : (worker : ℕ) (h : Option Held) (under : Under) → under ≡ Whole → get_elem? grants worker ≡ some h
-      → HoldsFor h under → Holds grants worker everything
-  held_whole worker h under whole at holds = let is : HoldsFor h Whole = subst (HoldsFor h) whole holds in at ∙ ap some is
+  held_whole : (worker : ℕ) (keeps : Bool) (h : Option Held) (under : Under) → under ≡ Whole → get_elem? grants worker ≡ some h
+      → HoldsFor keeps h under → Holds grants worker everything
+  held_whole worker keeps h under whole at holds = let is : HoldsFor keeps h Whole = subst (HoldsFor keeps h) whole holds in at ∙ ap some is
 
   pub drawn_backed : (worker : ℕ) (p : Pass) (e : Entry) (under : Under) (pending : Pending) (h : Option Held)
-      → get_elem? passes worker ≡ some p → get_elem? grants worker ≡ some h → HoldsFor h under → Leaves state under pending left
+      → get_elem? passes worker ≡ some p → get_elem? grants worker ≡ some h → HoldsFor p.keeps h under → Leaves state under pending left
       → AreBacked grants (numbered words value) left (set passes worker (after_draw history e pending h p))
   drawn_backed worker p e under AtRest h at has holds leaves other x there =
       ⊎_elim (λ t. subst (λ (z : ℕ × Pass). IsBacked grants (numbered words value) left z.0 z.1) (λ i. (sym t.0 i, t.1 i))
@@ -416,7 +445,7 @@ module _ (grants : Grants) (start : List Areas) (history : List Entry) (state le
       (sym (leaves_same state left under leaves)) (all other x t.1).pending)) (at_set passes worker other (after_draw history e AtRest h p) x there)
   drawn_backed worker p e under (Planned plan) h at has holds leaves other x there =
       let shown = leaves_plan state left under plan leaves in
-      let own = held_whole worker h under shown.0 has holds in
+      let own = held_whole worker p.keeps h under shown.0 has holds in
       ⊎_elim
       (λ t. subst (λ (z : ℕ × Pass). IsBacked grants (numbered words value) left z.0 z.1) (λ i. (sym t.0 i, t.1 i)) (record {
         reads = inr (everything, own, everything_pages);
@@ -426,7 +455,7 @@ module _ (grants : Grants) (start : List Areas) (history : List Entry) (state le
       (at_set passes worker other (after_draw history e (Planned plan) h p) x there)
   drawn_backed worker p e under (OneRow c) h at has holds leaves other x there =
       let l = leaves_change state left under c leaves in
-      let own = held_alone grants worker h under l.0 l.1 has holds in
+      let own = held_alone grants worker p.keeps h under l.0 l.1 has holds in
       let mine : Holds grants worker (alone c.span) = subst (λ (s : Span). Holds grants worker (alone s)) (sym l.2.held) own in
       ⊎_elim
       (λ t. subst (λ (z : ℕ × Pass). IsBacked grants (numbered words value) left z.0 z.1) (λ i. (sym t.0 i, t.1 i)) (record {

@@ -2,7 +2,7 @@
 -- rows stand for the state after it. It is stored in the callers' lists, by number, so it isn't just some history that
 -- exists. It is legal as a sequential history of an object (Herlihy and Wing, TOPLAS 1990), and each entry was
 -- numbered under the range that it names.
-use Rattle.std.specs.Prelude.{ℕ, suc, ◌≡◌, ◌≢◌, ◌<◌, ◌≤◌, ◌+◌, ◌-◌, ◌*◌, ◌^◌, ◌==◌, ◌⊎◌, All, Option, Some, None, List, []}
+use Rattle.std.specs.Prelude.{Bool, true, false, ℕ, suc, ◌≡◌, ◌≢◌, ◌<◌, ◌≤◌, ◌+◌, ◌-◌, ◌*◌, ◌^◌, ◌==◌, ◌⊎◌, All, Option, Some, None, List, []}
 use Rattle.std.specs.Prelude.{◌∷◌, ◌++◌, not, filter, length, slice_index, slice_set, sum_by}
 use mathlib.Core.Option.{some}
 use lib.ListN.{get_elem?}
@@ -32,7 +32,7 @@ use Rattle.area_guard.specs.declared.guard.Pending.{Pending}
 use Rattle.area_guard.specs.declared.guard.Splice.{Splice}
 use Rattle.area_guard.specs.declared.guard.Pending.TheVariants.{AtRest, Planned, OneRow}
 use Rattle.row_plans.specs.RowLists.{areas_from}
-use Rattle.area_guard.specs.Rows.{nb_in, number_place, rows_in, room_of, layout_in, slots_to, IsLayoutPlace, IsOneOf, IsSlot, RowsShow}
+use Rattle.area_guard.specs.Rows.{nb_in, keeps_in, number_place, rows_in, room_of, layout_in, slots_to, IsLayoutPlace, IsOneOf, IsSlot, RowsShow}
 use Rattle.row_plans.specs.Plans.{PlanShows}
 use Rattle.row_plans.specs.Gaps.{IsGapWord}
 use Rattle.area_guard.specs.Reads.{everything, StillStands, noted_at}
@@ -150,19 +150,21 @@ IsOwed start history mine AtRest = Unit {0}
 IsOwed start history mine (Planned plan) = IsOfLastEntry start history mine (Planned plan)
 IsOwed start history mine (OneRow change) = IsOfLastEntry start history mine (OneRow change)
 
--- so many blocks are those that the words tell, and there is room for them before the last seventeen words
-abbrev pub HasBlocks : List ℕ → ℕ → Type 0
-HasBlocks words nb = (nb ≡ nb_in words) × (36 + 129 * nb_in words ≤ length words)
+-- so many blocks are those that the words tell, there is room for them before the last eighteen words, and the words
+-- tell whether the space keeps its history
+abbrev pub HasBlocks : List ℕ → ℕ → Bool → Type 0
+HasBlocks words nb keeps = (nb ≡ nb_in words) × (36 + 129 * nb_in words ≤ length words) × (keeps ≡ keeps_in words)
 
 -- one caller's part: it began with the same areas, has seen a beginning of the history, stores just its own entries,
--- no more of them than it may have, knows how many blocks there is room for, what it has to write is what the last of
--- these entries leaves, and what it has read of the layout, the sequence word and the gap word is still so
+-- no more of them than it may have, knows how many blocks there is room for and whether the space keeps its history,
+-- what it has to write is what the last of these entries leaves, and what it has read of the layout, the sequence word
+-- and the gap word is still so
 pub record IsPart (start : List Areas) (history : List Entry) (words : List ℕ) (worker : ℕ) (pass : Pass) : Type 0 where
   pub began : pass.start ≡ start
   pub seen : StartsWith history pass.seen
   pub mine : entries_of worker history ≡ pass.mine
   pub few : length pass.mine ≤ pass.most
-  pub room : HasBlocks words pass.blocks
+  pub room : HasBlocks words pass.blocks pass.keeps
   pub owed : IsOwed start history pass.mine pass.pending
   pub laid : StillLaid words pass.laid
   pub sequence : StillRaised words pass.sequence
@@ -218,9 +220,10 @@ pub record IsRunningSpace (start : List Areas) (history : List Entry) (state : L
   pub limit : row_count state ≤ ROWS
   -- each entry has made SPARE rows more at most
   pub grown : row_count state ≤ row_count start + SPARE * length history
-  pub number : slice_index words (number_place (nb_in words)) ≡ length history
+  -- where the space keeps no history, nobody stores the number word
+  pub number : keeps_in words ≡ true → slice_index words (number_place (nb_in words)) ≡ length history
   pub sequence : slice_index words 1 + planned_count passes ≡ whole_count history
-  pub small : most_count passes < 2 ^ 40
+  pub small : most_count passes < 2 ^ 62
   pub room : HasRoom (nb_in words) (row_count start) (most_count passes)
   pub rows : planned_count passes ≡ 0 → RowsStandFor state passes words
   pub gap : planned_count passes ≡ 0 → IsGapWord (kind_at state) (slice_index words 0)
@@ -271,6 +274,7 @@ abbrev pub newcomer : List ℕ → ℕ → Pass
 newcomer words number = record {
   start = areas_from (rows_in words);
   blocks = nb_in words;
+  keeps = keeps_in words;
   most = slice_index words (length words - 16 + number);
   seen = [];
   mine = [];
@@ -292,12 +296,14 @@ rest_of p = record p { laid = None; rows = []; sequence = None; gap = None }
 abbrev pub IsAtRest : Pass → Type 0
 IsAtRest p = p.pending ≡ AtRest
 
--- the caller of a number holds what its entry names, and nothing where it names nothing
-abbrev pub HoldsFor : Option Held → Under → Type 0
-HoldsFor held Nothing = held ≡ None
-HoldsFor held (Reader span) = held ≡ Some (record { range = record { lo = span.lo; hi = span.hi }; mode = Shared })
-HoldsFor held (Area span) = held ≡ Some (record { range = record { lo = span.lo; hi = span.hi }; mode = Alone })
-HoldsFor held Whole = held ≡ Some everything
+-- the caller of a number holds what its entry names, and nothing where it names nothing. Where the space keeps no
+-- history a page that the entry names as read may be held as a writer, so that two faults don't bring one page in twice
+abbrev pub HoldsFor : Bool → Option Held → Under → Type 0
+HoldsFor keeps held Nothing = held ≡ None
+HoldsFor keeps held (Reader span) =
+    (held ≡ Some (record { range = record { lo = span.lo; hi = span.hi }; mode = Shared })) ⊎ ((keeps ≡ false) × (held ≡ Some (alone span)))
+HoldsFor keeps held (Area span) = held ≡ Some (record { range = record { lo = span.lo; hi = span.hi }; mode = Alone })
+HoldsFor keeps held Whole = held ≡ Some everything
 
 -- what a call over one area has to write: the row that it planned, or nothing
 abbrev pub change_pending : Option Change → Pending
@@ -385,6 +391,7 @@ abbrev pub after_draw : List Entry → Entry → Pending → Option Held → Pas
 after_draw history e AtRest held p = record {
   start = p.start;
   blocks = p.blocks;
+  keeps = p.keeps;
   most = p.most;
   seen = history ++ e ∷ [];
   mine = p.mine ++ e ∷ [];
@@ -400,6 +407,7 @@ after_draw history e AtRest held p = record {
 after_draw history e (Planned plan) held p = record {
   start = p.start;
   blocks = p.blocks;
+  keeps = p.keeps;
   most = p.most;
   seen = history ++ e ∷ [];
   mine = p.mine ++ e ∷ [];
@@ -415,6 +423,7 @@ after_draw history e (Planned plan) held p = record {
 after_draw history e (OneRow change) held p = record {
   start = p.start;
   blocks = p.blocks;
+  keeps = p.keeps;
   most = p.most;
   seen = history ++ e ∷ [];
   mine = p.mine ++ e ∷ [];
@@ -436,13 +445,14 @@ after_raise p = record p { sequence = None; pending = AtRest; since = p.since + 
 abbrev pub after_change : Pass → Pass
 after_change p = record p { laid = None; rows = []; sequence = None; gap = None; pending = AtRest; since = p.since + 1 }
 
--- the loads that a caller may make: the number word and the sequence word at any time. What it has read of the sequence
--- word, of the layout and of a row it remembers, and it reads the last two only while it holds pages. With a word of
--- the layout it remembers all of it and the words of all slots at the moment; those that others may change beside its
--- range stand still as far as it can tell, and all of them where it holds everything. Of a load of the number word it
--- remembers what it found and held
+-- the loads that a caller may make: the number word, where the space keeps its history, and the sequence word at any
+-- time. What it has read of the sequence word, of the layout and of a row it remembers, and it reads the last two only
+-- while it holds pages. With a word of the layout it remembers all of it and the words of all slots at the moment;
+-- those that others may change beside its range stand still as far as it can tell, and all of them where it holds
+-- everything. Of a load of the number word it remembers what it found and held
 pub data MayLoad (own : Option Held → Type 0) (free held : Type 0) (words : List ℕ) (history : List Entry) (place : ℕ) (p after : Pass) : Type 0 where
-  number : (h : Option Held) → own h → place ≡ number_place p.blocks → after ≡ after_look history h p → MayLoad own free held words history place p after
+  number : (h : Option Held) → own h → p.keeps ≡ true → place ≡ number_place p.blocks → after ≡ after_look history h p
+      → MayLoad own free held words history place p after
   glance : free → place ≡ 1 → after ≡ after_step p → MayLoad own free held words history place p after
   sequence : held → place ≡ 1 → after ≡ after_sequence (slice_index words 1) p → MayLoad own free held words history place p after
   layout : held → IsLayoutPlace p.blocks place → after ≡ after_seen words p → MayLoad own free held words history place p after
@@ -467,8 +477,22 @@ pub record MayDraw (grants : Grants) (words : List ℕ) (passes : List Pass) (wo
   pub right : IsRight here.state note.call note.reply note.under left
   pub leaves : Leaves here.state note.under note.pending left
   pub rest : IsAtRest here.pass
-  pub held : (h : Option Held) × (get_elem? grants worker ≡ some h) × HoldsFor h note.under
+  pub held : (h : Option Held) × (get_elem? grants worker ≡ some h) × HoldsFor here.pass.keeps h note.under
   pub few : length here.pass.mine + 1 ≤ here.pass.most
+
+-- a caller that may draw a number has drawn it
+abbrev pub HasDrawn : (grants : Grants) (words : List ℕ) (passes : List Pass) (worker : ℕ) (note : Note)
+    → Here grants words passes worker → Pass → Type 0
+HasDrawn grants words passes worker note here after = (may : MayDraw grants words passes worker note here)
+    × (after ≡ after_draw here.history (entry_of (length here.history) worker note) note.pending may.held.0 here.pass)
+
+-- a draw in a space that keeps no history: a load of the number word, which changes no word. At this step the entry
+-- takes its place in the history
+pub record IsQuietDraw (grants : Grants) (words : List ℕ) (passes : List Pass) (worker : ℕ) (note : Note)
+    (here : Here grants words passes worker) (place : ℕ) (after : Pass) : Type 0 where
+  pub number : place ≡ number_place here.pass.blocks
+  pub unkept : here.pass.keeps ≡ false
+  pub drawn : HasDrawn grants words passes worker note here after
 
 -- a word is one of the rows of a plan: of those that stood, or of those that it leaves
 abbrev pub IsPlanRow : Splice → ℕ → Type 0
@@ -500,12 +524,11 @@ MayWrite words (Planned plan) place value p after = MayStore plan place value p 
 MayWrite words (OneRow change) place value p after = (place ≡ 3 + change.index) × (value ≡ new_word change)
     × MayReplace words change × (after ≡ after_change p)
 
--- the additions: a draw of a number, and the raising of the sequence word where the rows show what a call under
--- everything has left, and the gap word is right for it
+-- the additions: a draw of a number in a space that keeps its history, and the raising of the sequence word where the
+-- rows show what a call under everything has left, and the gap word is right for it
 pub data MayAdd (grants : Grants) (words : List ℕ) (passes : List Pass) (worker : ℕ) (note : Note)
     (here : Here grants words passes worker) (place : ℕ) (after : Pass) : Type 0 where
-  draw : place ≡ number_place here.pass.blocks → (may : MayDraw grants words passes worker note here)
-      → after ≡ after_draw here.history (entry_of (length here.history) worker note) note.pending may.held.0 here.pass
+  draw : place ≡ number_place here.pass.blocks → here.pass.keeps ≡ true → HasDrawn grants words passes worker note here after
       → MayAdd grants words passes worker note here place after
   raise : (plan : Splice) → place ≡ 1 → here.pass.pending ≡ Planned plan → RowsShow words (kind_at here.state)
       → IsGapWord (kind_at here.state) (slice_index words 0) → after ≡ after_raise here.pass → MayAdd grants words passes worker note here place after
@@ -514,7 +537,8 @@ pub data MayAdd (grants : Grants) (words : List ℕ) (passes : List Pass) (worke
 abbrev pub Allowed : Grants → List ℕ → List Pass → ℕ → ClientStep → Note → Pass → Type 0
 Allowed grants words passes worker (loads i) note after =
     (here : Here grants words passes worker)
-    × MayLoad (HoldsJust grants worker) (HoldsNothing grants worker) (HoldsPages grants worker) words here.history i here.pass after
+    × (MayLoad (HoldsJust grants worker) (HoldsNothing grants worker) (HoldsPages grants worker) words here.history i here.pass after
+    ⊎ IsQuietDraw grants words passes worker note here i after)
 Allowed grants words passes worker (stores i value) note after =
     (here : Here grants words passes worker) × MayWrite words here.pass.pending i value here.pass after
 Allowed grants words passes worker (exchanges i expected new) note after = ⊥

@@ -2,7 +2,8 @@
 -- are the proofs that `Guard` of `lock_core` asks for. They stand here, and not among the proofs, since the guard cites
 -- them; a reader who trusts the check may pass them over.
 use Rattle.std.specs.Prelude.{All, Option, Some, None, slice_index}
-use Rattle.std.proofs.Common.{◌≡◌, ℕ, ◌+◌, ◌*◌, ◌%◌, ◌^◌, ◌<◌, inl, inr, List, [], ◌∷◌, ◌++◌, length, set, sym, refl, ap, ◌∙◌, subst, ⊎_elim}
+use Rattle.std.proofs.Common.{arith, true≢false, ◌≡◌, ℕ, ◌+◌, ◌*◌, ◌%◌, ◌^◌, ◌<◌, inl, inr, List, [], ◌∷◌, ◌++◌, length, set, sym, refl, ap, ◌∙◌, subst, ⊎_elim}
+use Rattle.std.proofs.lemmas.List.{set-get_or}
 use Rattle.std.proofs.lemmas.List.Elements.{All-nil, All-cons, All-append}
 use mathlib.Core.Option.{some, some-injective}
 use mathlib.Core.Logic.{dite}
@@ -28,14 +29,14 @@ use Rattle.area_guard.specs.Reads.{everything, noted_at, StillStands}
 use Rattle.area_guard.specs.Changes.{alone}
 use Rattle.area_guard.specs.History.{IsRunningSpace, HoldsPages, HoldsJust, HoldsNothing, Backs, IsBacked, AreBacked, HasHistory}
 use Rattle.area_guard.specs.History.{rest_of, IsAtRest, entry_of, after_look, after_step, after_seen, after_sequence, after_row}
-use Rattle.area_guard.specs.History.{Here, MayLoad, MayWrite, MayAdd, Allowed}
+use Rattle.area_guard.specs.History.{Here, MayLoad, IsQuietDraw, MayWrite, MayAdd, Allowed}
 use Rattle.area_guard.specs.History.MayLoad.{number, glance, sequence, layout, gap_word, row}
 use Rattle.area_guard.specs.History.MayAdd.{draw, raise}
 use Rattle.area_guard.specs.Stands.{exact_stands, noted_stand}
-use Rattle.area_guard.specs.Parts.{none_is, looked, stepped, counted, raised, read, rested, replaced}
+use Rattle.area_guard.specs.Parts.{none_is, no_wrap, looked, stepped, counted, raised, read, rested, replaced}
 use Rattle.area_guard.specs.Writes.{stores_keep, raise_keeps, raise_backed}
 use Rattle.area_guard.specs.RowStores.{change_keeps, change_backed}
-use Rattle.area_guard.specs.Draws.{drawn, drawn_backed}
+use Rattle.area_guard.specs.Draws.{numbered, drawn, drawn_backed}
 
 -- a note of no call
 abbrev pub no_note : Note
@@ -52,7 +53,7 @@ module _ (grants : Grants) (words : List ℕ) (history : List Entry) (state : Li
     (b : IsBacked grants words state worker p) (blocks : p.blocks ≡ nb_in words) where
   load_backed : MayLoad (HoldsJust grants worker) (HoldsNothing grants worker) (HoldsPages grants worker) words history place p after
       → IsBacked grants words state worker after
-  load_backed (number h o e is) = subst (IsBacked grants words state worker) (sym is) (record { reads = b.reads; rows = b.rows; pending = b.pending })
+  load_backed (number h o k e is) = subst (IsBacked grants words state worker) (sym is) (record { reads = b.reads; rows = b.rows; pending = b.pending })
   load_backed (glance free e is) = subst (IsBacked grants words state worker) (sym is) (record { reads = b.reads; rows = b.rows; pending = b.pending })
   load_backed (sequence h e is) = subst (IsBacked grants words state worker) (sym is) (record { reads = inr h; rows = b.rows; pending = b.pending })
   load_backed (layout h e is) = subst (IsBacked grants words state worker) (sym is) (record {
@@ -72,7 +73,7 @@ module _ (grants : Grants) (words : List ℕ) (history : List Entry) (state : Li
 module _ (mine : Option Held → Type 0) (free held : Type 0) (start : List Areas) (history : List Entry) (state : List Areas) (words : List ℕ)
     (passes : List Pass) (worker place : ℕ) (p after : Pass) (r : IsRunningSpace start history state words passes) (at : get_elem? passes worker ≡ some p) where
   loads_keep : MayLoad mine free held words history place p after → IsRunningSpace start history state words (set passes worker after)
-  loads_keep (number h o e is) =
+  loads_keep (number h o k e is) =
       subst (λ (q : Pass). IsRunningSpace start history state words (set passes worker q)) (sym is)
       (replaced start history state words worker p (r.parts worker p at) passes (after_look history h p) r at
       (looked start history state words worker p (r.parts worker p at) h) refl refl refl)
@@ -100,17 +101,21 @@ module _ (mine : Option Held → Type 0) (free held : Type 0) (start : List Area
 adds_keep : (grants : Grants) (words : List ℕ) (passes : List Pass) (worker : ℕ) (note : Note)
     (here : Here grants words passes worker) (place : ℕ) (after : Pass) → MayAdd grants words passes worker note here place after
     → HasHistory grants (words_after words (adds place 1)) (set passes worker after)
-adds_keep grants words passes worker note here place after (draw place_is d is) =
+adds_keep grants words passes worker note here place after (draw place_is keeps drew) =
+    let d = drew.0 in
     let e = entry_of (length here.history) worker note in
+    let value : ℕ = (slice_index words (number_place (nb_in words)) + 1) % 2 ^ 64 in
     let at : place ≡ number_place (nb_in words) = place_is ∙ ap number_place (here.running.parts worker here.pass here.own).room.0 in
-    subst (λ (z : ℕ × Pass). HasHistory grants (words_after words (adds z.0 1)) (set passes worker z.1)) (λ i. (sym at i, sym is i)) (
+    subst (λ (z : ℕ × Pass). HasHistory grants (words_after words (adds z.0 1)) (set passes worker z.1)) (λ i. (sym at i, sym drew.1 i)) (
       here.start,
       here.history ++ e ∷ [],
       d.left,
       drawn grants here.start here.history here.state d.left words passes worker here.pass e note.pending d.held.0 here.running
-          here.backed here.exclusive d.held.1 d.held.2 here.own refl refl d.leaves d.rest d.named d.right.fits d.right.answers d.few,
-      drawn_backed grants here.start here.history here.state d.left words passes ((slice_index words (number_place (nb_in words)) + 1) % 2 ^ 64)
-          here.running here.backed here.exclusive worker here.pass e note.under note.pending d.held.0 here.own d.held.1 d.held.2 d.leaves,
+          here.backed here.exclusive d.held.1 d.held.2 here.own refl refl d.leaves d.rest value
+          (λ k. let n = here.running.number k in let w = no_wrap here.start here.history here.state words passes here.running in omega arith)
+          d.named d.right.fits d.right.answers d.few,
+      drawn_backed grants here.start here.history here.state d.left words passes value here.running here.backed here.exclusive worker here.pass
+          e note.under note.pending d.held.0 here.own d.held.1 d.held.2 d.leaves,
     )
 adds_keep grants words passes worker note here place after (raise plan one_is pends written right is) =
     subst (λ (z : ℕ × Pass). HasHistory grants (words_after words (adds z.0 1)) (set passes worker z.1)) (λ i. (sym one_is i, sym is i)) (
@@ -120,6 +125,27 @@ adds_keep grants words passes worker note here place after (raise plan one_is pe
       raise_keeps grants here.start here.history here.state words passes worker here.pass plan here.running here.backed here.exclusive here.own pends written
           right,
       raise_backed grants here.start here.history here.state words passes worker here.pass plan here.running here.backed here.exclusive here.own pends,
+    )
+
+-- a draw that changes no word
+quiet_keeps : (grants : Grants) (words : List ℕ) (passes : List Pass) (worker : ℕ) (note : Note)
+    (here : Here grants words passes worker) (place : ℕ) (after : Pass) → IsQuietDraw grants words passes worker note here place after
+    → HasHistory grants words (set passes worker after)
+quiet_keeps grants words passes worker note here place after q =
+    let d = q.drawn.0 in
+    let e = entry_of (length here.history) worker note in
+    let value : ℕ = slice_index words (number_place (nb_in words)) in
+    let same : numbered words value ≡ words = set-get_or words (number_place (nb_in words)) 0 in
+    let told = (here.running.parts worker here.pass here.own).room.2 in
+    subst (λ (z : List ℕ × Pass). HasHistory grants z.0 (set passes worker z.1)) (λ i. (same i, sym q.drawn.1 i)) (
+      here.start,
+      here.history ++ e ∷ [],
+      d.left,
+      drawn grants here.start here.history here.state d.left words passes worker here.pass e note.pending d.held.0 here.running
+          here.backed here.exclusive d.held.1 d.held.2 here.own refl refl d.leaves d.rest value
+          (λ k. absurd (true≢false (sym k ∙ (sym told ∙ q.unkept)))) d.named d.right.fits d.right.answers d.few,
+      drawn_backed grants here.start here.history here.state d.left words passes value here.running here.backed here.exclusive worker here.pass
+          e note.under note.pending d.held.0 here.own d.held.1 d.held.2 d.leaves,
     )
 
 -- a store by a caller that has this to write
@@ -145,15 +171,15 @@ writes_keep grants words passes worker here (OneRow c) place value after pends m
 pub steps_keep : (grants : Grants) (words : List ℕ) (passes : List Pass) (worker : ℕ) (step : ClientStep) (note : Note) (after : Pass)
     → HasHistory grants words passes → Allowed grants words passes worker step note after → HasHistory grants (words_after words step) (set passes worker after)
 steps_keep grants words passes worker (loads i) note after kept may =
-    let h = may.0 in (
+    let h = may.0 in ⊎_elim (λ load. (
       h.start,
       h.history,
       h.state,
       loads_keep (HoldsJust grants worker) (HoldsNothing grants worker) (HoldsPages grants worker)
-          h.start h.history h.state words passes worker i h.pass after h.running h.own may.1,
+          h.start h.history h.state words passes worker i h.pass after h.running h.own load,
       backed_set grants words h.state passes worker after h.backed
-          (load_backed grants words h.history h.state worker i h.pass after (h.backed worker h.pass h.own) (h.running.parts worker h.pass h.own).room.0 may.1),
-    )
+          (load_backed grants words h.history h.state worker i h.pass after (h.backed worker h.pass h.own) (h.running.parts worker h.pass h.own).room.0 load),
+    )) (λ draws. quiet_keeps grants words passes worker note h i after draws) may.1
 steps_keep grants words passes worker (stores i value) note after kept may =
     writes_keep grants words passes worker may.0 may.0.pass.pending i value after refl may.1
 steps_keep grants words passes worker (exchanges i expected new) note after kept may = absurd may

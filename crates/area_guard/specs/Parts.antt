@@ -24,9 +24,11 @@ use Rattle.area_guard.specs.declared.guard.Pending.{Pending}
 use Rattle.area_guard.specs.declared.guard.Splice.{Splice}
 use Rattle.area_guard.specs.Rows.{nb_in, room_of, layout_in}
 use Rattle.area_guard.specs.declared.guard.Pending.TheVariants.{AtRest, Planned}
-use Rattle.area_guard.specs.History.{entries_of, with_whole, whole_count, own_count, entry_count, own_most, most_count, HasRoom, HasBlocks, IsPart, planned_calls}
+use Rattle.area_guard.specs.History.{entries_of, with_whole, whole_count, own_count, entry_count, own_most, most_count, HasRoom, HasBlocks, IsPart}
+use Rattle.area_guard.specs.History.{planned_calls}
 use Rattle.area_guard.specs.History.{own_planned, planned_count, RowsStandFor, IsRunningSpace, HasReadNothing, rest_of}
-use Rattle.area_guard.specs.History.{StillLaid, laid_with, after_look, after_step, after_seen, after_layout, after_sequence, after_row, after_store, after_raise}
+use Rattle.area_guard.specs.History.{StillLaid, laid_with, after_look, after_step, after_seen, after_layout, after_sequence, after_row, after_store}
+use Rattle.area_guard.specs.History.{after_raise}
 use Rattle.area_guard.specs.History.{after_change, after_gap}
 use Rattle.area_guard.specs.Stands.{room_stays, layout_stays, layout_counted, layout_told, shown_set}
 
@@ -104,7 +106,7 @@ rows_fit_more start history state words passes worker rows p r at more few limit
     let t = r.total in let g = r.grown in
     ⊎_elim (λ all_rows. omega arith) (λ some_rows. omega arith) r.room
 
--- the number word doesn't wrap: the callers may have fewer than 2^40 entries together
+-- the number word doesn't wrap: the callers may have fewer than 2^62 entries together
 pub no_wrap : (start : List Areas) (history : List Entry) (state : List Areas) (words : List ℕ) (passes : List Pass)
     → IsRunningSpace start history state words passes → length history + 1 < 2 ^ 64
 no_wrap start history state words passes r =
@@ -163,7 +165,7 @@ none_is a e = cc
 
 -- the part of a caller that has read nothing of what changes
 pub blank_part : (start : List Areas) (history : List Entry) (words others : List ℕ) (worker : ℕ) (x : Pass) → HasReadNothing x
-    → HasBlocks others x.blocks → IsPart start history words worker x → IsPart start history others worker x
+    → HasBlocks others x.blocks x.keeps → IsPart start history words worker x → IsPart start history others worker x
 blank_part start history words others worker x n room own = record {
   began = own.began;
   seen = own.seen;
@@ -350,7 +352,7 @@ module _ (start : List Areas) (history : List Entry) (state : List Areas) (words
     gap = λ n e. get_or-set_other words 1 0 value 0 (λ same. omega arith) ∙ own.gap n e;
   }
 
-  pub changed : (others : List ℕ) → HasBlocks others p.blocks → IsPart start history others worker (after_change p)
+  pub changed : (others : List ℕ) → HasBlocks others p.blocks p.keeps → IsPart start history others worker (after_change p)
   changed others room = record {
     began = own.began;
     seen = own.seen;

@@ -173,7 +173,7 @@ module _ (grants : Grants) (start : List Areas) (history : List Entry) (state : 
         named = r.named;
         limit = r.limit;
         grown = r.grown;
-        number = number_stays words (3 + c.index) value (omega arith) (λ e. omega arith) ∙ r.number;
+        number = number_stays words (3 + c.index) value (omega arith) (λ e. omega arith) r.number;
         sequence = ap (λ n. n + planned_count (set passes worker q)) (get_or-set_other words (3 + c.index) 1 value 0 (λ e. omega arith))
             ∙ (ap (λ n. slice_index words 1 + n) pending ∙ r.sequence);
         small = let m = most_set passes worker p q at refl in omega arith;

@@ -1,7 +1,8 @@
 -- The row words among the client words, and what they show: the kind of each page. Rows stand in blocks, as
 -- `row_blocks` has it, in words from client word 3 on. `RowsShow` takes the kinds as a function from pages, so that
 -- rows which lag behind the history at some pages are said by another function and not by another definition.
-use Rattle.std.specs.Prelude.{ℕ, ◌≡◌, ◌<◌, ◌≤◌, ◌+◌, ◌-◌, ◌*◌, ◌/◌, ◌%◌, ◌==◌, ◌⊎◌, if◌then◌else◌, All, Option, Some, None, List, ◌∷◌, length, take, drop, slice_index}
+use Rattle.std.specs.Prelude.{Bool, ℕ, ◌≡◌, ◌<◌, ◌≤◌, ◌+◌, ◌-◌, ◌*◌, ◌/◌, ◌%◌, ◌==◌, ◌⊎◌, if◌then◌else◌, All, Option, Some, None, List, ◌∷◌, length}
+use Rattle.std.specs.Prelude.{take, drop, slice_index}
 use mathlib.Core.Option.{some}
 use lib.ListN.{get_elem?}
 use Rattle.atomic_table.specs.Seated.{TableId}
@@ -16,6 +17,10 @@ use Rattle.row_blocks.specs.Blocks.{pieces, run, blocks_of, rows_of, IsLaidOut, 
 abbrev pub nb_in : List ℕ → ℕ
 nb_in words = slice_index words (length words - 17)
 
+-- whether the space keeps its history: 1 in the word before that one. It is never stored after the opening
+abbrev pub keeps_in : List ℕ → Bool
+keeps_in words = slice_index words (length words - 18) == 1
+
 -- the row words among the client words: those of the blocks, which stand from word 3 on
 abbrev pub rows_in : List ℕ → List ℕ
 rows_in words = rows_by (nb_in words) (drop 3 words)
@@ -29,6 +34,10 @@ number_place nb = 11 + 129 * nb
 -- tells this, with any number of lists
 unfoldable pub blocks_by : TableId → ℕ
 blocks_by table = 8 * (table.words % 257)
+
+-- whether the space of a table keeps its history, which the opening has the number of words tell as well
+unfoldable pub keeps_by : TableId → Bool
+keeps_by table = (table.words / 257) % 2 == 0
 
 -- how many rows there is always room for in so many blocks
 abbrev pub room_of : ℕ → ℕ

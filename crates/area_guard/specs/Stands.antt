@@ -23,7 +23,8 @@ use Rattle.area_guard.specs.declared.guard.Pending.{Pending}
 use Rattle.row_plans.specs.RowWords.{row_start, row_kind}
 use Rattle.row_plans.specs.RowLists.{ShowFrom, IsBareGap}
 use Rattle.row_blocks.specs.Blocks.{run, blocks_of, rows_of, IsLaidOut, rows_in as rows_by}
-use Rattle.area_guard.specs.Rows.{nb_in, number_place, layout_in, rows_in, slots_of, slots_in, slots_to, AreNeighbours, IsOneOf, IsSlot, IsRowOf, RowsShow}
+use Rattle.area_guard.specs.Rows.{nb_in, keeps_in, number_place, layout_in, rows_in, slots_of, slots_in, slots_to, AreNeighbours, IsOneOf, IsSlot}
+use Rattle.area_guard.specs.Rows.{IsRowOf, RowsShow}
 use Rattle.area_guard.specs.Alike.{also_laid, also_rows, also_free, also_short}
 use Rattle.area_guard.specs.Reads.{everything, noted_at, StillStands}
 use Rattle.area_guard.specs.History.{HasBlocks, LagsAt, ShowsBefore, IsShown, without}
@@ -34,12 +35,20 @@ nb_stays words place value low =
     ap (λ (n : ℕ). slice_index (set words place value) (n - 17)) (length-set words place value)
     ∙ get_or-set_other words place (length words - 17) value 0 (λ e. omega arith)
 
+-- and one before the last eighteen whether the space keeps its history
+pub keeps_stays : (words : List ℕ) (place value : ℕ) → place + 18 < length words → keeps_in (set words place value) ≡ keeps_in words
+keeps_stays words place value low =
+    ap (λ (n : ℕ). eqb (slice_index (set words place value) (n - 18)) 1) (length-set words place value)
+    ∙ ap (λ (n : ℕ). eqb n 1) (get_or-set_other words place (length words - 18) value 0 (λ e. omega arith))
+
 -- so does one among the words of the blocks, before them, and of the number word
-pub room_stays : (words : List ℕ) (nb place value : ℕ) → place < 12 + 129 * nb_in words → HasBlocks words nb → HasBlocks (set words place value) nb
+pub room_stays : (words : List ℕ) (nb : ℕ) {keeps : Bool} (place value : ℕ) → place < 12 + 129 * nb_in words → HasBlocks words nb keeps
+    → HasBlocks (set words place value) nb keeps
 room_stays words nb place value low has =
     let long = length-set words place value in
+    let wide = has.1 in
     let same = nb_stays words place value (omega arith) in
-    (has.0 ∙ sym same, omega arith)
+    (has.0 ∙ sym same, omega arith, has.2 ∙ sym (keeps_stays words place value (omega arith)))
 
 -- a store before the layout, but for the row count, leaves the layout
 pub layout_stays : (words : List ℕ) (place value : ℕ) → place ≢ 2 → place < 3 + 128 * nb_in words → place + 17 < length words
@@ -72,12 +81,14 @@ layout_beside words place value (inr behind) low =
     (ap (λ (n : ℕ). take (nb_in words + 1) (drop at (set words n value))) is ∙ (ap (take (nb_in words + 1)) (drop-set-add at words index value)
     ∙ take-set-le (nb_in words + 1) (drop at words) index value (omega arith))))
 
--- a store at another place leaves the number word
-pub number_stays : (words : List ℕ) (place value : ℕ) → place + 17 < length words → place ≢ number_place (nb_in words)
-    → slice_index (set words place value) (number_place (nb_in (set words place value))) ≡ slice_index words (number_place (nb_in words))
-number_stays words place value low differ =
-    ap (λ (n : ℕ). slice_index (set words place value) (number_place n)) (nb_stays words place value low)
-    ∙ get_or-set_other words place (number_place (nb_in words)) value 0 (λ e. differ (sym e))
+-- a store at another place leaves the number word: where the space keeps its history it counts as many entries
+pub number_stays : (words : List ℕ) (place value : ℕ) {n : ℕ} → place + 18 < length words → place ≢ number_place (nb_in words)
+    → (keeps_in words ≡ true → slice_index words (number_place (nb_in words)) ≡ n) → keeps_in (set words place value) ≡ true
+    → slice_index (set words place value) (number_place (nb_in (set words place value))) ≡ n
+number_stays words place value low differ counts keeps =
+    ap (λ (n : ℕ). slice_index (set words place value) (number_place n)) (nb_stays words place value (omega arith))
+    ∙ (get_or-set_other words place (number_place (nb_in words)) value 0 (λ e. differ (sym e))
+    ∙ counts (sym (keeps_stays words place value low) ∙ keeps))
 
 -- a store of the row count changes the first word of the layout
 pub layout_counted : (words : List ℕ) (value : ℕ) → 19 < length words → layout_in (set words 2 value) ≡ set (layout_in words) 0 value

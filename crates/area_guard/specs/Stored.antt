@@ -3,7 +3,7 @@
 -- names. While a call under everything isn't written yet, its caller holds everything and has a plan that shows the
 -- last state. What a caller has to write is always what the last of its entries leaves. Between two steps a reader may
 -- take the entry of a number from the one caller who stores it.
-use Rattle.std.specs.Prelude.{ℕ, ◌≡◌, ◌≢◌, ◌+◌, Option, List, [], ◌∷◌, ◌++◌, length, slice_index}
+use Rattle.std.specs.Prelude.{true, false, ℕ, ◌≡◌, ◌≢◌, ◌+◌, Option, List, [], ◌∷◌, ◌++◌, length, slice_index}
 use mathlib.Core.Option.{some}
 use lib.ListN.{get_elem?}
 use Rattle.space_model.specs.declared.areas.Area.{Area}
@@ -13,13 +13,13 @@ use Rattle.row_plans.specs.Gaps.{IsGapWord}
 use Rattle.space_model.specs.declared.entries.Under.TheVariants.{Whole}
 use Rattle.space_model.specs.History.{IsLegal, StateAfter}
 use Rattle.lock_core.specs.Grants.{Grants, Holds}
-use Rattle.lock_core.specs.Client.{ClientStep, loads, stores, adds, exchanges}
+use Rattle.lock_core.specs.Client.{ClientStep, loads, stores, adds, exchanges, words_after}
 use Rattle.lock_core.specs.declared.range.Held.{Held}
 use Rattle.area_guard.specs.declared.guard.Note.{Note}
 use Rattle.area_guard.specs.declared.guard.Pass.{Pass}
 use Rattle.area_guard.specs.declared.guard.Pending.TheVariants.{Planned}
 use Rattle.area_guard.specs.declared.guard.Splice.{Splice}
-use Rattle.area_guard.specs.Rows.{nb_in, number_place, IsLayoutPlace}
+use Rattle.area_guard.specs.Rows.{nb_in, keeps_in, number_place, IsLayoutPlace}
 use Rattle.area_guard.specs.Reads.{everything}
 use Rattle.area_guard.specs.History.{Runs, StartsWith, whole_count, planned_count, RowsStandFor, Backs, HasHistory, HoldsFor, Allowed, entry_of, rest_of}
 use Rattle.area_guard.specs.History.{IsOwed, IsInUse, MayStore, rows_after}
@@ -35,11 +35,11 @@ pub record IsStoredOnce (passes : List Pass) (e : Entry) : Type 0 where
   pub once : (worker other : ℕ) (f : Entry) → Stores passes worker other f → f.number ≡ e.number
       → (worker ≡ e.worker) × (other ≡ place) × (f ≡ e)
 
--- the history has as many entries as the number word says, and runs from the start with which each caller began to
--- the state that the rows show, and for which the gap word is right, unless a call under everything isn't written yet;
--- what is to be written is right for
--- that state and is what its caller's last entry leaves, and the caller holds the range. The entry of each number is
--- stored once, every stored entry is one of them, and each caller has seen a beginning
+-- the history has as many entries as the number word says, where the space keeps it. It runs from the start with which
+-- each caller began to the state that the rows show, and for which the gap word is right, unless a call under
+-- everything isn't written yet; what is to be written is right for that state and is what its caller's last entry
+-- leaves, and the caller holds the range. The entry of each number is stored once, every stored entry is one of them,
+-- and each caller has seen a beginning
 pub record IsStored (grants : Grants) (words : List ℕ) (passes : List Pass) (history : List Entry) (start state : List Area) : Type 0 where
   pub runs : Runs 0 start history state
   pub began : (worker : ℕ) (pass : Pass) → get_elem? passes worker ≡ some pass → pass.start ≡ start
@@ -48,7 +48,7 @@ pub record IsStored (grants : Grants) (words : List ℕ) (passes : List Pass) (h
   pub pending : (worker : ℕ) (pass : Pass) → get_elem? passes worker ≡ some pass → Backs grants state worker pass.pending
   pub owed : (worker : ℕ) (pass : Pass) → get_elem? passes worker ≡ some pass → IsOwed start history pass.mine pass.pending
   pub sequence : slice_index words 1 + planned_count passes ≡ whole_count history
-  pub count : length history ≡ slice_index words (number_place (nb_in words))
+  pub count : keeps_in words ≡ true → length history ≡ slice_index words (number_place (nb_in words))
   pub numbered : (n : ℕ) (e : Entry) → get_elem? history n ≡ some e → e.number ≡ n
   pub once : (n : ℕ) (e : Entry) → get_elem? history n ≡ some e → IsStoredOnce passes e
   pub no_other : (worker place : ℕ) (e : Entry) → Stores passes worker place e → get_elem? history e.number ≡ some e
@@ -101,25 +101,25 @@ pub record KeepsDraw (before after : Pass) : Type 0 where
   pub mine : after.mine ≡ before.mine
   pub drew : after.drew ≡ before.drew
 
+-- the step draws a number: an addition to the number word, or a load of it in a space that keeps no history
+abbrev pub IsDraw : List ℕ → ClientStep → Type 0
+IsDraw words (loads place) = (place ≡ number_place (nb_in words)) × (keeps_in words ≡ false)
+IsDraw words (stores place value) = ⊥
+IsDraw words (adds place by) = place ≡ number_place (nb_in words)
+IsDraw words (exchanges place expected new) = ⊥
+
 -- a step that draws a number is made while its caller holds what the entry names. The pass keeps what was held then,
 -- and the caller sees the entry behind the history
 abbrev pub DrawsHold : Type 0
-DrawsHold = (grants : Grants) (words : List ℕ) (passes : List Pass) (worker by : ℕ) (note : Note) (after : Pass)
-    → Allowed grants words passes worker (adds (number_place (nb_in words)) by) note after
-    → (held : Option Held) × (get_elem? grants worker ≡ some held) × HoldsFor held note.under × (after.drew ≡ held)
+DrawsHold = (grants : Grants) (words : List ℕ) (passes : List Pass) (worker : ℕ) (step : ClientStep) (note : Note) (after : Pass)
+    → IsDraw words step → Allowed grants words passes worker step note after
+    → (held : Option Held) × (get_elem? grants worker ≡ some held) × HoldsFor (keeps_in words) held note.under × (after.drew ≡ held)
     × (history : List Entry) × (after.seen ≡ history ++ entry_of (length history) worker note ∷ [])
-
--- the step isn't an addition to the number word, which draws a number
-abbrev pub IsNoDraw : List ℕ → ClientStep → Type 0
-IsNoDraw words (loads place) = Unit {0}
-IsNoDraw words (stores place value) = Unit {0}
-IsNoDraw words (adds place by) = place ≢ number_place (nb_in words)
-IsNoDraw words (exchanges place expected new) = Unit {0}
 
 -- every other step of a caller, and giving its range back, keep what was held at its last draw, and its own entries
 abbrev pub LastDrawIsKept : Type 0
 LastDrawIsKept = (grants : Grants) (words : List ℕ) (passes : List Pass) (worker : ℕ) (step : ClientStep) (note : Note)
-    (pass after : Pass) → get_elem? passes worker ≡ some pass → IsNoDraw words step
+    (pass after : Pass) → get_elem? passes worker ≡ some pass → ¬ IsDraw words step
     → Allowed grants words passes worker step note after → KeepsDraw pass after × KeepsDraw pass (rest_of pass)
 
 -- every allowed step on a client word is counted since the caller's last draw, and a draw begins this count anew.
@@ -127,5 +127,14 @@ LastDrawIsKept = (grants : Grants) (words : List ℕ) (passes : List Pass) (work
 abbrev pub StepsAreCounted : Type 0
 StepsAreCounted = (grants : Grants) (words : List ℕ) (passes : List Pass) (worker : ℕ) (step : ClientStep) (note : Note)
     (pass after : Pass) → get_elem? passes worker ≡ some pass → Allowed grants words passes worker step note after
-    → (IsNoDraw words step → after.since ≡ pass.since + 1)
-    × ((by : ℕ) → step ≡ adds (number_place (nb_in words)) by → after.since ≡ 0) × ((rest_of pass).since ≡ pass.since)
+    → (¬ IsDraw words step → after.since ≡ pass.since + 1) × (IsDraw words step → after.since ≡ 0) × ((rest_of pass).since ≡ pass.since)
+
+-- the word that tells whether the space keeps its history stands still, and so does the number word where it doesn't
+abbrev pub WordStands : List ℕ → List ℕ → Type 0
+WordStands words after = (keeps_in after ≡ keeps_in words)
+    × (keeps_in words ≡ false → slice_index after (number_place (nb_in words)) ≡ slice_index words (number_place (nb_in words)))
+
+-- no allowed step stores these words. So callers share the number word only where their space keeps its history
+abbrev pub KeptWordStands : Type 0
+KeptWordStands = (grants : Grants) (words : List ℕ) (passes : List Pass) (worker : ℕ) (step : ClientStep) (note : Note) (after : Pass)
+    → Allowed grants words passes worker step note after → WordStands words (words_after words step)

@@ -95,7 +95,7 @@ module _ (grants : Grants) (start : List Areas) (history : List Entry) (state : 
   other_blank other x differ there = others_blank grants words state worker other x exclusive differ plan_held.0 (backed other x there)
 
   -- there is room for the blocks
-  wide : HasBlocks words p.blocks
+  wide : HasBlocks words p.blocks p.keeps
   wide = (r.parts worker p at).room
 
   other_part : (place value other : ℕ) (x : Pass) → place < 4 + 129 * nb_in words → other ≢ worker → get_elem? passes other ≡ some x
@@ -123,7 +123,7 @@ module _ (grants : Grants) (start : List Areas) (history : List Entry) (state : 
         named = r.named;
         limit = r.limit;
         grown = r.grown;
-        number = number_stays words place value (omega arith) (λ e. omega arith) ∙ r.number;
+        number = number_stays words place value (omega arith) (λ e. omega arith) r.number;
         sequence = ap (λ n. n + planned_count (set passes worker q)) (get_or-set_other words place 1 value 0 (λ e. other (sym e)))
             ∙ (ap (λ n. slice_index words 1 + n) pending ∙ r.sequence);
         small = let m = most_set passes worker p q at may in omega arith;
@@ -216,7 +216,7 @@ module _ (grants : Grants) (start : List Areas) (history : List Entry) (state : 
         named = r.named;
         limit = r.limit;
         grown = r.grown;
-        number = number_stays words 1 value (omega arith) (λ e. omega arith) ∙ r.number;
+        number = number_stays words 1 value (omega arith) (λ e. omega arith) r.number;
         sequence = let g : slice_index (set words 1 value) 1 ≡ value = get_or-set_same words 1 value 0 there in
             let s = r.sequence in let f = whole_few history in let w = no_wrap start history state words passes r in omega arith;
         small = let m = most_set passes worker p q at refl in omega arith;

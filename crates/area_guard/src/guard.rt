@@ -80,6 +80,9 @@ pub struct Pass {
     pub start: LinkedList<Area>,
     /// How many blocks of rows the table has room for.
     pub blocks: u64,
+    /// Whether the space keeps its history: then the number word counts it, and a draw is an addition to that word.
+    /// Otherwise a draw is a load of it, and nobody stores it.
+    pub keeps: bool,
     /// How many entries the caller may have.
     pub most: u64,
     /// The beginning of the history that the caller has seen.

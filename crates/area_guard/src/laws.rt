@@ -1,7 +1,8 @@
 //! What the rule of a running address space comes to, in the words of the one-thread model: laws on public functions
 //! with nothing to run. Each names a statement of `specs/Stored.antt`. With `keeps_apart` of the lock a reader may
 //! rely on them between any two steps.
-ghost use Rattle.area_guard.specs.Stored.{RunsAreLegal, HistoryIsStored, CountIsOfWhole, LayoutIsOfWhole, StoresAreNew, DrawsHold, LastDrawIsKept, StepsAreCounted};
+ghost use Rattle.area_guard.specs.Stored.{RunsAreLegal, HistoryIsStored, CountIsOfWhole, LayoutIsOfWhole, StoresAreNew, DrawsHold, KeptWordStands};
+ghost use Rattle.area_guard.specs.Stored.{LastDrawIsKept, StepsAreCounted};
 
 /// What runs from one area list to another is a legal history of the one-thread address space, and leaves that list.
 /// It does nothing.
@@ -9,7 +10,8 @@ pub fn runs_are_legal()
     ensures { RunsAreLegal }
 {}
 
-/// Each number below the number word is that of one entry of one caller, and no other number is that of any. Taken by
+/// Each number of the history is that of one entry of one caller, and no other number is that of any; where the space
+/// keeps its history, the number word says how many there are. Taken by
 /// number they are the history: each caller has seen a beginning of it, the rows show the state that it leaves, and
 /// the sequence word counts its entries under everything. While one of these isn't written yet the sequence word is one
 /// behind, and its caller holds everything and has a plan that shows that state. What a caller has to write is what the
@@ -40,4 +42,10 @@ pub fn draws_hold()
     ensures drawn { DrawsHold }
     ensures kept { LastDrawIsKept }
     ensures counted { StepsAreCounted }
+{}
+
+/// The word that tells whether a space keeps its history is never stored, nor is the number word where it keeps none.
+/// It does nothing.
+pub fn kept_word_stands()
+    ensures { KeptWordStands }
 {}

@@ -9,5 +9,6 @@ mod laws;
 
 pub use guard::{Change, Look, Note, Pass, Pending, ReadRow, RowGuard, Splice};
 pub use laws::{
-    count_is_of_everything, draws_hold, history_is_stored, runs_are_legal, stores_are_new,
+    count_is_of_everything, draws_hold, history_is_stored, kept_word_stands, runs_are_legal,
+    stores_are_new,
 };

@@ -1,5 +1,6 @@
 -- A space at its opening: its words and its callers meet the guard, and the callers come in order.
-use Rattle.std.proofs.Common.{◌≡◌, ℕ, zero, suc, ◌+◌, ◌-◌, ◌<◌, ◌≤◌, List, [], ◌∷◌, ◌++◌, length, get_or, ◌*◌, ◌/◌, ◌%◌, ◌^◌, drop, sym, refl, ap, ◌∙◌, subst}
+use Rattle.std.proofs.Common.{Bool, true, false, eqb, ◌≡◌, ℕ, zero, suc, ◌+◌, ◌-◌, ◌<◌, ◌≤◌, List, [], ◌∷◌, ◌++◌, length, get_or, ◌*◌, ◌/◌, ◌%◌, ◌^◌}
+use Rattle.std.proofs.Common.{drop, sym, refl, ap, ◌∙◌, subst}
 use Rattle.std.proofs.Common.{arith, inl}
 use Rattle.std.proofs.lemmas.List.Elements.{All-nil}
 use Rattle.std.proofs.lemmas.List.Sums.{sum_by-cons}
@@ -24,7 +25,7 @@ use Rattle.area_guard.specs.declared.guard.Pending.TheVariants.{AtRest}
 use Rattle.area_guard.specs.Parts.{none_is}
 use Rattle.area_guard.specs.Reads.{StillStands}
 use Rattle.area_guard.specs.Slots.{slots_as}
-use Rattle.area_guard.specs.Rows.{nb_in, blocks_by, rows_in, RowsShow, number_place}
+use Rattle.area_guard.specs.Rows.{nb_in, keeps_by, blocks_by, rows_in, RowsShow, number_place}
 use Rattle.area_guard.specs.History.{IsPart, own_planned, planned_calls, planned_count, ShowsBefore, IsShown, IsRunningSpace, IsBacked, AreBacked, HasRoom}
 use Rattle.area_guard.specs.History.{HasHistory, own_count, entry_count, own_most, most_count, newcomer}
 use Rattle.row_plans.specs.RowLists.{rows_from, areas_from, ShowFrom, IsBareGap}
@@ -32,16 +33,25 @@ use Rattle.row_plans.proofs.RowLists.{length-rows, shows_from, areas_back, bare_
 use Rattle.row_blocks.specs.Blocks.{IsLaidOut, blocks_of, rows_of, rows_in as rows_by}
 use Rattle.row_blocks.proofs.Slots.{length-slots_in, length-rows_in}
 use Rattle.area_rows.specs.Callers.{CallerView, AreNewCallersIn, new_pass}
-use Rattle.area_rows.specs.Opening.{IsOpening}
+use Rattle.area_rows.specs.Opening.{IsOpening, told_of}
 
 -- the number of all words of a table tells how many blocks there are, where it was chosen so
-pub blocks_told : (table : TableId) {words : ℕ} (nb : ℕ) → table.words ≡ words → words % 257 ≡ nb / 8 → nb % 8 ≡ 0 → nb ≡ blocks_by table
+pub blocks_told : (table : TableId) {words : ℕ} (nb : ℕ) (keeps : Bool) → table.words ≡ words → words % 514 ≡ told_of nb keeps → nb % 8 ≡ 0 → nb ≤ 2048
+    → nb ≡ blocks_by table
 unfolding blocks_by
-blocks_told table nb is tells eights = omega arith
+blocks_told table nb true is tells eights few = omega arith
+blocks_told table nb false is tells eights few = omega arith
+
+-- and whether the space keeps its history
+pub keeps_told : (table : TableId) {words : ℕ} (nb : ℕ) (keeps : Bool) → table.words ≡ words → words % 514 ≡ told_of nb keeps → nb ≤ 2048
+    → keeps ≡ keeps_by table
+unfolding keeps_by
+keeps_told table {words} nb true is tells few = let e : (table.words / 257) % 2 ≡ 0 = omega arith in ap (λ (n : ℕ). eqb n 0) (sym e)
+keeps_told table {words} nb false is tells few = let e : (table.words / 257) % 2 ≡ 1 = omega arith in ap (λ (n : ℕ). eqb n 0) (sym e)
 
 -- so a table has few words beside those of the lock and of the blocks
-pub few_words : {all : ℕ} (lock : ℕ) {client nb : ℕ} (spare : ℕ) {told : ℕ} → all ≡ lock + client → client ≡ 36 + 129 * nb + spare → spare < 257 → nb ≡ told
-    → all ≤ lock + 292 + 129 * told
+pub few_words : {all : ℕ} (lock : ℕ) {client nb : ℕ} (spare : ℕ) {told : ℕ} → all ≡ lock + client → client ≡ 36 + 129 * nb + spare → spare < 514 → nb ≡ told
+    → all ≤ lock + 549 + 129 * told
 few_words lock spare is wide few same = omega arith
 
 some_rows : (rows : List ℕ) (kinds : _) → ShowFrom 0 rows kinds → 0 < length rows
@@ -55,7 +65,7 @@ shows start areas named = shows_from 0 start (kind_at start) (omega arith) areas
 pub some_start : (start : List Area) → IsAreaList start → HasNamedKinds start → 0 < length (rows_from 0 start)
 some_start start areas named = some_rows (rows_from 0 start) (kind_at start) (shows start areas named)
 
-module _ {start : List Area} {calls : List ℕ} {nb : ℕ} {words : List ℕ} (o : IsOpening start calls nb words) (areas : IsAreaList start)
+module _ {start : List Area} {calls : List ℕ} {nb : ℕ} {keeps : Bool} {words : List ℕ} (o : IsOpening start calls nb keeps words) (areas : IsAreaList start)
     (named : HasNamedKinds start) where
   rows_back : rows_in words ≡ rows_from 0 start
   rows_back = ap (λ (n : ℕ). rows_by n (drop 3 words)) o.blocks ∙ o.rows
@@ -83,15 +93,15 @@ module _ {start : List Area} {calls : List ℕ} {nb : ℕ} {words : List ℕ} (o
       }
 
   -- a newcomer over the opening's words has the pass that a new caller has
-  pub began : (n : ℕ) → n < length calls → newcomer words n ≡ new_pass start nb (slice_index calls n)
+  pub began : (n : ℕ) → n < length calls → newcomer words n ≡ new_pass start nb keeps (slice_index calls n)
   began n lt =
       let a : areas_from (rows_in words) ≡ start = ap areas_from rows_back ∙ areas_back (rows_from 0 start) start (shows start areas named) areas in
-      let b = o.blocks in let m = o.quotas n lt in
-      λ i. new_pass (a i) (b i) (m i)
+      let b = o.blocks in let k = o.kept in let m = o.quotas n lt in
+      λ i. new_pass (a i) (b i) (k i) (m i)
 
 -- the passes with which so many callers begin
-abbrev pub first_of : List Area → List ℕ → ℕ → ℕ → Pass
-first_of start calls room n = new_pass start room (slice_index calls n)
+abbrev pub first_of : List Area → List ℕ → ℕ → Bool → ℕ → Pass
+first_of start calls room keeps n = new_pass start room keeps (slice_index calls n)
 
 -- two ways to begin that are the same for each number
 same_firsts : (f g : ℕ → Pass) (n k : ℕ) → ((i : ℕ) → n ≤ i → i < n + k → f i ≡ g i) → first_passes f n k ≡ first_passes g n k
@@ -126,22 +136,25 @@ most_firsts f n (x ∷ l) same =
     let c = sum_by-cons own_most (f n) (first_passes f (suc n) (length l)) in
     let d = sum_by-cons (λ (k : ℕ). k) x l in omega arith
 
-most_new : (start : List Area) (calls : List ℕ) (room : ℕ) → most_count (first_passes (first_of start calls room) 0 (length calls)) ≡ sum calls
-most_new start calls room = most_firsts (first_of start calls room) 0 calls (λ i lt. ap (slice_index calls) (let z : 0 + i ≡ i = omega arith in z))
+most_new : (start : List Area) (calls : List ℕ) (room : ℕ) (keeps : Bool)
+    → most_count (first_passes (first_of start calls room keeps) 0 (length calls)) ≡ sum calls
+most_new start calls room keeps = most_firsts (first_of start calls room keeps) 0 calls (λ i lt. ap (slice_index calls) (let z : 0 + i ≡ i = omega arith in z))
 
 -- nothing lags behind at the opening
-shown_new : (start : List Area) (calls : List ℕ) (room callers : ℕ) → IsShown start (first_passes (first_of start calls room) 0 callers) (kind_at start)
-shown_new start calls room callers = record {
-  lagging = λ worker pass at. let f = at_firsts (first_of start calls room) 0 callers worker pass at in
+shown_new : (start : List Area) (calls : List ℕ) (room : ℕ) (keeps : Bool) (callers : ℕ)
+    → IsShown start (first_passes (first_of start calls room keeps) 0 callers) (kind_at start)
+shown_new start calls room keeps callers = record {
+  lagging = λ worker pass at. let f = at_firsts (first_of start calls room keeps) 0 callers worker pass at in
       subst (λ (q : Pass). ShowsBefore q.pending (kind_at start)) (sym f.1) tt;
   elsewhere = λ page free. refl;
 }
 
-runs_new : {start : List Area} {calls : List ℕ} {nb : ℕ} {words : List ℕ} → IsOpening start calls nb words → IsAreaList start → HasNamedKinds start
-    → row_count start ≤ ROWS → length calls ≤ 16 → HasRoom nb (row_count start) (sum calls) → sum calls ≤ 16 * 2 ^ 32
-    → IsRunningSpace start [] start words (first_passes (first_of start calls nb) 0 (length calls))
-runs_new {start} {calls} {nb} {words} o areas named few callers enough small =
-    let first = first_of start calls nb in let most = most_new start calls nb in let sequence = o.sequence in let blocks = o.blocks in let wide = o.wide in
+runs_new : {start : List Area} {calls : List ℕ} {nb : ℕ} {keeps : Bool} {words : List ℕ} → IsOpening start calls nb keeps words → IsAreaList start
+    → HasNamedKinds start → row_count start ≤ ROWS → length calls ≤ 16 → HasRoom nb (row_count start) (sum calls) → sum calls < 2 ^ 62
+    → IsRunningSpace start [] start words (first_passes (first_of start calls nb keeps) 0 (length calls))
+runs_new {start} {calls} {nb} {keeps} {words} o areas named few callers enough small =
+    let first = first_of start calls nb keeps in let most = most_new start calls nb keeps in
+    let sequence = o.sequence in let blocks = o.blocks in let wide = o.wide in
     record {
       callers = let l = length-passes first 0 (length calls) in omega arith;
       runs = (tt, refl);
@@ -151,11 +164,11 @@ runs_new {start} {calls} {nb} {words} o areas named few callers enough small =
       named = named;
       limit = few;
       grown = omega arith;
-      number = ap (λ (n : ℕ). slice_index words (number_place n)) o.blocks ∙ o.number;
+      number = λ _. ap (λ (n : ℕ). slice_index words (number_place n)) o.blocks ∙ o.number;
       sequence = let z = no_plans first 0 (length calls) (λ i. refl) in omega arith;
       small = omega arith;
       room = subst (λ (z : ℕ × ℕ). HasRoom z.0 (row_count start) z.1) (λ i. (sym o.blocks i, sym most i)) enough;
-      rows = λ none. (kind_at start, shown_new start calls nb (length calls), opens_rows o areas named few);
+      rows = λ none. (kind_at start, shown_new start calls nb keeps (length calls), opens_rows o areas named few);
       gap = λ none some. let word = o.gap in absurd (omega arith);
       parts = λ worker pass at.
           let f = at_firsts first 0 (length calls) worker pass at in
@@ -164,7 +177,7 @@ runs_new {start} {calls} {nb} {words} o areas named few callers enough small =
             seen = ([], refl);
             mine = refl;
             few = omega arith;
-            room = (sym o.blocks, omega arith);
+            room = (sym o.blocks, omega arith, sym o.kept);
             owed = tt;
             laid = λ l e. absurd (none_is l e);
             sequence = λ n e. absurd (none_is n e);
@@ -174,19 +187,20 @@ runs_new {start} {calls} {nb} {words} o areas named few callers enough small =
       total = sym (no_entries first 0 (length calls) (λ i. refl));
     }
 
-backs_new : (grants : Grants) (words : List ℕ) (start : List Area) (calls : List ℕ) (room callers : ℕ)
-    → AreBacked grants words start (first_passes (first_of start calls room) 0 callers)
-backs_new grants words start calls room callers worker pass at =
-    let f = at_firsts (first_of start calls room) 0 callers worker pass at in
+backs_new : (grants : Grants) (words : List ℕ) (start : List Area) (calls : List ℕ) (room : ℕ) (keeps : Bool) (callers : ℕ)
+    → AreBacked grants words start (first_passes (first_of start calls room keeps) 0 callers)
+backs_new grants words start calls room keeps callers worker pass at =
+    let f = at_firsts (first_of start calls room keeps) 0 callers worker pass at in
     subst (λ (q : Pass). IsBacked grants words start worker q) (sym f.1)
     (record { reads = inl (refl, refl, refl, refl); rows = λ held has. All-nil (StillStands held words); pending = tt })
 
 -- the words of an opening meet the guard
-pub opens : (grants : Grants) {start : List Area} {calls : List ℕ} {nb : ℕ} {words : List ℕ} → IsOpening start calls nb words → IsAreaList start
-    → HasNamedKinds start → row_count start ≤ ROWS → length calls ≤ 16 → HasRoom nb (row_count start) (sum calls) → sum calls ≤ 16 * 2 ^ 32
+pub opens : (grants : Grants) {start : List Area} {calls : List ℕ} {nb : ℕ} {keeps : Bool} {words : List ℕ} → IsOpening start calls nb keeps words
+    → IsAreaList start
+    → HasNamedKinds start → row_count start ≤ ROWS → length calls ≤ 16 → HasRoom nb (row_count start) (sum calls) → sum calls < 2 ^ 62
     → HasHistory grants words (first_passes (newcomer words) 0 (length calls))
-opens grants {start} {calls} {nb} {words} o areas named few callers enough small =
-    let first = first_of start calls nb in
+opens grants {start} {calls} {nb} {keeps} {words} o areas named few callers enough small =
+    let first = first_of start calls nb keeps in
     let all : first_passes (newcomer words) 0 (length calls) ≡ first_passes first 0 (length calls) =
     same_firsts (newcomer words) first 0 (length calls) (λ n from below. began o areas named n (omega arith)) in
     subst (HasHistory grants words) (sym all) (
@@ -194,7 +208,7 @@ opens grants {start} {calls} {nb} {words} o areas named few callers enough small
       [],
       start,
       runs_new o areas named few callers enough small,
-      backs_new grants words start calls nb (length calls),
+      backs_new grants words start calls nb keeps (length calls),
     )
 
 -- a caller with this seat and these rows, no rows that go, and no change of one row
@@ -235,7 +249,7 @@ new_caller left e p = λ k. caller_with (e k) left (p k)
 -- one caller more behind those that were made, with the next number, keeps them all new
 pub one_caller : (lists : ℕ) (table : TableId) (start : List Area) (calls : List ℕ) (made : List CallerView) {c : CallerView} {n : ℕ}
     → length made ≡ n → AreNewCallersIn lists table start calls made → c ≡ record {
-      seat = new_seat_in lists table (λ k. new_pass start (blocks_by table) (slice_index calls k)) n;
+      seat = new_seat_in lists table (λ k. new_pass start (blocks_by table) (keeps_by table) (slice_index calls k)) n;
       left = slice_index calls n;
       count = 0;
       cut = record { at = record { block = 0; place = 0 }; gone = 0 };
@@ -245,7 +259,7 @@ pub one_caller : (lists : ℕ) (table : TableId) (start : List Area) (calls : Li
     } → AreNewCallersIn lists table start calls (made ++ c ∷ [])
 one_caller lists table start calls made {c} {n} e all is =
     pushed_all (λ k x. x ≡ record {
-      seat = new_seat_in lists table (λ j. new_pass start (blocks_by table) (slice_index calls j)) k;
+      seat = new_seat_in lists table (λ j. new_pass start (blocks_by table) (keeps_by table) (slice_index calls j)) k;
       left = slice_index calls k;
       count = 0;
       cut = record { at = record { block = 0; place = 0 }; gone = 0 };

@@ -94,6 +94,21 @@ module _ {start : List Area} {history : List Entry} {state : List Area} {words :
         absurd (some-ne-none e (sym (ap (λ l. get_elem? l o.0) (sym none) ∙ o.1)))
   ]
 
+  -- the history is whole, with the areas that the rows stand for
+  pub whole_of : RowsShow words (kind_at state) → IsWhole callers history (areas_from (rows_in words))
+  whole_of rows =
+      let s : areas_from (rows_in words) ≡ state = areas_back (rows_in words) state rows.show r.in_order in
+      subst (IsWhole callers history) (sym s) (record {
+        runs = λ k c at. subst (λ a. Runs 0 a history state) (sym (r.parts k c.seat.pass (at_map caller_pass callers k c at)).began) r.runs;
+        calls = r.calls;
+        replies = r.replies;
+        in_order = r.in_order;
+        named = r.named;
+        mine = λ k c at. (r.parts k c.seat.pass (at_map caller_pass callers k c at)).mine;
+        seen = λ k c at. (r.parts k c.seat.pass (at_map caller_pass callers k c at)).seen;
+        no_other = λ k le. r.no_other k (let l = length-map callers caller_pass in omega arith);
+      })
+
   module _ (kept : List Kept) (all : AreKept kept callers) where
     -- all that was kept of each caller stands in the history
     pub kept_stand : (k : ℕ) (c : Kept) → get_elem? kept k ≡ some c → AllStand history c.mine.items
@@ -117,17 +132,7 @@ module _ {start : List Area} {history : List Entry} {state : List Area} {words :
         → get_elem? kept k ≡ some c → ArePlaced history c.mine.items out) → areas ≡ areas_from (rows_in words) → IsWhole callers out areas
     whole rows out areas wide placed is =
         let e : out ≡ history = history_is out (wide ∙ sym r.total) placed in
-        let s : areas ≡ state = is ∙ areas_back (rows_in words) state rows.show r.in_order in
-        subst (λ (z : List Entry × List Area). IsWhole callers z.0 z.1) (λ i. (sym e i, sym s i)) (record {
-          runs = λ k c at. subst (λ a. Runs 0 a history state) (sym (r.parts k c.seat.pass (at_map caller_pass callers k c at)).began) r.runs;
-          calls = r.calls;
-          replies = r.replies;
-          in_order = r.in_order;
-          named = r.named;
-          mine = λ k c at. (r.parts k c.seat.pass (at_map caller_pass callers k c at)).mine;
-          seen = λ k c at. (r.parts k c.seat.pass (at_map caller_pass callers k c at)).seen;
-          no_other = λ k le. r.no_other k (let l = length-map callers caller_pass in omega arith);
-        })
+        subst (λ (z : List Entry × List Area). IsWhole callers z.0 z.1) (λ i. (sym e i, sym is i)) (whole_of rows)
 
 -- one entry more at its place
 pub place_keeps : (history out : List Entry) (e : Entry) (i : ℕ) → get_elem? history e.number ≡ some e → e.number < length out

@@ -1,5 +1,5 @@
 -- The guard allows loads of the words of the layout, and what they tell.
-use Rattle.std.proofs.Common.{◌≡◌, ℕ, zero, suc, ⊎_elim, inl, inr, ◌+◌, ◌*◌, ◌≤◌, List, [], ◌∷◌, ◌++◌, length, sym, refl, ap, ◌∙◌, subst, arith}
+use Rattle.std.proofs.Common.{Bool, ◌≡◌, ℕ, zero, suc, ⊎_elim, inl, inr, ◌+◌, ◌*◌, ◌≤◌, List, [], ◌∷◌, ◌++◌, length, sym, refl, ap, ◌∙◌, subst, arith}
 use Rattle.std.proofs.lemmas.List.{get_or-drop}
 use Rattle.std.specs.Prelude.{All, Option, Some, IsSome, slice_index}
 use mathlib.Core.Option.{some, some-injective}
@@ -15,6 +15,7 @@ use Rattle.space_model.specs.Areas.{kind_at, row_count}
 use Rattle.area_guard.specs.declared.guard.Note.{Note}
 use Rattle.area_guard.specs.declared.guard.Pass.{Pass}
 use Rattle.area_guard.specs.declared.guard.ReadRow.{ReadRow}
+use Rattle.area_guard.specs.Draws.{only_load}
 use Rattle.area_guard.specs.History.MayLoad.{number, glance, sequence, layout, gap_word, row}
 use Rattle.area_guard.specs.Keeping.{no_note}
 use Rattle.area_guard.specs.Writes.{everything_pages}
@@ -63,7 +64,7 @@ is_layout_place nb (suc k) le = inr (omega arith, omega arith)
 module _ {own : Option Held → Type 0} {free held : Type 0} {words : List ℕ} {history : List Entry} {p after : Pass} where
   -- what a load of it tells of the pass
   layout_tells : {place : ℕ} → IsLayoutPlace p.blocks place → MayLoad own free held words history place p after → after ≡ after_seen words p
-  layout_tells at (number h o e is) = absurd (⊎_elim (λ two. omega arith) (λ t. let a = t.1 in omega arith) at)
+  layout_tells at (number h o keeps e is) = absurd (⊎_elim (λ two. omega arith) (λ t. let a = t.1 in omega arith) at)
   layout_tells at (glance f e is) = absurd (⊎_elim (λ two. omega arith) (λ t. let a = t.0 in omega arith) at)
   layout_tells at (sequence h e is) = absurd (⊎_elim (λ two. omega arith) (λ t. let a = t.0 in omega arith) at)
   layout_tells at (layout h e is) = is
@@ -76,7 +77,7 @@ module _ (note : Note) (seat : ℕ) (held : Option Held) (pass : Pass) where
       → IsAllowed HasHistory Allowed note seat held pass (loads place)
   may_layout place at some_held pages grants words passes m lt small = (
     after_seen words pass,
-    (here_at m, layout (held_pages grants seat held m.grant some_held pages) at refl),
+    (here_at m, inl (layout (held_pages grants seat held m.grant some_held pages) at refl)),
   )
 
 -- each word that was noted, and each that was read before and stands, stands
@@ -87,7 +88,7 @@ has_noted words (s ∷ rest) rows all slot word h = ⊎_elim (λ t. ap (λ (n : 
     (λ t. has_noted words rest rows all slot word t) h
 
 -- with a word of the layout a caller that holds everything knows all rows
-pub seen_all : {words : List ℕ} {kinds : ℕ → Option Kind} (p : Pass) → HasBlocks words p.blocks → RowsShow words kinds
+pub seen_all : {words : List ℕ} {kinds : ℕ → Option Kind} (p : Pass) {keeps : Bool} → HasBlocks words p.blocks keeps → RowsShow words kinds
     → IsGapWord (kind_at (areas_from (rows_in words))) (slice_index words 0) → ((slot word : ℕ)
     → HasRead p.rows slot word → slice_index words (3 + slot) ≡ word) → KnowsRows (after_seen words p) × (known_rows (after_seen words p) ≡ rows_in words)
 seen_all {words} {kinds} p room s right stand =
@@ -119,7 +120,8 @@ seen_is {s} {u} index {place} found same_blocks le at some_held pages rest call 
     let is_place : IsLayoutPlace here.pass.blocks place =
     subst (λ (z : ℕ × ℕ). IsLayoutPlace z.0 z.1) (λ i. (sym told i, sym at i)) (is_layout_place (blocks_by s.table) index le) in
     let stands_at : place ≡ layout_place (nb_in words) index = at ∙ ap (λ (n : ℕ). layout_place n index) blocks in
-    let seen : u.pass ≡ after_seen words s.pass = layout_tells is_place made.5.1 ∙ (λ i. after_seen words (same i)) in
+    let seen : u.pass ≡ after_seen words s.pass = layout_tells is_place
+    (only_load (λ e. ⊎_elim (λ two. omega arith) (λ t. let a = t.1 in omega arith) is_place) made.5.1) ∙ (λ i. after_seen words (same i)) in
     let many = rows_many words rows.0 rows.2 in
     record {
       words = words;

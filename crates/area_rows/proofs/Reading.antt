@@ -70,7 +70,7 @@ module _ (held : Option Held) {words : List ℕ} {kinds : ℕ → Option Kind} (
         let at : row_start (slice_index words (3 + row_slot)) ≡ row.lo = first.start (row.lo - 1) h (inr (omega arith)) ∙ sym r.lo in
         before_row s row_slot r.there (omega arith) (ap (λ (n : ℕ). kinds (n - 1)) at ∙ (same (row.lo - 1) h ∙ (e ∙ sym kind_now)));
     ends = λ a.
-        let h = a.0 in let left = a.3 in let right = a.4 in
+        let h = a.0 in let left = a.2 in let right = a.3 in
         let low : IsHeldPage held row.lo = (h, a.1, omega arith, omega arith) in
         let high : IsHeldPage held (row.hi - 1) = (h, a.1, omega arith, omega arith) in (
           first.start row.lo low (inl r.lo) ∙ sym r.lo,

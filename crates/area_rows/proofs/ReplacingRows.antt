@@ -99,7 +99,7 @@ module _ {span : Span} {words : List ℕ} {kinds : ℕ → Option Kind} (s : Row
       (λ p h. sym ((are_next 0 (rows_in words) kinds s.show).same p (omega arith) (below_end (Some (alone span)) p held_pages_alone h)))
 
   ends_now : HasEnds words row
-  ends_now = row_now.ends (alone span, refl, refl, (let b = a.round.0 in omega arith), (let e = a.round.1 in omega arith))
+  ends_now = row_now.ends (alone span, refl, (let b = a.round.0 in omega arith), (let e = a.round.1 in omega arith))
 
   -- the word of the row starts where the row does
   pub starts_now : row_start (slice_index words (3 + slot_at (layout_in words) row.index)) ≡ row.lo

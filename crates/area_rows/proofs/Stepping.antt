@@ -1,5 +1,6 @@
 -- The guard allows the steps by which a caller reads words and draws a number, and what each tells.
-use Rattle.std.proofs.Common.{◌≡◌, ℕ, ⊎_elim, inl, inr, ◌⊎◌, ◌+◌, ◌*◌, ◌<◌, ◌≤◌, List, ◌++◌, drop, length, sym, refl, ap, ◌∙◌, subst, arith}
+use Rattle.std.proofs.Common.{Bool, true, false, true≢false, ◌≡◌, ℕ, ⊎_elim, inl, inr, ◌⊎◌, ◌+◌, ◌*◌, ◌<◌, ◌≤◌, List, ◌++◌, drop, length, sym, refl}
+use Rattle.std.proofs.Common.{ap, ◌∙◌, subst, arith}
 use Rattle.std.specs.Prelude.{◌↔◌, All, Option, Some, None, IsSome, slice_index}
 use mathlib.Core.Option.{some, some-injective}
 use lib.ListN.{get_elem?}
@@ -8,7 +9,7 @@ use Rattle.page_types.specs.declared.pages.Span.{Span}
 use Rattle.page_types.specs.Named.{IsNamedCall}
 use Rattle.lock_core.specs.declared.range.Held.{Held}
 use Rattle.lock_core.specs.Grants.{Grants, Holds}
-use Rattle.lock_core.specs.Client.{loads, adds, IsAllowed, IsMade}
+use Rattle.lock_core.specs.Client.{loads, adds, Moment, IsAllowed, IsMade}
 use Rattle.range_rw.specs.Contract.{SeatState, IsClientCall, client_trace}
 use Rattle.space_model.specs.declared.areas.Area.{Area}
 use Rattle.space_model.specs.declared.entries.Entry.{Entry}
@@ -21,15 +22,17 @@ use Rattle.area_guard.specs.declared.guard.Pending.{Pending}
 use Rattle.area_guard.specs.declared.guard.Splice.{Splice}
 use Rattle.area_guard.specs.Slots.{first_slot}
 use Rattle.area_guard.specs.Keeping.{no_note}
-use Rattle.area_guard.specs.Rows.{blocks_by, number_place, slots_to, IsOneOf, room_of, rows_in}
+use Rattle.area_guard.specs.Rows.{blocks_by, keeps_by, number_place, slots_to, IsOneOf, room_of, rows_in}
 use Rattle.area_guard.specs.History.MayAdd.{draw, raise}
 use Rattle.area_guard.specs.Parts.{none_is}
-use Rattle.area_guard.specs.History.{rows_after, Runs, StartsWith, planned_calls, RowsStandFor, HasHistory, Allowed, Here, MayLoad, MayAdd, IsAtRest, IsRight}
+use Rattle.area_guard.specs.History.{rows_after, Runs, StartsWith, planned_calls, RowsStandFor, HasHistory, Allowed, Here, HasDrawn, MayLoad, MayAdd}
+use Rattle.area_guard.specs.History.{IsAtRest, IsRight}
 use Rattle.area_guard.specs.History.{Leaves, FitsIn, HoldsFor, pending_of, entry_of, after_look, after_step, after_sequence, after_row, after_draw}
 use Rattle.area_guard.specs.declared.guard.Pending.TheVariants.{AtRest, Planned, OneRow}
 use Rattle.area_guard.specs.History.MayLoad.{number, glance, sequence, layout, gap_word, row}
 use Rattle.area_guard.specs.Reads.{everything, slots_by, layout_by, IsHeldPage, HasRead, words_of, known_rows, known_words, KnowsRows, StillStands}
-use Rattle.area_guard.specs.Draws.{draw_pending, draw_mine, draw_seen, draw_start, draw_drew, draw_looks, draw_since, draw_blocks, draw_most, plan_fits}
+use Rattle.area_guard.specs.Draws.{only_load, kept_load, none_else, draw_keeps as draw_on, draw_pending, draw_mine, draw_seen, draw_start, draw_drew}
+use Rattle.area_guard.specs.Draws.{draw_looks, draw_since, draw_blocks, draw_most, plan_fits}
 use Rattle.space_model.specs.Areas.{kind_at}
 use Rattle.row_plans.specs.declared.planning.Cut.{Cut}
 use Rattle.row_plans.specs.RowWords.{row_start}
@@ -50,7 +53,7 @@ module _ {own : Option Held → Type 0} {free held : Type 0} {words : List ℕ} 
   -- what a load tells of the pass
   look_tells : (place : ℕ) → place ≡ number_place p.blocks → MayLoad own free held words history place p after
       → (h : Option Held) × own h × (after ≡ after_look history h p)
-  look_tells place at (number h o e is) = (h, o, is)
+  look_tells place at (number h o keeps e is) = (h, o, is)
   look_tells place at (glance f e is) = absurd (omega arith)
   look_tells place at (sequence h e is) = absurd (omega arith)
   look_tells place at (layout h among is) = absurd (⊎_elim (λ two. omega arith) (λ t. let a = t.1 in omega arith) among)
@@ -58,7 +61,7 @@ module _ {own : Option Held → Type 0} {free held : Type 0} {words : List ℕ} 
   look_tells place at (row i h few e is) = absurd (omega arith)
 
   sequence_tells : MayLoad own free held words history 1 p after → (free × (after ≡ after_step p)) ⊎ (after ≡ after_sequence (slice_index words 1) p)
-  sequence_tells (number h o e is) = absurd (omega arith)
+  sequence_tells (number h o keeps e is) = absurd (omega arith)
   sequence_tells (glance f e is) = inl (f, is)
   sequence_tells (sequence h e is) = inr is
   sequence_tells (layout h at is) = absurd (⊎_elim (λ two. omega arith) (λ t. let a = t.0 in omega arith) at)
@@ -67,7 +70,7 @@ module _ {own : Option Held → Type 0} {free held : Type 0} {words : List ℕ} 
 
   row_tells : (index : ℕ) → index < 128 * p.blocks → MayLoad own free held words history (3 + index) p after
       → after ≡ after_row index (slice_index words (3 + index)) p
-  row_tells index slot (number h o e is) = absurd (omega arith)
+  row_tells index slot (number h o keeps e is) = absurd (omega arith)
   row_tells index slot (glance f e is) = absurd (omega arith)
   row_tells index slot (sequence h e is) = absurd (omega arith)
   row_tells index slot (layout h at is) = absurd (⊎_elim (λ two. omega arith) (λ t. let a = t.0 in omega arith) at)
@@ -81,40 +84,54 @@ draw_keeps history e (OneRow c) held p = (refl, refl, refl)
 
 -- a caller that holds a range remembers the sequence word
 pub may_sequence : (note : Note) (seat : ℕ) (held : Option Held) (pass : Pass) → IsHeldPages held → IsAllowed HasHistory Allowed note seat held pass (loads 1)
-may_sequence note seat None pass pages grants words passes m lt small = (after_step pass, (here_at m, glance m.grant refl refl))
+may_sequence note seat None pass pages grants words passes m lt small = (after_step pass, (here_at m, inl (glance m.grant refl refl)))
 may_sequence note seat (Some h) pass pages grants words passes m lt small = (
   after_sequence (slice_index words 1) pass,
-  (here_at m, sequence (h, m.grant, pages h refl) refl refl),
+  (here_at m, inl (sequence (h, m.grant, pages h refl) refl refl)),
 )
 
 module _ (note : Note) (seat : ℕ) (held : Option Held) (pass : Pass) where
-  -- the guard allows a load of the number word at any time
-  pub may_look : (place : ℕ) → place ≡ number_place pass.blocks → IsAllowed HasHistory Allowed note seat held pass (loads place)
-  may_look place at grants words passes m lt small = (after_look m.met.1 held pass, (here_at m, number held m.grant at refl))
+  -- the guard allows a load of the number word at any time, where the space keeps its history
+  pub may_look : (place : ℕ) → pass.keeps ≡ true → place ≡ number_place pass.blocks → IsAllowed HasHistory Allowed note seat held pass (loads place)
+  may_look place keeps at grants words passes m lt small = (after_look m.met.1 held pass, (here_at m, inl (number held m.grant keeps at refl)))
 
   -- a load of a row, while pages are held
   pub may_row : (index : ℕ) → index < 128 * pass.blocks → IsSome held → IsHeldPages held → IsAllowed HasHistory Allowed note seat held pass (loads (3 + index))
   may_row index few some_held pages grants words passes m lt small = (
     after_row index (slice_index words (3 + index)) pass,
-    (here_at m, row index (held_pages grants seat held m.grant some_held pages) few refl refl),
+    (here_at m, inl (row index (held_pages grants seat held m.grant some_held pages) few refl refl)),
   )
 
   -- a draw of a number, by a caller at rest that holds what the entry names and whose reply is right
   -- at every moment
-  pub may_draw : (place : ℕ) → place ≡ number_place pass.blocks → (s : SeatState Pass) → s.number ≡ seat → s.held ≡ held → s.pass ≡ pass
-      → length pass.mine + 1 ≤ pass.most → IsNamedCall note.call → IsAtRest pass → HoldsFor held note.under
-      → Shows s (λ (words : List ℕ) (state : List Area). (left : List Area) × IsRight state note.call note.reply note.under left
-      × Leaves state note.under note.pending left) → IsAllowed HasHistory Allowed note seat held pass (adds place 1)
-  may_draw place at s n h p few named rest holds shows grants words passes m lt small =
-      let here = here_at m in
-      let right = shows _ here.history here.state words (moment_of here s (m.grant ∙ ap some (sym h)) n (sym p)) in (
-        after_draw here.history (entry_of (length here.history) seat note) note.pending held pass,
-        (
-          refl,
-          here,
-          draw at (record { left = right.0; named = named; right = right.1; leaves = right.2; rest = rest; held = (held, m.grant, holds); few = few }) refl,
-        ),
-      )
+  module _ (place : ℕ) (at : place ≡ number_place pass.blocks) (s : SeatState Pass) (n : s.number ≡ seat) (h : s.held ≡ held) (p : s.pass ≡ pass)
+      (few : length pass.mine + 1 ≤ pass.most) (named : IsNamedCall note.call) (rest : IsAtRest pass) (holds : HoldsFor pass.keeps held note.under)
+      (shows : Shows s (λ (words : List ℕ) (state : List Area). (left : List Area) × IsRight state note.call note.reply note.under left
+      × Leaves state note.under note.pending left)) where
+    -- at each moment it may draw the number
+    has_drawn : (grants : Grants) (words : List ℕ) (passes : List Pass) (m : Moment HasHistory seat held pass grants words passes)
+        → HasDrawn grants words passes seat note (here_at m)
+        (after_draw (here_at m).history (entry_of (length (here_at m).history) seat note) note.pending held pass)
+    has_drawn grants words passes m =
+        let here = here_at m in
+        let right = shows _ here.history here.state words (moment_of here s (m.grant ∙ ap some (sym h)) n (sym p)) in
+        (record { left = right.0; named = named; right = right.1; leaves = right.2; rest = rest; held = (held, m.grant, holds); few = few }, refl)
+
+    -- by an addition where the space keeps its history
+    pub may_draw : pass.keeps ≡ true → IsAllowed HasHistory Allowed note seat held pass (adds place 1)
+    may_draw keeps grants words passes m lt small =
+        let here = here_at m in (
+          after_draw here.history (entry_of (length here.history) seat note) note.pending held pass,
+          (refl, here, draw at keeps (has_drawn grants words passes m)),
+        )
+
+    -- and by a load where it keeps none
+    pub may_draw_quietly : pass.keeps ≡ false → IsAllowed HasHistory Allowed note seat held pass (loads place)
+    may_draw_quietly unkept grants words passes m lt small =
+        let here = here_at m in (
+          after_draw here.history (entry_of (length here.history) seat note) note.pending held pass,
+          (here, inr (record { number = at; unkept = unkept; drawn = has_drawn grants words passes m })),
+        )
 
   -- at a moment at which a caller at rest holds pages the rows show kinds
   pub rows_here : {grants : Grants} {words : List ℕ} {passes : List Pass} (here : Here grants words passes seat) → IsSome held → IsHeldPages held
@@ -151,36 +168,39 @@ module _ (note : Note) (seat : ℕ) (held : Option Held) (pass : Pass) where
         let still = stands held s.1 here.pass.rows index old stood (subst (λ (x : Pass). HasRead x.rows index old) (sym same) has) in
         subst (λ w. (row_start old ≤ page) ↔ (row_start w ≤ page)) s.4 (still.side page h)
 
-    drawn_as : (place : ℕ) (t u : SeatState Pass) → place ≡ number_place (blocks_by t.table) → t.number ≡ seat → t.held ≡ held → t.pass ≡ pass → u.pass ≡ after
-        → IsClientCall t place u → (s : IsMade HasHistory Allowed note seat held pass (adds place 1) found after)
-        → MayAdd s.0 s.1 s.2 seat note s.5.1 place after → IsDrawn t (entry_of found seat note) note.pending u
-    drawn_as place t u at n h p q call s (raise rows e pends written right is) = absurd (omega arith)
-    drawn_as place t u at n h p q call s (draw e d is) =
-        let m = s.3 in let here = s.5.1 in
+    -- a draw is of the entry that the note becomes: with the number that it has in the history, where the space keeps
+    -- one
+    drawn_as : (given place : ℕ) (t u : SeatState Pass) → t.pass.keeps ≡ keeps_by t.table → place ≡ number_place (blocks_by t.table) → t.number ≡ seat
+        → t.held ≡ held → t.pass ≡ pass → u.pass ≡ after → IsClientCall t place u → {grants : Grants} {words : List ℕ} {passes : List Pass}
+        → Moment HasHistory seat held pass grants words passes → (here : Here grants words passes seat) → HasDrawn grants words passes seat note here after
+        → (keeps_by t.table ≡ true → given ≡ length here.history) → (keeps_by t.table ≡ false → given ≡ 0) → IsDrawn t (entry_of given seat note) note.pending u
+    drawn_as given place t u told at n h p q call {grants} {words} {passes} m here drew num none =
+        let d = drew.0 in
+        let is = drew.1 in
         let same : here.pass ≡ pass = some-injective here.pass pass (sym here.own ∙ m.own) in
         let part = here.running.parts seat here.pass here.own in
-        let num : length here.history ≡ found = sym here.running.number ∙ (ap (slice_index s.1) (sym (e ∙ ap number_place part.room.0)) ∙ s.4) in
         let old : here.pass ≡ t.pass = same ∙ sym p in
-        let f : Entry = entry_of found seat note in
+        let f : Entry = entry_of (length here.history) seat note in
         let new : u.pass ≡ after_draw here.history f note.pending d.held.0 t.pass = q
-        ∙ (is ∙ (λ i. after_draw here.history (entry_of (num i) seat note) note.pending d.held.0 (old i))) in
-        let granted : get_elem? s.0 seat ≡ some t.held = m.grant ∙ ap some (sym h) in
+        ∙ (is ∙ (λ i. after_draw here.history f note.pending d.held.0 (old i))) in
+        let granted : get_elem? grants seat ≡ some t.held = m.grant ∙ ap some (sym h) in
         let drew : u.pass.drew ≡ d.held.0 = ap (λ (x : Pass). x.drew) new ∙ draw_drew here.history f d.held.0 t.pass note.pending in
         let held_then : d.held.0 ≡ t.held = some-injective d.held.0 t.held (sym d.held.1 ∙ granted) in
         let blocks_are : u.pass.blocks ≡ t.pass.blocks = ap (λ (x : Pass). x.blocks) new ∙ draw_blocks here.history f d.held.0 t.pass note.pending in
-        let num_is : IsNumbered t f u = record {
+        let num_is : IsNumbered t (entry_of given seat note) u = record {
           history = here.history;
           state = here.state;
           more = subst (λ (x : Pass). StartsWith here.history x.seen) old part.seen;
           runs = subst (λ (a : List Area). Runs 0 a here.history here.state) (sym part.began ∙ ap (λ (x : Pass). x.start) old) here.running.runs;
           in_order = here.running.in_order;
-          counted = sym num;
+          counted = num;
+          unkept = none;
           worker = sym n;
           left = d.left;
           right = d.right;
           seen = ap (λ (x : Pass). x.seen) new ∙ draw_seen here.history f d.held.0 t.pass note.pending;
           mine = ap (λ (x : Pass). x.mine) new ∙ draw_mine here.history f d.held.0 t.pass note.pending;
-          drew = subst (λ x. HoldsFor x note.under) (sym drew) d.held.2;
+          drew = subst (λ (z : Bool × Option Held). HoldsFor z.0 z.1 note.under) (λ i. ((ap (λ (x : Pass). x.keeps) old ∙ told) i, sym drew i)) d.held.2;
           start = ap (λ (x : Pass). x.start) new ∙ draw_start here.history f d.held.0 t.pass note.pending;
           table = call.table;
           number = call.number;
@@ -188,7 +208,7 @@ module _ (note : Note) (seat : ℕ) (held : Option Held) (pass : Pass) where
         } in
         record {
           numbered = num_is;
-          words = s.1;
+          words = words;
           moment = moment_of here t granted n old;
           drew = drew ∙ held_then;
           looks = ap (λ (x : Pass). x.looks) new ∙ draw_looks here.history f d.held.0 t.pass note.pending;
@@ -196,9 +216,10 @@ module _ (note : Note) (seat : ℕ) (held : Option Held) (pass : Pass) where
           pools = call.pools;
           further = call.further;
           blocks = blocks_are;
+          keeps_on = ap (λ (x : Pass). x.keeps) new ∙ draw_on here.history f d.held.0 t.pass note.pending;
           most = ap (λ (x : Pass). x.most) new ∙ draw_most here.history f d.held.0 t.pass note.pending;
           fits = subst (FitsIn note.pending) (ap (λ (x : Pass). x.blocks) old ∙ sym blocks_are)
-              (plan_fits here.start here.history here.state d.left s.1 s.2 seat here.pass note.call note.reply note.under note.pending
+              (plan_fits here.start here.history here.state d.left words passes seat here.pass note.call note.reply note.under note.pending
               here.running here.own d.few d.right.answers d.leaves);
           writes = ap (λ (x : Pass). x.pending) new ∙ draw_pending here.history f d.held.0 t.pass note.pending;
           keeps = subst (λ (x : Pass). KeepsRows note.pending t.pass x) (sym new) (draw_keeps here.history f note.pending d.held.0 t.pass);
@@ -206,10 +227,32 @@ module _ (note : Note) (seat : ℕ) (held : Option Held) (pass : Pass) where
         }
 
     -- an addition to the number word draws the number that it found, with the entry that the note becomes
-    pub draws : (place : ℕ) (t u : SeatState Pass) → place ≡ number_place (blocks_by t.table) → t.number ≡ seat → t.held ≡ held → t.pass ≡ pass
-        → u.pass ≡ after → IsClientCall t place u → IsMade HasHistory Allowed note seat held pass (adds place 1) found after
-        → IsDrawn t (entry_of found seat note) note.pending u
-    draws place t u at n h p q call s = drawn_as place t u at n h p q call s s.5.2
+    added : (place : ℕ) (s : IsMade HasHistory Allowed note seat held pass (adds place 1) found after) → place ≡ number_place pass.blocks
+        → MayAdd s.0 s.1 s.2 seat note s.5.1 place after → HasDrawn s.0 s.1 s.2 seat note s.5.1 after × (found ≡ length s.5.1.history)
+    added place s at (raise rows e pends written right is) = absurd (omega arith)
+    added place s at (draw e keeps drew) =
+        let here = s.5.1 in
+        let part = here.running.parts seat here.pass here.own in
+        (drew, sym s.4 ∙ (ap (slice_index s.1) (e ∙ ap number_place part.room.0) ∙ here.running.number (sym part.room.2 ∙ keeps)))
+
+    pub draws : (place : ℕ) (t u : SeatState Pass) → t.pass.blocks ≡ blocks_by t.table → t.pass.keeps ≡ keeps_by t.table → keeps_by t.table ≡ true
+        → place ≡ number_place (blocks_by t.table) → t.number ≡ seat → t.held ≡ held → t.pass ≡ pass → u.pass ≡ after → IsClientCall t place u
+        → IsMade HasHistory Allowed note seat held pass (adds place 1) found after → IsDrawn t (entry_of found seat note) note.pending u
+    draws place t u blocks told kept at n h p q call s =
+        let here = s.5.1 in
+        let a = added place s (at ∙ ap number_place (sym (ap (λ (x : Pass). x.blocks) (sym p) ∙ blocks))) s.5.2 in
+        drawn_as found place t u told at n h p q call s.3 here a.0 (λ keeps. a.1) (λ none. absurd (true≢false (sym kept ∙ none)))
+
+    -- and a load of it draws one where the space keeps no history
+    pub draws_quietly : (place : ℕ) (t u : SeatState Pass) → t.pass.blocks ≡ blocks_by t.table → t.pass.keeps ≡ keeps_by t.table → keeps_by t.table ≡ false
+        → place ≡ number_place (blocks_by t.table) → t.number ≡ seat → t.held ≡ held → t.pass ≡ pass → u.pass ≡ after → IsClientCall t place u
+        → IsMade HasHistory Allowed note seat held pass (loads place) found after → IsDrawn t (entry_of 0 seat note) note.pending u
+    draws_quietly place t u blocks told unkept at n h p q call s =
+        let here = s.5.0 in
+        let same : here.pass ≡ t.pass = some-injective here.pass pass (sym here.own ∙ s.3.own) ∙ sym p in
+        let drew = ⊎_elim (λ load. absurd (none_else (ap (λ (x : Pass). x.keeps) same ∙ (told ∙ unkept))
+        (at ∙ ap number_place (sym (ap (λ (x : Pass). x.blocks) same ∙ blocks))) load)) (λ q. q.drawn) s.5.1 in
+        drawn_as 0 place t u told at n h p q call s.3 here drew (λ keeps. absurd (true≢false (sym keeps ∙ unkept))) (λ none. refl)
 
 -- a call of the lock's client word is one step, which leaves the pass that is told
 pub step_of : {s u : SeatState Pass} {place : ℕ} {left_pass : Pass} → IsClientCall s place u → u.pass ≡ left_pass → IsClientStep s place left_pass u
@@ -224,14 +267,16 @@ step_of call is = record {
 }
 
 -- a load of the number word is a look
-pub look_is : (place : ℕ) {s u : SeatState Pass} (found : ℕ) → s.pass.blocks ≡ blocks_by s.table → place ≡ number_place (blocks_by s.table)
-    → IsClientCall s place u → IsMade HasHistory Allowed no_note s.number s.held s.pass (loads place) found u.pass → IsLook s found u
-look_is place {s} {u} found blocks at call made =
+pub look_is : (place : ℕ) {s u : SeatState Pass} (found : ℕ) → s.pass.keeps ≡ true → s.pass.blocks ≡ blocks_by s.table
+    → place ≡ number_place (blocks_by s.table) → IsClientCall s place u
+    → IsMade HasHistory Allowed no_note s.number s.held s.pass (loads place) found u.pass → IsLook s found u
+look_is place {s} {u} found kept blocks at call made =
     let m = made.3 in let here = made.5.0 in
     let same : here.pass ≡ s.pass = some-injective here.pass s.pass (sym here.own ∙ m.own) in
     let part = here.running.parts s.number here.pass here.own in
     let there : place ≡ number_place here.pass.blocks = at ∙ ap number_place (sym (ap (λ (x : Pass). x.blocks) same ∙ blocks)) in
-    let told = look_tells place there made.5.1 in
+    let keeps = ap (λ (x : Pass). x.keeps) same ∙ kept in
+    let told = look_tells place there (kept_load keeps made.5.1) in
     let held : told.0 ≡ s.held = some-injective told.0 s.held (sym told.1 ∙ m.grant) in
     let is : u.pass ≡ after_look here.history s.held s.pass = told.2 ∙ (λ i. after_look here.history (held i) (same i)) in
     let seen : u.pass.seen ≡ here.history = ap (λ (x : Pass). x.seen) is in
@@ -241,7 +286,9 @@ look_is place {s} {u} found blocks at call made =
       moment = subst (λ h. IsMoment s s.pass.start h here.state made.1) (sym seen) (moment_of here s m.grant refl same);
       step = step_of (subst (λ (n : ℕ). IsClientCall s n u) at call) (is ∙ ap (λ h. after_look h s.held s.pass) (sym seen));
       more = subst (λ h. StartsWith h s.pass.seen) (sym seen) (subst (λ (x : Pass). StartsWith here.history x.seen) same part.seen);
-      count = ap length seen ∙ (sym here.running.number ∙ (ap (slice_index made.1) (sym (there ∙ ap number_place part.room.0)) ∙ made.4));
+      count =
+          let counts = here.running.number (sym part.room.2 ∙ keeps) in
+          ap length seen ∙ (sym counts ∙ (ap (slice_index made.1) (sym (there ∙ ap number_place part.room.0)) ∙ made.4));
     }
 
 -- a pass that remembers the sequence word still has what it had read
@@ -284,7 +331,7 @@ sequence_is {s} {u} found pages call made =
     let is : u.pass ≡ after_sequence found s.pass = is_then ∙ (λ i. after_sequence (made.4 i) (same i)) in (
       step_reads (step_of call is) refl refl refl refl (remembers s.pass found again),
       λ some_held. counts_whole u found (ap (λ (x : Pass). x.sequence) is) (subst IsSome (sym call.held) some_held) (subst IsHeldPages (sym call.held) pages),
-    )) (sequence_tells made.5.1)
+    )) (sequence_tells (only_load (λ e. omega arith) made.5.1))
 
 -- a pass that has read the same over as many blocks knows the same
 pub knows_on : {p : Pass} (q : Pass) → q.laid ≡ p.laid → q.rows ≡ p.rows → q.gap ≡ p.gap → q.blocks ≡ p.blocks → KnowsRows p → KnowsRows q
@@ -376,4 +423,5 @@ pub row_loaded : {s u : SeatState Pass} (index found : ℕ) → index < 128 * s.
 row_loaded {s} index found slot call made =
     let m = made.3 in let here = made.5.0 in
     let same : here.pass ≡ s.pass = some-injective here.pass s.pass (sym here.own ∙ m.own) in
-    step_of call (row_tells index (subst (λ (x : Pass). index < 128 * x.blocks) (sym same) slot) made.5.1 ∙ (λ i. after_row index (made.4 i) (same i)))
+    let here_slot : index < 128 * here.pass.blocks = subst (λ (x : Pass). index < 128 * x.blocks) (sym same) slot in
+    step_of call (row_tells index here_slot (only_load (λ e. omega arith) made.5.1) ∙ (λ i. after_row index (made.4 i) (same i)))

@@ -1,5 +1,5 @@
 -- A call in one piece: its parts make the whole, whether its arguments decide it or the rows do.
-use Rattle.std.proofs.Common.{◌≡◌, ℕ, ◌+◌, ◌*◌, ◌≤◌, List, [], ◌∷◌, ◌++◌, length, sym, refl, ap, ◌∙◌, subst, arith, inl}
+use Rattle.std.proofs.Common.{true, ◌≡◌, ℕ, ◌+◌, ◌*◌, ◌≤◌, List, [], ◌∷◌, ◌++◌, length, sym, refl, ap, ◌∙◌, subst, arith, inl}
 use Rattle.std.specs.List.{splice}
 use Rattle.std.specs.Prelude.{All, Option, Some, None, MatchOption}
 use mathlib.Core.Option.{some}
@@ -18,10 +18,11 @@ use Rattle.space_model.specs.Answers.Answers.{by_arguments}
 use Rattle.space_model.specs.Held.{FitsByState}
 use Rattle.space_model.specs.Areas.{kind_at, row_count}
 use Rattle.atomic_table.specs.Seated.{TableId}
+use Rattle.lock_core.specs.declared.range.Held.{Held}
 use Rattle.range_rw.specs.Contract.{SeatState, IsLockCall, IsRelease, Record}
 use Rattle.area_guard.specs.declared.guard.Pass.{Pass}
 use Rattle.area_guard.specs.declared.guard.Pending.{Pending}
-use Rattle.area_guard.specs.Rows.{blocks_by, number_place, rows_in}
+use Rattle.area_guard.specs.Rows.{keeps_in, blocks_by, keeps_by, number_place, rows_in}
 use Rattle.area_guard.specs.Writes.{everything_pages}
 use Rattle.area_guard.specs.Slots.{layout_long}
 use Rattle.area_guard.specs.Reads.{everything, known_rows, KnowsRows, StillStands}
@@ -30,8 +31,8 @@ use Rattle.row_plans.specs.RowLists.{areas_from}
 use Rattle.row_plans.specs.declared.planning.Cut.{Cut}
 use Rattle.row_plans.specs.Plans.{PlanShows, spliced, IsPlan, LeavesRows}
 use Rattle.row_plans.proofs.PlanLeft.{counted_rows}
-use Rattle.area_rows.specs.Callers.{CallerView, IsMoment, MayNumber, IsKnown, HasPlanned, IsReading, IsNumbered, IsDrawn, IsWritten}
-use Rattle.area_rows.specs.Called.{IsLastPlace, IsLastStep, IsCalled, EndsSoon}
+use Rattle.area_rows.specs.Callers.{CallerView, IsMoment, MayNumber, IsKnown, HasPlanned, IsReading, entry_in, IsNumbered, IsDrawn, IsWritten}
+use Rattle.area_rows.specs.Called.{IsLastPlace, IsLastStep, IsCalled, EndsAtOnce, EndsSoon}
 use Rattle.area_rows.proofs.Moments.{stands, nobody_plans, rows_are, here_of}
 use Rattle.row_blocks.specs.declared.positions.Position.{Position}
 use Rattle.row_blocks.proofs.RowSplices.{splice_none}
@@ -76,7 +77,7 @@ rows_now c held rest knows start history state words m =
     let w = knows.words in
     let still = ap length (part.laid w.layout (m.read.laid w.layout w.laid)) in
     let all = layout_long words stand.2.room in let long = w.long in
-    let has : HasBlocks words c.seat.pass.blocks = (omega arith, stand.2.room) in
+    let has : HasBlocks words c.seat.pass.blocks (keeps_in words) = (omega arith, stand.2.room, refl) in
     let at = known_at words c.seat.pass has w
     (λ slot word read. (stands (Some everything) words m.pass.rows slot word stood (m.read.rows slot word read)).word refl)
     (λ layout e. part.laid layout (m.read.laid layout e)) in
@@ -119,80 +120,107 @@ rows_left pass cut more leaves =
     let end : number_at pass cut.at + cut.gone ≡ number_at pass cut.at = omega arith in
     (λ i. splice (known_rows pass) (number_at pass cut.at) (end i) (leaves.1 i)) ∙ splice_none (known_rows pass) (number_at pass cut.at)
 
+-- where the space keeps its history a call's entry is the history's
+pub kept_entry : {a b : SeatState Pass} {e : Entry} (num : IsNumbered a e b) → keeps_by a.table ≡ true → entry_in num.history e ≡ e
+kept_entry {e} num keeps = λ i. record e { number = sym (num.counted keeps) i }
+
+-- two seats are of one table and number, and have begun with, seen and numbered the same
+abbrev pub HasSeenSame : SeatState Pass → SeatState Pass → Type 0
+HasSeenSame before after = (after.table ≡ before.table) × (after.number ≡ before.number) × (after.pass.start ≡ before.pass.start)
+    × (after.pass.seen ≡ before.pass.seen) × (after.pass.mine ≡ before.pass.mine)
+
+-- steps that read leave that
+pub seen_read : {a b : SeatState Pass} → IsReading a b → HasSeenSame a b
+seen_read r = (r.table, r.number, r.start, r.seen, r.mine)
+
+-- so do steps of the lock
+pub seen_locked : {a b : SeatState Pass} → IsLockCall a b → HasSeenSame a b
+seen_locked l = (l.table, l.number, ap (λ (x : Pass). x.start) l.pass, ap (λ (x : Pass). x.seen) l.pass, ap (λ (x : Pass). x.mine) l.pass)
+
+-- and giving a range back
+pub seen_released : {a b : SeatState Pass} → IsRelease rest_of a b → HasSeenSame a b
+seen_released l = (l.table, l.number, ap (λ (x : Pass). x.start) l.pass, ap (λ (x : Pass). x.seen) l.pass, ap (λ (x : Pass). x.mine) l.pass)
+
+-- a numbering is one still between seats that have seen the same as its own
+pub numbered_on : {a b n d : SeatState Pass} {e : Entry} → HasSeenSame a b → IsNumbered b e n → HasSeenSame n d → d.pass.drew ≡ n.pass.drew
+    → d.held ≡ a.held → IsNumbered a e d
+numbered_on {e} from num to drew held = record {
+  history = num.history;
+  state = num.state;
+  more = subst (StartsWith num.history) from.3 num.more;
+  runs = subst (λ (l : List Area). Runs 0 l num.history num.state) from.2 num.runs;
+  in_order = num.in_order;
+  counted = λ keeps. num.counted (ap keeps_by from.0 ∙ keeps);
+  unkept = λ none. num.unkept (ap keeps_by from.0 ∙ none);
+  worker = num.worker ∙ from.1;
+  left = num.left;
+  right = num.right;
+  seen = to.3 ∙ num.seen;
+  mine = to.4 ∙ (num.mine ∙ ap (λ m. m ++ entry_in num.history e ∷ []) from.4);
+  drew = subst (λ (z : TableId × Option Held). HoldsFor (keeps_by z.0) z.1 e.under) (λ i. (from.0 i, sym drew i)) num.drew;
+  start = to.2 ∙ (num.start ∙ from.2);
+  table = to.0 ∙ (num.table ∙ from.0);
+  number = to.1 ∙ (num.number ∙ from.1);
+  held = held;
+}
+
 -- what the lock does before leaves the call as it is
 pub called_from : (a b c : CallerView) (e : Entry) (line : ℕ) (call : Call) → a.seat.held ≡ None → IsLockCall a.seat b.seat
     → b.left ≡ a.left → IsCalled (record b { seat = record b.seat { held = None } }) line call e c → IsCalled a line call e c
-called_from a b c e line call free lock same called =
-    let num = called.numbered in
-    record {
-      line_is = called.line_is;
-      call_is = called.call_is;
-      named = called.named;
-      numbered = record {
-        history = num.history;
-        state = num.state;
-        more = subst (λ (p : Pass). StartsWith num.history p.seen) lock.pass num.more;
-        runs = subst (λ (p : Pass). Runs 0 p.start num.history num.state) lock.pass num.runs;
-        in_order = num.in_order;
-        counted = num.counted;
-        worker = num.worker ∙ lock.number;
-        left = num.left;
-        right = num.right;
-        seen = num.seen;
-        mine = num.mine ∙ ap (λ (p : Pass). p.mine ++ e ∷ []) lock.pass;
-        drew = num.drew;
-        start = num.start ∙ ap (λ (p : Pass). p.start) lock.pass;
-        table = num.table ∙ lock.table;
-        number = num.number ∙ lock.number;
-        held = num.held ∙ sym free;
-      };
-      last = record {
-        place = called.last.place;
-        step = called.last.step;
-        word = subst (λ (t : TableId). IsLastPlace (blocks_by t) e.under called.last.place) lock.table called.last.word;
-        client = called.last.client;
-        since = let l = lock.taken in let m = called.last.since in omega arith;
-        until = called.last.until;
-      };
-      written = called.written;
-      left = called.left ∙ same;
-    }
+called_from a b c e line call free lock same called = record {
+  line_is = called.line_is;
+  call_is = called.call_is;
+  named = called.named;
+  numbered = numbered_on (seen_locked lock) called.numbered (refl, refl, refl, refl, refl) refl (called.numbered.held ∙ sym free);
+  last = record {
+    place = called.last.place;
+    step = called.last.step;
+    word = subst (λ (t : TableId). IsLastPlace (blocks_by t) e.under called.last.place) lock.table called.last.word;
+    client = called.last.client;
+    since = let l = lock.taken in let m = called.last.since in omega arith;
+    until = called.last.until;
+  };
+  written = called.written;
+  left = called.left ∙ same;
+}
 
--- holding, numbering, writing and giving back are one numbering
-pub numbered_whole : {a b p n w d : SeatState Pass} {e : Entry} {pending : Pending} → a.held ≡ None → IsLockCall a b → IsReading b p → IsDrawn p e pending n
-    → IsWritten n w → IsRelease rest_of w d → IsNumbered a e d
-numbered_whole {e} free call reading drawn written release =
-    let num = drawn.numbered in
-    record {
-      history = num.history;
-      state = num.state;
-      more = subst (StartsWith num.history) (reading.seen ∙ ap (λ (x : Pass). x.seen) call.pass) num.more;
-      runs = subst (λ (l : List Area). Runs 0 l num.history num.state) (reading.start ∙ ap (λ (x : Pass). x.start) call.pass) num.runs;
-      in_order = num.in_order;
-      counted = num.counted;
-      worker = num.worker ∙ (reading.number ∙ call.number);
-      left = num.left;
-      right = num.right;
-      seen = ap (λ (x : Pass). x.seen) release.pass ∙ (written.seen ∙ num.seen);
-      mine = ap (λ (x : Pass). x.mine) release.pass ∙ (written.mine ∙ (num.mine ∙ ap (λ m. m ++ e ∷ []) (reading.mine ∙ ap (λ (x : Pass). x.mine) call.pass)));
-      drew = subst (λ h. HoldsFor h e.under) (sym (ap (λ (x : Pass). x.drew) release.pass ∙ written.drew)) num.drew;
-      start = ap (λ (x : Pass). x.start) release.pass ∙ (written.start ∙ (num.start ∙ (reading.start ∙ ap (λ (x : Pass). x.start) call.pass)));
-      table = release.table ∙ (written.table ∙ (num.table ∙ (reading.table ∙ call.table)));
-      number = release.number ∙ (written.number ∙ (num.number ∙ (reading.number ∙ call.number)));
-      held = release.held ∙ sym free;
-    }
+-- and so does giving the range back behind it
+pub called_back : (a w d : CallerView) {e : Entry} {line : ℕ} {call : Call} → a.seat.held ≡ None → IsRelease rest_of w.seat d.seat → d.left ≡ w.left
+    → IsCalled a line call e (record w { seat = record w.seat { held = None } }) → IsCalled a line call e d
+called_back a w d free release same called = record {
+  line_is = called.line_is;
+  call_is = called.call_is;
+  named = called.named;
+  numbered = numbered_on (refl, refl, refl, refl, refl) called.numbered (seen_released release) (ap (λ (x : Pass). x.drew) release.pass)
+      (release.held ∙ sym free);
+  last = record {
+    place = called.last.place;
+    step = called.last.step;
+    word = called.last.word;
+    client = release.client ∙ called.last.client;
+    since = called.last.since;
+    until = let u = called.last.until in let l = release.least in omega arith;
+  };
+  written = ap (λ (x : Pass). x.pending) release.pass ∙ called.written;
+  left = ap (λ k. k + 1) same ∙ called.left;
+}
+
+-- by a caller that holds everything before and afterwards planning, numbering and writing are one numbering
+pub numbered_held : {b p n w : SeatState Pass} {e : Entry} {pending : Pending} → IsReading b p → IsDrawn p e pending n → IsWritten n w
+    → IsNumbered (record b { held = None }) e (record w { held = None })
+numbered_held reading drawn w = numbered_on (seen_read reading) drawn.numbered (w.table, w.number, w.start, w.seen, w.mine) w.drew refl
 
 -- and its last step on a client word raised the sequence word
-pub last_whole : {a b p n w d : SeatState Pass} {e : Entry} {pending : Pending} → IsLockCall a b → IsReading b p → IsDrawn p e pending n → IsWritten n w
-    → IsRelease rest_of w d → IsLastStep a Whole d
-last_whole {p} {n} call reading drawn written release = record {
+pub last_held : {b p n w : SeatState Pass} {pending : Pending} {e : Entry} → IsReading b p → IsDrawn p e pending n → IsWritten n w
+    → IsLastStep (record b { held = None }) Whole (record w { held = None })
+last_held {b} {p} {n} reading drawn written = record {
   place = 1;
   step = written.step;
   word = refl;
-  client = release.client ∙ written.client;
-  since = let c = call.taken in let r = reading.taken in
+  client = written.client;
+  since = let r = reading.taken in
       let t : n.trace.taken ≡ p.trace.taken + 1 = ap (λ (x : Record). x.taken) drawn.trace in let s = written.since in omega arith;
-  until = let u = written.until in let l = release.least in omega arith;
+  until = written.until;
 }
 
 -- a caller that holds everything knows as many rows as the state has
@@ -204,28 +232,45 @@ rows_counted c held rest known start history state words m =
     let are = rows_are (here_of m) (m.granted ∙ ap some held) (m.read.pending ∙ rest) (rows_now c held rest known.rows start history state words m) in
     counted_rows rows known.list ∙ ap row_count are.1
 
--- and its steps from the draw on are those of the writing and of giving back
-pub ends_soon : {a b n w d : SeatState Pass} {p : CallerView} {e : Entry} {pending : Pending} → IsLockCall a b → IsReading b p.seat
-    → p.seat.held ≡ Some everything → IsAtRest p.seat.pass → IsKnown p → IsDrawn p.seat e pending n → IsWritten n w → IsRelease rest_of w d
-    → w.trace.taken ≤ n.trace.taken + (2 * length p.more + 13 * blocks_by a.table + 1833)
-    → ((why : Why) → e.reply ≡ Refused why → w.trace.taken ≡ n.trace.taken + 1) → EndsSoon a e d
-ends_soon {a} {d} {p} call reading held rest known drawn written release steps refused =
+-- its steps from the draw on are those of the writing
+pub ends_soon : {b n w : SeatState Pass} {p : CallerView} {e : Entry} {pending : Pending} → IsReading b p.seat → p.seat.held ≡ Some everything
+    → IsAtRest p.seat.pass → IsKnown p → IsDrawn p.seat e pending n → IsWritten n w
+    → w.trace.taken ≤ n.trace.taken + (2 * length p.more + 13 * blocks_by b.table + 1833)
+    → ((why : Why) → e.reply ≡ Refused why → w.trace.taken ≡ n.trace.taken + 1) → EndsSoon b e w
+ends_soon {p} reading held rest known drawn written steps refused =
     let num = drawn.numbered in
-    let since = ap (λ (x : Pass). x.since) release.pass in
     let counted = written.counted in let none = drawn.since in
     record {
       history = num.history;
       state = num.state;
-      runs = subst (λ (l : List Area). Runs 0 l num.history num.state) (reading.start ∙ ap (λ (x : Pass). x.start) call.pass) num.runs;
+      runs = subst (λ (l : List Area). Runs 0 l num.history num.state) reading.start num.runs;
       in_order = num.in_order;
-      seen = ap (λ (x : Pass). x.seen) release.pass ∙ (written.seen ∙ num.seen);
+      seen = written.seen ∙ num.seen;
       since =
           let rows = rows_counted p held rest known _ _ _ _ drawn.moment in
           let grows = known.grows in let there = known.there in omega arith;
       refused = λ why is. let one = refused why is in omega arith;
       step = written.step;
-      client = release.client ∙ written.client;
-      back = let l = written.last in let most = release.most in omega arith;
+      client = written.client;
+      back = let l = written.last in omega arith;
+    }
+
+-- and one or two more give the pages back
+pub ends_back : {a b w d : SeatState Pass} {e : Entry} → IsLockCall a b → EndsSoon b e w → EndsAtOnce w → IsRelease rest_of w d → EndsSoon a e d
+ends_back {a} {b} call soon last release =
+    let since = ap (λ (x : Pass). x.since) release.pass in
+    let blocks : blocks_by b.table ≡ blocks_by a.table = ap blocks_by call.table in
+    record {
+      history = soon.history;
+      state = soon.state;
+      runs = subst (λ (x : Pass). Runs 0 x.start soon.history soon.state) call.pass soon.runs;
+      in_order = soon.in_order;
+      seen = ap (λ (x : Pass). x.seen) release.pass ∙ soon.seen;
+      since = let most = soon.since in omega arith;
+      refused = λ why is. since ∙ soon.refused why is;
+      step = last.0;
+      client = release.client ∙ last.1;
+      back = let l = last.2 in let most = release.most in omega arith;
     }
 
 -- a draw is the last step of a call under nothing

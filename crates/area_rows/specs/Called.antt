@@ -19,7 +19,7 @@ use Rattle.area_rows.specs.declared.answer.Answer.{Answer}
 use Rattle.area_rows.specs.declared.answer.Answer.TheVariants.{Given, Spent}
 use Rattle.area_guard.specs.Rows.{blocks_by, number_place}
 use Rattle.area_guard.specs.History.{Runs, IsAtRest}
-use Rattle.area_rows.specs.Callers.{CallerView, IsNumbered}
+use Rattle.area_rows.specs.Callers.{CallerView, IsNumbered, entry_in}
 
 -- the client word of a call's last step, over so many blocks: the number word; over an area this, or a row word where
 -- a row changes; under everything the sequence word
@@ -65,12 +65,16 @@ pub record EndsSoon (before : SeatState Pass) (e : Entry) (after : SeatState Pas
   pub state : List Areas
   pub runs : Runs 0 before.pass.start history state
   pub in_order : IsAreaList state
-  pub seen : after.pass.seen ≡ history ++ e ∷ []
+  pub seen : after.pass.seen ≡ history ++ entry_in history e ∷ []
   pub since : after.pass.since ≤ 2 * (row_count state + SPARE) + 13 * blocks_by before.table + 1833
   pub refused : (why : Why) → e.reply ≡ Refused why → after.pass.since ≡ 1
   pub step : ℕ
   pub client : after.trace.client ≡ Some (record { place = 1; step = step })
   pub back : after.trace.taken ≤ step + 3
+
+-- the caller's last step raised the sequence word, which ends a call under everything
+abbrev pub EndsAtOnce : SeatState Pass → Type 0
+EndsAtOnce after = (step : ℕ) × (after.trace.client ≡ Some (record { place = 1; step = step })) × (after.trace.taken ≡ step + 1)
 
 -- how many steps a call takes: one where its arguments decide it, and none where no number is left. Any other waits
 -- until it holds everything, and ends soon

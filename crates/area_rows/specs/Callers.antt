@@ -1,7 +1,8 @@
 -- What contracts see of a caller and of a space, and what each call says. What a caller's range has shown of the
 -- history is stated as what is so at every moment at which the caller holds that range and has read those rows; so it
 -- lasts while the caller keeps both. The definitions are this project's own.
-use Rattle.std.specs.Prelude.{ℕ, ◌≡◌, ◌≢◌, ◌<◌, ◌≤◌, ◌+◌, ◌-◌, ◌/◌, ◌%◌, Option, Some, None, List, [], ◌∷◌, ◌++◌, length, min, slice_index, ◌⊎◌}
+use Rattle.std.specs.Prelude.{Bool, true, false, ℕ, ◌≡◌, ◌≢◌, ◌<◌, ◌≤◌, ◌+◌, ◌-◌, ◌/◌, ◌%◌, Option, Some, None, List, [], ◌∷◌, ◌++◌, length, min}
+use Rattle.std.specs.Prelude.{slice_index, ◌⊎◌}
 use mathlib.Core.Option.{some}
 use lib.ListN.{get_elem?}
 use Rattle.page_types.specs.declared.TheConstants.{LIMIT, ROWS, SPARE}
@@ -14,7 +15,6 @@ use Rattle.atomic_table.specs.Seated.{TableId}
 use Rattle.lock_core.specs.Grants.{Grants, IsExclusive}
 use Rattle.lock_core.specs.declared.range.Held.{Held}
 use Rattle.lock_core.specs.declared.range.Mode.{Mode}
-use Rattle.lock_core.specs.declared.range.Mode.TheVariants.{Writer}
 use Rattle.page_types.specs.declared.calls.Call.{Call}
 use Rattle.page_types.specs.declared.calls.Reply.{Reply}
 use Rattle.page_types.specs.declared.pages.Span.{Span}
@@ -32,7 +32,7 @@ use Rattle.area_rows.specs.declared.space.SpaceFault.{SpaceFault}
 use Rattle.area_rows.specs.declared.space.SpaceFault.TheVariants.{Callers, Rows, Memory}
 use Rattle.row_plans.specs.RowWords.{row_start, row_kind}
 use Rattle.area_guard.specs.Rows.{layout_in, slots_of, slot_at, slots_in, AreNeighbours, IsOneOf, IsFirstOf, IsLastOf, IsNext, IsRowOf, rows_in}
-use Rattle.area_guard.specs.Rows.{blocks_by, number_place, room_of, IsInReach}
+use Rattle.area_guard.specs.Rows.{blocks_by, keeps_by, number_place, room_of, IsInReach}
 use Rattle.row_plans.specs.declared.planning.Cut.{Cut}
 use Rattle.row_plans.specs.Plans.{IsRowList, spliced, IsPlan}
 use Rattle.row_plans.specs.RowLists.{areas_from}
@@ -179,9 +179,9 @@ pub record IsAsRead (pass : Pass) (row : Row) : Type 0 where
   pub place : IsPlaceOf layout row.index
   pub in_slot : IsReadIn pass.rows (slots_of layout) (slot_at layout row.index) row
 
--- a page past each end of the row is held as well, by a writer, or there is none
+-- a page past each end of the row is held as well, or there is none
 abbrev pub HoldsAround : Option Held → Row → Type 0
-HoldsAround held row = (h : Held) × (held ≡ Some h) × (h.mode ≡ Writer) × (h.range.lo ≤ row.lo - 1) × (min (row.hi + 1) LIMIT ≤ h.range.hi)
+HoldsAround held row = (h : Held) × (held ≡ Some h) × (h.range.lo ≤ row.lo - 1) × (min (row.hi + 1) LIMIT ≤ h.range.hi)
 
 -- where the row in a slot ends: where the one in the next slot starts, or at LIMIT
 abbrev pub IsEndIn : List ℕ → ℕ → ℕ → Type 0
@@ -263,11 +263,13 @@ pub record IsStoredRow (before : SeatState Pass) (index : ℕ) (after : SeatStat
   pub further : after.further ≡ before.further
   pub trace : after.trace ≡ client_trace before.trace (3 + index)
 
--- a new pass over these areas, in a table with room for so many blocks, of a caller that may have so many entries
-abbrev pub new_pass : List Area → ℕ → ℕ → Pass
-new_pass start blocks most = record {
+-- a new pass over these areas, in a table with room for so many blocks, whose space keeps its history or doesn't, of a
+-- caller that may have so many entries
+abbrev pub new_pass : List Area → ℕ → Bool → ℕ → Pass
+new_pass start blocks keeps most = record {
   start = start;
   blocks = blocks;
+  keeps = keeps;
   most = most;
   seen = [];
   mine = [];
@@ -286,7 +288,7 @@ new_pass start blocks most = record {
 abbrev pub AreNewCallersIn : ℕ → TableId → List Area → List ℕ → List CallerView → Type 0
 AreNewCallersIn lists table start calls callers = (k : ℕ) (c : CallerView) → get_elem? callers k ≡ some c
     → c ≡ record {
-      seat = new_seat_in lists table (λ n. new_pass start (blocks_by table) (slice_index calls n)) k;
+      seat = new_seat_in lists table (λ n. new_pass start (blocks_by table) (keeps_by table) (slice_index calls n)) k;
       left = slice_index calls k;
       count = 0;
       cut = record { at = record { block = 0; place = 0 }; gone = 0 };
@@ -341,8 +343,13 @@ pub record IsLook (before : SeatState Pass) (found : ℕ) (after : SeatState Pas
   pub more : StartsWith after.pass.seen before.pass.seen
   pub count : length after.pass.seen ≡ found
 
+-- an entry as the history has it, behind what there was: with its number. Where the space keeps its history that is the
+-- number of the entry that the call gives, and otherwise the call gives it with number 0
+abbrev pub entry_in : List Entry → Entry → Entry
+entry_in history e = record e { number = length history }
+
 -- a call got the next number. The history before the entry begins with what the caller had seen before the call, the
--- entry is right at the state that this history leaves, and the caller sees it at the end and stores it. At the step
+-- entry is right at the state that this history leaves, and the caller sees it at the end and has it. At the step
 -- that drew its last number, which is this one, the caller held what the entry names
 pub record IsNumbered (before : SeatState Pass) (e : Entry) (after : SeatState Pass) : Type 0 where
   pub history : List Entry
@@ -350,13 +357,14 @@ pub record IsNumbered (before : SeatState Pass) (e : Entry) (after : SeatState P
   pub more : StartsWith history before.pass.seen
   pub runs : Runs 0 before.pass.start history state
   pub in_order : IsAreaList state
-  pub counted : e.number ≡ length history
+  pub counted : keeps_by before.table ≡ true → e.number ≡ length history
+  pub unkept : keeps_by before.table ≡ false → e.number ≡ 0
   pub worker : e.worker ≡ before.number
   pub left : List Area
   pub right : IsRight state e.call e.reply e.under left
-  pub seen : after.pass.seen ≡ history ++ e ∷ []
-  pub mine : after.pass.mine ≡ before.pass.mine ++ e ∷ []
-  pub drew : HoldsFor after.pass.drew e.under
+  pub seen : after.pass.seen ≡ history ++ entry_in history e ∷ []
+  pub mine : after.pass.mine ≡ before.pass.mine ++ entry_in history e ∷ []
+  pub drew : HoldsFor (keeps_by before.table) after.pass.drew e.under
   pub start : after.pass.start ≡ before.pass.start
   pub table : after.table ≡ before.table
   pub number : after.number ≡ before.number
@@ -381,6 +389,7 @@ pub record IsDrawn (before : SeatState Pass) (e : Entry) (pending : Pending) (af
   pub pools : after.pools ≡ before.pools
   pub further : after.further ≡ before.further
   pub blocks : after.pass.blocks ≡ before.pass.blocks
+  pub keeps_on : after.pass.keeps ≡ before.pass.keeps
   pub most : after.pass.most ≡ before.pass.most
   pub fits : FitsIn pending after.pass.blocks
   pub writes : after.pass.pending ≡ pending

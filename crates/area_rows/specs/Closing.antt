@@ -1,6 +1,6 @@
 -- How the whole history is put together when a space is closed: each caller's entries go to the places of their
 -- numbers. Only private functions speak of this; what callers see is `IsWhole`.
-use Rattle.std.specs.Prelude.{ℕ, ◌≡◌, ◌+◌, ◌≤◌, ◌<◌, ◌^◌, None, List, [], ◌∷◌, map, vec_len, vec_capacity}
+use Rattle.std.specs.Prelude.{true, length, ℕ, ◌≡◌, ◌+◌, ◌≤◌, ◌<◌, ◌^◌, None, List, [], ◌∷◌, map, vec_len, vec_capacity}
 use mathlib.Core.Option.{some}
 use lib.ListN.{get_elem?}
 use Rattle.page_types.specs.declared.TheConstants.{SPARE}
@@ -8,7 +8,7 @@ use Rattle.space_model.specs.declared.entries.Entry.{Entry}
 use Rattle.range_rw.specs.Contract.{SeatState}
 use Rattle.area_guard.specs.declared.guard.Pass.{Pass}
 use Rattle.area_rows.specs.declared.close.Kept.{Kept}
-use Rattle.area_guard.specs.Rows.{blocks_by, room_of}
+use Rattle.area_guard.specs.Rows.{blocks_by, keeps_by, room_of}
 use Rattle.area_guard.specs.History.{entry_count, IsAtRest}
 use Rattle.area_rows.specs.Callers.{CallerView, IsHeldPages}
 
@@ -44,20 +44,26 @@ caller_of s k = record { seat = s; left = k.left; count = k.count; cut = k.cut; 
 pub record IsPair (s : SeatState Pass) (k : Kept) (c : CallerView) : Type 0 where
   pub whole : c ≡ caller_of s k
   pub number : s.number ≡ k.worker
-  pub mine : k.mine.items ≡ s.pass.mine
-  pub room : vec_len k.mine + k.left ≤ vec_capacity k.mine
-  pub few : vec_len k.mine + k.left ≤ s.pass.most
+  pub mine : k.keeps ≡ true → k.mine.items ≡ s.pass.mine
+  pub room : k.keeps ≡ true → vec_len k.mine + k.left ≤ vec_capacity k.mine
+  pub few : length s.pass.mine + k.left ≤ s.pass.most
   pub plan : room_of s.pass.blocks + SPARE ≤ vec_capacity k.plan
   pub pages : IsHeldPages s.held
   pub rest : s.held ≡ None → IsAtRest s.pass
   pub blocks : s.pass.blocks ≡ blocks_by s.table
-  pub most : s.pass.most < 2 ^ 32
+  pub most : s.pass.most < 2 ^ 57
+  pub kept : k.keeps ≡ keeps_by s.table
+  pub keeps : s.pass.keeps ≡ keeps_by s.table
 
 -- the same of lists of them
 abbrev pub ArePairs : List (SeatState Pass) → List Kept → List CallerView → Type 0
 ArePairs [] [] [] = Unit {0}
 ArePairs (s ∷ ss) (k ∷ ks) (c ∷ cs) = IsPair s k c × ArePairs ss ks cs
 ArePairs _ _ _ = ⊥
+
+-- the callers are of a space that keeps its history
+abbrev pub AreKeeping : List CallerView → Type 0
+AreKeeping callers = (k : ℕ) (c : CallerView) → get_elem? callers k ≡ some c → keeps_by c.seat.table ≡ true
 
 -- what the callers kept are their own entries
 abbrev pub AreKept : List Kept → List CallerView → Type 0

@@ -6,8 +6,8 @@ ghost use Rattle.page_types.specs.declared.TheConstants.{LIMIT};
 ghost use Rattle.space_model.specs.Areas.{IsAreaList, HasNamedKinds, row_count};
 ghost use Rattle.row_plans.specs.RowLists.{gap_rows, rows_from};
 ghost use Rattle.row_blocks.specs.Blocks.{IsLaidOut, blocks_of, rows_of, rows_in};
-ghost use Rattle.area_guard.specs.Rows.{number_place};
-ghost use Rattle.area_rows.specs.Opening.{IsOpening};
+ghost use Rattle.area_guard.specs.Rows.{keeps_in, number_place};
+ghost use Rattle.area_rows.specs.Opening.{IsOpening, told_of};
 
 use crate::words::{FIRST_ROW, ROW_COUNT};
 use page_types::LIMIT;
@@ -43,7 +43,7 @@ fn push_rows(words: &mut Vec<u64>, areas: &[Area]) -> Result<(), AllocError>
 }
 
 /// Sets how many numbers each caller may draw, from a place on.
-fn set_quotas(words: &mut [u64], from: usize, calls: &[u32])
+fn set_quotas(words: &mut [u64], from: usize, calls: &[u64])
     requires { from + length calls.now ≤ length words.old }
     ensures length { length words.new ≡ length words.old }
     ensures quotas { (n : ℕ) → n < length calls.now → slice_index words.new (from + n) ≡ slice_index calls.now n }
@@ -51,47 +51,51 @@ fn set_quotas(words: &mut [u64], from: usize, calls: &[u32])
 {
     let mut k = 0;
     'callers: while k < calls.len() {
-        words[from + k] = u64::from(calls[k]);
+        words[from + k] = calls[k];
         k += 1;
     }
 }
 
-/// How many words are left unused, so that the number of all words of a table, divided by 257, leaves an eighth of the
-/// number of blocks. `lock` is how many words the lock has.
-pub(crate) fn spare_words(lock: u64, blocks: u32) -> u32
+/// How many words are left unused, so that the number of all words of a table, divided by 514, leaves an eighth of the
+/// number of blocks, and 257 more where the space keeps no history. `lock` is how many words the lock has.
+pub(crate) fn spare_words(lock: u64, blocks: u32, keeps: bool) -> u32
     requires lock { lock ≤ 2 ^ 32 }
     requires few { blocks ≤ 2048 }
-    ensures tells { (lock + (36 + 129 * blocks + result)) % 257 ≡ blocks / 8 }
-    ensures most { result < 257 }
+    ensures tells { (lock + (36 + 129 * blocks + result)) % 514 ≡ told_of blocks keeps }
+    ensures most { result < 514 }
 {
     let wide = lock + (36 + 129 * u64::from(blocks));
-    ((u64::from(blocks / 8) + 256 * wide) % 257) as u32
+    let told = u64::from(blocks / 8) + if keeps { 0 } else { 257 };
+    ((told + 513 * wide) % 514) as u32
 }
 
-/// All words but those of the rows: no entry, none under everything, no gap word, the row count, and how many blocks
-/// there are and how many numbers each caller may draw.
+/// All words but those of the rows: no entry, none under everything, no gap word, the row count, whether the space
+/// keeps its history, how many blocks there are, and how many numbers each caller may draw.
 fn words_around(
     alloc: Global,
-    calls: &[u32],
+    calls: &[u64],
+    keeps: bool,
     rows: u32,
     blocks: u32,
     spare: u32,
 ) -> Result<Vec<u64>, AllocError>
     requires callers { length calls.now ≤ 16 }
     requires few { blocks ≤ 2048 }
-    requires spare { spare < 257 }
+    requires spare { spare < 514 }
     ensures wide { IfOk result (λ words. length words.items ≡ 36 + 129 * blocks + spare) }
     ensures number { IfOk result (λ words. slice_index words.items (number_place blocks) ≡ 0) }
     ensures gap { IfOk result (λ words. slice_index words.items 0 ≡ 0) }
     ensures sequence { IfOk result (λ words. slice_index words.items 1 ≡ 0) }
     ensures count { IfOk result (λ words. slice_index words.items 2 ≡ rows) }
     ensures blocks { IfOk result (λ words. slice_index words.items (length words.items - 17) ≡ blocks) }
+    ensures kept { IfOk result (λ words. keeps_in words.items ≡ keeps) }
     ensures quotas { IfOk result (λ words. (n : ℕ) → n < length calls.now
         → slice_index words.items (length words.items - 16 + n) ≡ slice_index calls.now n) }
 {
     let all = 36 + 129 * blocks as usize + spare as usize;
     let mut words = vec![in alloc; 0; all]?;
     words[ROW_COUNT as usize] = u64::from(rows);
+    words[all - 18] = if keeps { 1 } else { 0 };
     words[all - 17] = u64::from(blocks);
     set_quotas(words.as_mut_slice(), all - 16, calls);
     Ok(words)
@@ -122,7 +126,8 @@ fn lay_rows(words: &mut Vec<u64>, blocks: usize, rows: &[u64])
 pub(crate) fn words_of(
     alloc: Global,
     start: &[Area],
-    calls: &[u32],
+    calls: &[u64],
+    keeps: bool,
     rows: u32,
     blocks: u32,
     spare: u32,
@@ -133,13 +138,13 @@ pub(crate) fn words_of(
     requires rows { rows ≡ row_count start.now }
     requires fits { 2 * rows < 129 * (blocks - 2) }
     requires few { blocks ≤ 2048 }
-    requires spare { spare < 257 }
-    ensures words { IfOk result (λ words. IsOpening start.now calls.now blocks words.items) }
+    requires spare { spare < 514 }
+    ensures words { IfOk result (λ words. IsOpening start.now calls.now blocks keeps words.items) }
     ensures wide { IfOk result (λ words. length words.items ≡ 36 + 129 * blocks + spare) }
 {
     let mut list = Vec::with_capacity(alloc, rows as usize)?;
     push_rows(&mut list, start)?;
-    let mut words = words_around(alloc, calls, rows, blocks, spare)?;
+    let mut words = words_around(alloc, calls, keeps, rows, blocks, spare)?;
     lay_rows(&mut words, blocks as usize, list.as_slice());
     Ok(words)
 }

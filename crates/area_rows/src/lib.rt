@@ -2,7 +2,7 @@
 //! history. Callers on many threads read rows, draw numbers and change rows, each under the range that it holds;
 //! taken by number, their calls are a legal history of the one-thread address space of `space_model`. A reader may
 //! rely on the rule of `area_guard`, which holds between any two steps, and on what `close` gives: that history,
-//! whole.
+//! whole. A space may also keep none: `open_unkept`, `close_areas`.
 #![tactic(auto)]
 
 mod answer;
@@ -28,7 +28,7 @@ pub use answer::Answer;
 pub use area::AreaPlan;
 pub use area_guard::{
     Change, Look, Note, Pass, Pending, ReadRow, RowGuard, Splice, count_is_of_everything,
-    draws_hold, history_is_stored, runs_are_legal, stores_are_new,
+    draws_hold, history_is_stored, kept_word_stands, runs_are_legal, stores_are_new,
 };
 pub use close::{Closed, SpaceCloseRefused};
 pub use row::Row;

@@ -62,8 +62,10 @@ impl Model for Space {
 pub struct Caller {
     pub(crate) seat: Seat<RowGuard>,
     pub(crate) worker: u32,
+    /// Whether the space keeps its history. Where it doesn't, no entry is stored.
+    pub(crate) keeps: bool,
     pub(crate) mine: Vec<Entry>,
-    pub(crate) left: u32,
+    pub(crate) left: u64,
     /// How many rows there were at the last plan.
     pub(crate) count: u32,
     /// Which rows go by the last plan.
@@ -78,9 +80,9 @@ pub struct Caller {
 }
 
 impl Model for Caller {
-    ghost use Rattle.std.specs.Prelude.{◌≡◌, ◌+◌, ◌≤◌, ◌<◌, ◌^◌, None, vec_len, vec_capacity};
+    ghost use Rattle.std.specs.Prelude.{true, length, ◌≡◌, ◌+◌, ◌≤◌, ◌<◌, ◌^◌, None, vec_len, vec_capacity};
     ghost use Rattle.page_types.specs.declared.TheConstants.{ROWS, SPARE};
-    ghost use Rattle.area_guard.specs.Rows.{blocks_by, room_of};
+    ghost use Rattle.area_guard.specs.Rows.{blocks_by, keeps_by, room_of};
     ghost use Rattle.area_guard.specs.History.{IsAtRest};
     ghost use Rattle.area_rows.specs.Callers.{CallerView, IsHeldPages};
 
@@ -88,14 +90,16 @@ impl Model for Caller {
 
     ghost view = { λ c. record { seat = c.seat; left = c.left; count = c.count; cut = c.cut; more = c.plan.items; gap = c.gap; change = c.change } };
 
-    ghost invariant = { λ c. (c.seat.number ≡ c.worker) × (c.mine.items ≡ c.seat.pass.mine)
-        × (vec_len c.mine + c.left ≤ vec_capacity c.mine) × (vec_len c.mine + c.left ≤ c.seat.pass.most)
+    ghost invariant = { λ c. (c.seat.number ≡ c.worker) × (c.keeps ≡ true → c.mine.items ≡ c.seat.pass.mine)
+        × (c.keeps ≡ true → vec_len c.mine + c.left ≤ vec_capacity c.mine) × (length c.seat.pass.mine + c.left ≤ c.seat.pass.most)
         × (room_of c.seat.pass.blocks + SPARE ≤ vec_capacity c.plan) × IsHeldPages c.seat.held × (c.seat.held ≡ None → IsAtRest c.seat.pass)
-        × (c.seat.pass.blocks ≡ blocks_by c.seat.table) × (c.seat.pass.most < 2 ^ 32) };
+        × (c.seat.pass.blocks ≡ blocks_by c.seat.table) × (c.seat.pass.most < 2 ^ 57)
+        × (c.keeps ≡ keeps_by c.seat.table) × (c.seat.pass.keeps ≡ keeps_by c.seat.table) };
 }
 
 impl Caller {
-    ghost use Rattle.std.specs.Prelude.{◌≡◌, None};
+    ghost use Rattle.std.specs.Prelude.{true, ◌≡◌, None};
+    ghost use Rattle.area_guard.specs.Rows.{keeps_by};
     ghost use Rattle.page_types.specs.declared.TheConstants.{LIMIT};
     ghost use Rattle.area_guard.specs.History.{IsAtRest};
     ghost use Rattle.area_rows.specs.Callers.{IsHeldBelow, IsHeldPages};
@@ -117,16 +121,17 @@ impl Caller {
         self.worker
     }
 
-    /// How many numbers the caller may still draw: as many as were asked for it at the opening, less one for each of
-    /// its entries.
-    pub fn left(&self) -> u32
+    /// How many numbers the caller may still draw: as many as were asked for it at the opening, or 2^56 where the space
+    /// keeps no history, less one for each of its entries.
+    pub fn left(&self) -> u64
         ensures { result ≡ self.now.left }
     {
         self.left
     }
 
-    /// The caller's own entries, in order.
+    /// The caller's own entries, in order. Its space keeps its history.
     pub fn entries(&self) -> &[Entry]
+        requires { keeps_by self.now.seat.table ≡ true }
         ensures { result.now ≡ self.now.seat.pass.mine }
     {
         self.mine.as_slice()

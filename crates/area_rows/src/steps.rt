@@ -1,8 +1,8 @@
 //! The steps by which a caller reads client words and draws a number: it loads the number word, the sequence word, the
-//! row count or a row, or adds 1 to the number word. Each is one atomic step, made at a moment of the running space,
-//! and a reader may rely on what it says being so at that moment. Which steps may be made is this project's own:
-//! `Allowed` of `area_guard`.
-ghost use Rattle.std.specs.Prelude.{ℕ, List, ◌≡◌, ◌<◌, ◌≤◌, ◌+◌, ◌*◌, ◌^◌, IsSome, Some, length};
+//! row count or a row, or adds 1 to the number word; where the space keeps no history it draws by a load of that word.
+//! Each is one atomic step, made at a moment of the running space, and a reader may rely on what it says being so at
+//! that moment. Which steps may be made is this project's own: `Allowed` of `area_guard`.
+ghost use Rattle.std.specs.Prelude.{ℕ, List, true, ◌≡◌, ◌<◌, ◌≤◌, ◌+◌, ◌*◌, ◌^◌, ◌++◌, ◌∷◌, [], IsSome, Some, length, vec_len, vec_capacity};
 ghost use Rattle.page_types.specs.declared.TheConstants.{LIMIT, ROWS};
 ghost use Rattle.page_types.specs.Named.{IsNamedCall, IsNamedReply};
 ghost use Rattle.page_types.specs.declared.pages.Span.{Span};
@@ -11,7 +11,7 @@ ghost use Rattle.area_guard.specs.declared.guard.Change.{Change};
 ghost use Rattle.space_model.specs.declared.entries.Under.TheVariants.{Area as OverArea, Whole};
 ghost use Rattle.row_plans.specs.RowWords.{row_start};
 ghost use Rattle.area_rows.specs.Halving.{IsOnSameSide};
-ghost use Rattle.area_guard.specs.Rows.{blocks_by, IsOneOf, IsInReach};
+ghost use Rattle.area_guard.specs.Rows.{blocks_by, keeps_by, IsOneOf, IsInReach};
 ghost use Rattle.area_guard.specs.Reads.{slots_by, IsHeldPage};
 ghost use Rattle.area_guard.specs.History.{HoldsFor, IsAtRest, IsRight, Leaves, pending_of, after_row, entry_note};
 ghost use Rattle.area_rows.specs.Callers.{HasSameRows, splice_of, plan_of, IsKnown, HasToWrite, HasToStore, IsReadRound, CountsWhole, IsReading};
@@ -30,6 +30,17 @@ use space_model::{Entry, Under};
 use std::marker::Brand;
 use std::sync::ledger::Ledger;
 use word_rows::Steps;
+
+/// Appends an entry to the caller's own, where these are stored.
+fn store(mine: &mut Vec<Entry>, keeps: bool, entry: Entry)
+    requires room { keeps ≡ true → vec_len mine.old < vec_capacity mine.old }
+    ensures stored { keeps ≡ true → mine.new.items ≡ mine.old.items ++ entry ∷ [] }
+    ensures room { vec_capacity mine.new ≡ vec_capacity mine.old }
+{
+    if keeps {
+        mine.push_reserved(entry);
+    }
+}
 
 impl Space {
     /// Loads the row count, from 1 to `ROWS`; with it the caller notes, in what it knows alone, the layout and the
@@ -97,9 +108,10 @@ impl Space {
     }
 
     /// Loads the number word: how many entries the history has. The caller then has seen all of them, and what its
-    /// range has shown is so of the state that they leave.
+    /// range has shown is so of the state that they leave. The space keeps its history.
     pub fn look(&self, caller: &mut Caller) -> u64
         requires table { caller.old.seat.table ≡ self.now.table }
+        requires keeps { keeps_by self.now.table ≡ true }
         ensures look { IsLook caller.old.seat result caller.new.seat }
         ensures left { caller.new.left ≡ caller.old.left }
         ensures rows { HasSameRows caller.old caller.new }
@@ -124,11 +136,13 @@ impl Space {
 
     /// Draws a number for the entry that the note becomes, where a call under everything has this splice to write, of
     /// the rows that the seat knows, and a call over an area this row. The call, with all that the note says of it, is
-    /// an argument so that the note can be picked from it.
+    /// an argument so that the note can be picked from it. Where the space keeps no history the number word is loaded
+    /// in place of the addition, and the entry has number 0.
     fn draw_as<N: Noted>(
         &self,
         seat: &mut Seat<RowGuard>,
         draft: &Entry,
+        keeps: bool,
         cut: Cut<Position>,
         more: &[u64],
         change: Option<Change>,
@@ -136,19 +150,26 @@ impl Space {
         requires note { N.noted ≡ entry_note draft.now (pending_of draft.now.under (splice_of seat.old cut more.now) change) }
         requires table { seat.old.table ≡ self.now.table }
         requires blocks { seat.old.pass.blocks ≡ blocks_by seat.old.table }
+        requires keeps { keeps ≡ keeps_by seat.old.table }
+        requires told { seat.old.pass.keeps ≡ keeps_by seat.old.table }
         requires worker { seat.old.number ≡ draft.now.worker }
         requires few { length seat.old.pass.mine + 1 ≤ seat.old.pass.most }
         requires named { IsNamedCall draft.now.call }
         requires rest { IsAtRest seat.old.pass }
-        requires held { HoldsFor seat.old.held draft.now.under }
+        requires held { HoldsFor (keeps_by seat.old.table) seat.old.held draft.now.under }
         requires right { Shows seat.old (λ _ state. (left : List Area)
             × IsRight state draft.now.call draft.now.reply draft.now.under left
             × Leaves state draft.now.under (pending_of draft.now.under (splice_of seat.old cut more.now) change) left) }
         ensures drawn { IsDrawn seat.old (record draft.now { number = result }) (pending_of draft.now.under (splice_of seat.old cut more.now) change) seat.new }
         ensures taken { seat.new.trace.taken ≡ seat.old.trace.taken + 1 }
     {
-        self.table
-            .add_as_uncounted::<By<N>>(seat, NUMBER + 129 * self.blocks, 1)
+        let place = NUMBER + 129 * self.blocks;
+        if keeps {
+            self.table.add_as_uncounted::<By<N>>(seat, place, 1)
+        } else {
+            self.table.load_as_uncounted::<By<N>>(seat, place);
+            0
+        }
     }
 
     /// The same as `number`, without a counter of steps.
@@ -164,7 +185,7 @@ impl Space {
         requires left { 0 < caller.old.left }
         requires named { IsNamedCall call }
         requires rest { IsAtRest caller.old.seat.pass }
-        requires held { HoldsFor caller.old.seat.held under }
+        requires held { HoldsFor (keeps_by caller.old.seat.table) caller.old.seat.held under }
         requires right { MayNumber caller.old call reply under }
         ensures line { result.line ≡ line }
         ensures call { result.call ≡ call }
@@ -190,23 +211,25 @@ impl Space {
         entry.number = self.draw_as::<Brand>(
             &mut caller.seat,
             &entry,
+            caller.keeps,
             caller.cut,
             caller.plan.as_slice(),
             caller.change,
         );
-        caller.mine.push_reserved(entry);
+        store(&mut caller.mine, caller.keeps, entry);
         caller.left -= 1;
         entry
     }
 
     /// Draws the next number for a call of the caller, which is of this space, has a number left, has written what it
-    /// has numbered, and holds the range that `under` names.
+    /// has numbered, and holds the range that `under` names. Where the space keeps no history the entry has number 0,
+    /// and a page that `under` names as read may be held as a writer.
     /// At the history's state the call fits `under` and has this reply, as what the caller has read shows. Under
     /// everything the caller's last plan is of this call, was made under this held range, and nothing was numbered
     /// since; `write_plan` is to follow. Over an area the same holds of the last plan over an area, and `set_kind` or
     /// `move_start` is to follow where it has a row to change.
-    /// The entry goes to the caller's own, and is the last one that it has seen; what its range has shown was so of
-    /// the state before it. One step.
+    /// The entry goes to the caller's own, which stores it where the history is kept, and is the last one that it has
+    /// seen; what its range has shown was so of the state before it. One step.
     pub fn number<L: Ledger>(
         &self,
         caller: &mut Caller,
@@ -220,7 +243,7 @@ impl Space {
         requires left { 0 < caller.old.left }
         requires named { IsNamedCall call }
         requires rest { IsAtRest caller.old.seat.pass }
-        requires held { HoldsFor caller.old.seat.held under }
+        requires held { HoldsFor (keeps_by caller.old.seat.table) caller.old.seat.held under }
         requires right { MayNumber caller.old call reply under }
         ensures line { result.line ≡ line }
         ensures call { result.call ≡ call }

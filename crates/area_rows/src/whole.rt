@@ -17,7 +17,7 @@ ghost use Rattle.page_types.specs.Classes.{IsFault};
 ghost use Rattle.area_guard.specs.History.{IsAtRest};
 ghost use Rattle.plan_words.specs.Places.{number_at};
 ghost use Rattle.area_rows.specs.Callers.{HasPlanned, IsKnown, IsReading, MayPlan};
-ghost use Rattle.area_rows.specs.Called.{IsAnswered, IsCalled, EndsSoon, TakesSteps};
+ghost use Rattle.area_rows.specs.Called.{IsAnswered, IsCalled, EndsAtOnce, EndsSoon, TakesSteps};
 
 use crate::answer::Answer;
 use crate::space::{Caller, Space};
@@ -123,14 +123,58 @@ impl Space {
         ensures looks { caller.new.seat.pass.looks ≡ caller.old.seat.pass.looks }
         ensures soon { EndsSoon caller.old.seat result caller.new.seat }
     {
-        caller.holds_pages();
         let all = Span { lo: 0, hi: LIMIT };
         self.acquire(wait, caller, all, Mode::Writer);
+        let entry = self.call_held(caller, line, call);
+        self.release_uncounted(caller);
+        entry
+    }
+
+    /// The same by a caller that holds all pages as a writer, which it has got by `acquire` or `try_acquire`, and goes
+    /// on holding; it has nothing to write before and afterwards. So what the call has changed can be made to stand
+    /// elsewhere, as in a page table, before another caller sees any page. It waits for nobody. Its steps from the draw
+    /// on are bounded as those of `call_whole`, and the last of them raises the sequence word.
+    pub fn call_held(&self, caller: &mut Caller, line: u32, call: Call) -> Entry
+        requires table { caller.old.seat.table ≡ self.now.table }
+        requires held { caller.old.seat.held ≡ Some everything }
+        requires rest { IsAtRest caller.old.seat.pass }
+        requires left { 0 < caller.old.left }
+        requires call { ¬ IsFault call }
+        requires named { IsNamedCall call }
+        requires undecided { plain_reply call ≡ None }
+        ensures called { IsCalled (record caller.old { seat = record caller.old.seat { held = None } }) line call result
+            (record caller.new { seat = record caller.new.seat { held = None } }) }
+        ensures under { result.under ≡ Whole }
+        ensures held { caller.new.seat.held ≡ Some everything }
+        ensures asked { caller.new.seat.trace.asked ≡ caller.old.seat.trace.asked }
+        ensures looks { caller.new.seat.pass.looks ≡ caller.old.seat.pass.looks }
+        ensures soon { EndsSoon caller.old.seat result caller.new.seat }
+        ensures last { EndsAtOnce caller.new.seat }
+    {
         let (reply, _) = self.plan(caller, &call);
         let entry = self.draw(caller, line, call, reply, Under::Whole);
         self.write_plan(caller);
-        self.release_uncounted(caller);
         entry
+    }
+
+    /// The same, once the caller, which holds nothing and has a number left, has waited until it holds all pages. It
+    /// goes on holding them until `release`.
+    pub fn hold_call<R: Wait>(&self, wait: &R, caller: &mut Caller, line: u32, call: Call) -> Entry
+        requires table { caller.old.seat.table ≡ self.now.table }
+        requires free { caller.old.seat.held ≡ None }
+        requires left { 0 < caller.old.left }
+        requires call { ¬ IsFault call }
+        requires named { IsNamedCall call }
+        requires undecided { plain_reply call ≡ None }
+        ensures called { IsCalled caller.old line call result (record caller.new { seat = record caller.new.seat { held = None } }) }
+        ensures under { result.under ≡ Whole }
+        ensures held { caller.new.seat.held ≡ Some everything }
+        ensures asks { AsksFor everything caller.old.seat.trace.asked caller.new.seat.trace.asked }
+        ensures looks { caller.new.seat.pass.looks ≡ caller.old.seat.pass.looks }
+    {
+        let all = Span { lo: 0, hi: LIMIT };
+        self.acquire(wait, caller, all, Mode::Writer);
+        self.call_held(caller, line, call)
     }
 
     /// Makes a call that is no fault, such as a Map or a Remap; a Protect holds all pages then. The caller is of this

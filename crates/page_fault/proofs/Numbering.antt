@@ -1,13 +1,14 @@
 -- A fault's reply is right where its arguments decide it, and where the row of its page shows the kind; and the parts
 -- of a call make the whole. The range of one page takes one list alone, and what is said of the ready nodes of list 0
 -- is so in each list.
-use Rattle.std.proofs.Common.{◌≡◌, ℕ, zero, suc, map, get_or, ◌+◌, ◌<◌, ◌≤◌, List, [], ◌∷◌, ◌++◌, sym, refl, ap, ◌∙◌, subst, arith, inl, inr}
-use Rattle.std.specs.Prelude.{Option, None}
+use Rattle.std.proofs.Common.{Bool, ◌≡◌, ℕ, zero, suc, map, get_or, ◌+◌, ◌<◌, ◌≤◌, List, [], ◌∷◌, ◌++◌, sym, refl, ap, ◌∙◌, subst, arith, inl, inr}
+use Rattle.std.specs.Prelude.{Option, Some, None}
 use lib.ListN.{get_or-map}
 use Rattle.list_cuts.specs.Cut.{Regions, list_of}
 use Rattle.lock_core.specs.Range.{Interval}
 use Rattle.lock_core.specs.declared.range.Held.{Held}
-use Rattle.lock_core.specs.declared.range.Mode.TheVariants.{Reader as Shared}
+use Rattle.lock_core.specs.declared.range.Mode.{Mode}
+use Rattle.lock_core.specs.declared.range.Mode.TheVariants.{Reader as Shared, Writer as Alone}
 use Rattle.page_types.specs.declared.pages.Span.{Span}
 use Rattle.page_types.specs.declared.sets.Access.{Access}
 use Rattle.page_types.specs.declared.calls.Kind.{Kind}
@@ -25,20 +26,20 @@ use Rattle.space_model.specs.Areas.{kind_at}
 use Rattle.space_model.specs.Held.{FitsByState}
 use Rattle.space_model.specs.Answers.{AnswersFault}
 use Rattle.space_model.proofs.Judgements.{fault_answers}
-use Rattle.range_rw.specs.Contract.{SeatState, AsksOnly, IsRelease, IsReadyLeft, Pools, Record, ready_in, pools_at}
+use Rattle.range_rw.specs.Contract.{SeatState, AsksOnly, IsReadyLeft, Pools, Record, ready_in, pools_at}
 use Rattle.range_rw.specs.Several.{TakesAlone}
 use Rattle.range_rw.proofs.Asking.{asks_stay, asks_kept, asks_wider}
 use Rattle.area_guard.specs.declared.guard.Pass.{Pass}
 use Rattle.area_guard.specs.declared.guard.Pending.TheVariants.{AtRest}
 use Rattle.area_rows.specs.declared.row.Row.{Row}
-use Rattle.area_rows.specs.History.{StartsWith, Runs, IsRight, HoldsFor, rest_of}
+use Rattle.area_rows.specs.History.{IsRight, HoldsFor}
 use Rattle.area_rows.specs.Seated.{TableId}
 use Rattle.area_rows.specs.Rows.{blocks_by, number_place}
 use Rattle.area_rows.specs.Reads.{IsHeldPage}
 use Rattle.area_rows.specs.Callers.{CallerView, held_span, MayNumber, IsReading, IsDrawn, RowIs, Shows}
 use Rattle.area_rows.specs.Called.{IsCalled, IsLastPlace}
-use Rattle.area_rows.proofs.Wholes.{match_none}
-use Rattle.page_fault.specs.Faults.{AsksPage, AsksPageOf, IsAccess, page_held}
+use Rattle.area_rows.proofs.Wholes.{match_none, seen_read, numbered_on}
+use Rattle.page_fault.specs.Faults.{AsksPage, AsksPageAs, AsksPageOf, IsAccess, MayHold, page_held_as}
 
 -- the page's kind decides
 held_right : (state : List Area) (addr : ℕ) (access : Access) {kind : Option Kind} (reply : Reply) (span : Span) → plain_reply (Fault addr access) ≡ None
@@ -68,46 +69,39 @@ shows_fault c held row (Fault addr wanted) access reply span shows here from unt
     shows_access c held row addr wanted reply span at.0 at.1 at.2 at.3 undecided is.1 is.2 at.4
 shows_fault c held row call access reply span shows here from until undecided is answers = absurd is
 
--- reading, numbering and giving back are one call that held nothing before
-pub called_held : (b r n d : CallerView) {e : Entry} {line : ℕ} {call : Call} (span : Span) → IsReading b.seat r.seat → r.left ≡ b.left → e.line ≡ line
-    → e.call ≡ call → e.under ≡ Reader span → IsNamedReply e.reply → IsDrawn r.seat e AtRest n.seat → n.left + 1 ≡ r.left → IsRelease rest_of n.seat d.seat
-    → d.left ≡ n.left → IsCalled (record b { seat = record b.seat { held = None } }) line call e d
-called_held b r n d {e} span reading same line_is call_is under named drawn left release same_left =
-    let num = drawn.numbered in
+-- what is held for a fault's entry holds its page
+pub holds_page : (keeps : Bool) (held : Option Held) (span : Span) → span.lo < span.hi → HoldsFor keeps held (Reader span) → IsHeldPage held span.lo
+holds_page keeps held span some_page (inl shared) = (record { range = record { lo = span.lo; hi = span.hi }; mode = Shared }, shared, omega arith, some_page)
+holds_page keeps held span some_page (inr alone) = (record { range = record { lo = span.lo; hi = span.hi }; mode = Alone }, alone.1, omega arith, some_page)
+
+-- a page that may be held in this mode is held as its entry may name it
+pub holds_for : (mode : Mode) (keeps : Bool) (held : Option Held) (span : Span) → MayHold mode keeps → held ≡ Some (held_span span mode)
+    → HoldsFor keeps held (Reader span)
+holds_for Shared keeps held span may is = inl is
+holds_for Alone keeps held span may is = inr (may, is)
+
+-- reading and numbering are one call that holds what it held
+pub called_holding : (b r n : CallerView) {e : Entry} {line : ℕ} {call : Call} (span : Span) → IsReading b.seat r.seat → r.left ≡ b.left → e.line ≡ line
+    → e.call ≡ call → e.under ≡ Reader span → IsNamedReply e.reply → IsDrawn r.seat e AtRest n.seat → n.left + 1 ≡ r.left
+    → IsCalled (record b { seat = record b.seat { held = None } }) line call e (record n { seat = record n.seat { held = None } })
+called_holding b r n span reading same line_is call_is under named drawn left =
     let taken : n.seat.trace.taken ≡ r.seat.trace.taken + 1 = ap (λ (t : Record). t.taken) drawn.trace in
     record {
       line_is = line_is;
       call_is = call_is;
       named = named;
-      numbered = record {
-        history = num.history;
-        state = num.state;
-        more = subst (StartsWith num.history) reading.seen num.more;
-        runs = subst (λ (a : List Area). Runs 0 a num.history num.state) reading.start num.runs;
-        in_order = num.in_order;
-        counted = num.counted;
-        worker = num.worker ∙ reading.number;
-        left = num.left;
-        right = num.right;
-        seen = ap (λ (p : Pass). p.seen) release.pass ∙ num.seen;
-        mine = ap (λ (p : Pass). p.mine) release.pass ∙ (num.mine ∙ ap (λ m. m ++ e ∷ []) reading.mine);
-        drew = subst (λ (p : Pass). HoldsFor p.drew e.under) (sym release.pass) num.drew;
-        start = ap (λ (p : Pass). p.start) release.pass ∙ (num.start ∙ reading.start);
-        table = release.table ∙ (num.table ∙ reading.table);
-        number = release.number ∙ (num.number ∙ reading.number);
-        held = release.held;
-      };
+      numbered = numbered_on (seen_read reading) drawn.numbered (refl, refl, refl, refl, refl) refl refl;
       last = record {
         place = number_place (blocks_by r.seat.table);
         step = r.seat.trace.taken;
         word = subst (λ u. IsLastPlace (blocks_by b.seat.table) u (number_place (blocks_by r.seat.table))) (sym under)
             (ap (λ (t : TableId). number_place (blocks_by t)) reading.table);
-        client = release.client ∙ ap (λ (t : Record). t.client) drawn.trace;
+        client = ap (λ (t : Record). t.client) drawn.trace;
         since = reading.taken;
-        until = let m = release.least in omega arith;
+        until = omega arith;
       };
-      written = ap (λ (p : Pass). p.pending) release.pass ∙ drawn.writes;
-      left = ap (λ k. k + 1) same_left ∙ (left ∙ same);
+      written = drawn.writes;
+      left = left ∙ same;
     }
 
 -- pools that stay are ready nodes as they were
@@ -145,13 +139,20 @@ asks_none (Fault addr access) is same = asks_stay same
 asks_none call is same = absurd is
 
 -- the span that a fault holds is its page
-span_page : (addr : ℕ) (access wanted : Access) (span : Span) → IsAccess (Fault addr access) wanted span → held_span span Shared ≡ page_held addr
-span_page addr access wanted span is = λ i. record { range = record { lo = is.1 i; hi = is.2 i }; mode = Shared }
+pub span_page : (mode : Mode) (addr : ℕ) (access wanted : Access) (span : Span) → IsAccess (Fault addr access) wanted span
+    → held_span span mode ≡ page_held_as mode addr
+span_page mode addr access wanted span is = λ i. record { range = record { lo = is.1 i; hi = is.2 i }; mode = mode }
 
 -- so one that holds it, and asks for nothing behind that, asks for its page alone
+pub asks_page_as : (mode : Mode) (addr : ℕ) (access wanted : Access) (span : Span) (a : List Held) {m b : List Held}
+    → IsAccess (Fault addr access) wanted span → plain_reply (Fault addr access) ≡ None → AsksOnly (held_span span mode) a m → b ≡ m
+    → AsksPageAs mode addr access a b
+asks_page_as mode addr access wanted span a is undecided asks same =
+    asks_kept (asks_wider (λ h e. (e ∙ span_page mode addr access wanted span is, undecided)) asks) same
+
 pub asks_page : (addr : ℕ) (access wanted : Access) (span : Span) (a : List Held) {m b : List Held} → IsAccess (Fault addr access) wanted span
     → plain_reply (Fault addr access) ≡ None → AsksOnly (held_span span Shared) a m → b ≡ m → AsksPage addr access a b
-asks_page addr access wanted span a is undecided asks same = asks_kept (asks_wider (λ h e. (e ∙ span_page addr access wanted span is, undecided)) asks) same
+asks_page addr access wanted span a is undecided asks same = asks_page_as Shared addr access wanted span a is undecided asks same
 
 -- whichever fault it is
 pub asks_span : (call : Call) (access : Access) (span : Span) (a : List Held) {m b : List Held} → IsAccess call access span → plain_reply call ≡ None

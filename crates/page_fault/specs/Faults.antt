@@ -1,7 +1,8 @@
--- What the two calls for page faults answer, and what each answer says: an access to a page as sigaction(2) has it. An
+-- What the calls for page faults answer, and what each answer says: an access to a page as sigaction(2) has it. An
 -- entry is right at its place in the one history, and at the step that drew its number its caller held the range that
--- the entry names: the page as a reader, or nothing where the arguments decide. The caller's pass keeps that range.
-use Rattle.std.specs.Prelude.{ℕ, ◌≡◌, ◌↔◌, ◌<◌, ◌+◌, List, None}
+-- the entry names: the page as a reader, or nothing where the arguments decide. Where the space keeps no history the
+-- page may be held as a writer. The caller's pass keeps that range.
+use Rattle.std.specs.Prelude.{Bool, false, ℕ, ◌≡◌, ◌↔◌, ◌<◌, ◌+◌, List, None, Some}
 use Rattle.page_types.specs.declared.sets.Access.{Access}
 use Rattle.page_types.specs.declared.calls.Call.TheVariants.{Fault}
 use Rattle.page_types.specs.declared.calls.Call.{Call}
@@ -10,9 +11,11 @@ use Rattle.page_types.specs.Pages.{page_of}
 use Rattle.page_types.specs.PlainReply.{plain_reply}
 use Rattle.space_model.specs.declared.entries.Entry.{Entry}
 use Rattle.lock_core.specs.declared.range.Held.{Held}
-use Rattle.lock_core.specs.declared.range.Mode.TheVariants.{Reader}
+use Rattle.lock_core.specs.declared.range.Mode.{Mode}
+use Rattle.lock_core.specs.declared.range.Mode.TheVariants.{Reader, Writer}
 use Rattle.range_rw.specs.Contract.{AsksAmong, IsLockCall, IsCause, IsLongRefusal, IsSpentIn}
 use Rattle.area_rows.specs.declared.answer.Answer.{Answer}
+use Rattle.area_rows.specs.declared.answer.Answer.TheVariants.{Given, Spent as NoEntry}
 use Rattle.area_rows.specs.Callers.{CallerView}
 use Rattle.area_rows.specs.Called.{IsCalled, IsAnswered}
 use Rattle.range_rw.specs.declared.refusals.NotHeld.{NotHeld as Why}
@@ -22,6 +25,19 @@ use Rattle.page_fault.specs.declared.faults.TriedFault.TheVariants.{Answered, No
 -- the one page of an address, held as a reader
 abbrev pub page_held : ℕ → Held
 page_held addr = record { range = record { lo = page_of addr; hi = page_of addr + 1 }; mode = Reader }
+
+-- the same, held in this mode
+abbrev pub page_held_as : Mode → ℕ → Held
+page_held_as mode addr = record { range = record { lo = page_of addr; hi = page_of addr + 1 }; mode = mode }
+
+-- and as a writer
+abbrev pub page_alone : ℕ → Held
+page_alone addr = page_held_as Writer addr
+
+-- a fault may hold its page in this mode: as a writer only where the space keeps no history
+abbrev pub MayHold : Mode → Bool → Type 0
+MayHold Reader keeps = Unit {0}
+MayHold Writer keeps = keeps ≡ false
 
 -- the call is this access to the one page of this span
 abbrev pub IsAccess : Call → Access → Span → Type 0
@@ -36,6 +52,12 @@ IsFaulted before line addr access e after = IsCalled before line (Fault addr acc
 -- the answer of a fault: an entry where a number is left, and otherwise nothing has changed
 abbrev pub IsAnswer : CallerView → ℕ → ℕ → Access → Answer → CallerView → Type 0
 IsAnswer before line addr access answer after = IsAnswered before line (Fault addr access) answer after
+
+-- the answer of a fault that goes on holding its page: the same, but the page is held where an entry is given
+abbrev pub IsHeldAnswer : Held → CallerView → ℕ → ℕ → Access → Answer → CallerView → Type 0
+IsHeldAnswer held before line addr access (Given e) after = (0 < before.left) × (after.seat.held ≡ Some held)
+    × IsFaulted before line addr access e (record after { seat = record after.seat { held = None } })
+IsHeldAnswer held before line addr access NoEntry after = (before.left ≡ 0) × (after ≡ before)
 
 -- the range wasn't got in one try in a space of so many callers, for this cause: the arguments don't decide the call,
 -- and what the caller knows is as before. The cause is that of the try of the one page, and a walk that was too long is
@@ -53,7 +75,11 @@ pub record IsNotHeld (seats : ℕ) (before : CallerView) (addr : ℕ) (access : 
 abbrev pub AsksPage : ℕ → Access → List Held → List Held → Type 0
 AsksPage addr access before after = AsksAmong (λ h. (h ≡ page_held addr) × (plain_reply (Fault addr access) ≡ None)) before after
 
--- the same of a call that is a fault
+-- the same of a fault that holds its page in this mode
+abbrev pub AsksPageAs : Mode → ℕ → Access → List Held → List Held → Type 0
+AsksPageAs mode addr access before after = AsksAmong (λ h. (h ≡ page_held_as mode addr) × (plain_reply (Fault addr access) ≡ None)) before after
+
+-- the first of them of a call that is a fault
 abbrev pub AsksPageOf : Call → List Held → List Held → Type 0
 AsksPageOf (Fault addr access) before after = AsksPage addr access before after
 AsksPageOf call before after = ⊥

@@ -1,5 +1,5 @@
 -- What a caller knows of the words of the blocks stands among the client words, word by word.
-use Rattle.std.proofs.Common.{◌≡◌, ℕ, zero, suc, ◌+◌, ◌-◌, ◌*◌, ◌<◌, cond, List, [], ◌∷◌, drop, length, get_or, set, length-set}
+use Rattle.std.proofs.Common.{Bool, ◌≡◌, ℕ, zero, suc, ◌+◌, ◌-◌, ◌*◌, ◌<◌, cond, List, [], ◌∷◌, drop, length, get_or, set, length-set}
 use Rattle.std.proofs.Common.{sym, refl, ap, ◌∙◌, subst, arith, inl, inr, ⊎_elim, eq-eqb, ne_eqb, length-append}
 use Rattle.std.proofs.lemmas.Bool.{cases_lt}
 use Rattle.std.proofs.lemmas.List.{get_or_append_left, get_or-append_right, get_or-drop, get_or-set_same, get_or-set_other, length-drop}
@@ -44,7 +44,7 @@ known_long {pass} knows =
     let laid = ap (λ (l : Option (List ℕ)). length (layout_by l)) knows.laid in
     omega arith
 
-module _ (words : List ℕ) (pass : Pass) (room : HasBlocks words pass.blocks) (knows : KnowsWords pass)
+module _ (words : List ℕ) (pass : Pass) {keeps : Bool} (room : HasBlocks words pass.blocks keeps) (knows : KnowsWords pass)
     (rows : (slot word : ℕ) → HasRead pass.rows slot word → slice_index words (3 + slot) ≡ word) (laid : StillLaid words pass.laid) where
   -- the layout that it knows is the one that stands there
   pub layout_is : layout_by pass.laid ≡ layout_in words

@@ -1,6 +1,6 @@
 -- With a word of the layout a caller that holds everything knows all words of the blocks, and the rows that stand
 -- there.
-use Rattle.std.proofs.Common.{◌≡◌, ℕ, zero, suc, ◌+◌, ◌*◌, ◌<◌, ◌≤◌, List, ◌++◌, drop, length, sym, refl, ap, ◌∙◌, subst, arith, inl, inr}
+use Rattle.std.proofs.Common.{Bool, ◌≡◌, ℕ, zero, suc, ◌+◌, ◌*◌, ◌<◌, ◌≤◌, List, ◌++◌, drop, length, sym, refl, ap, ◌∙◌, subst, arith, inl, inr}
 use Rattle.std.proofs.lemmas.List.{get_or-drop}
 use Rattle.std.specs.Prelude.{Option, slice_index}
 use Rattle.page_types.specs.declared.calls.Kind.{Kind}
@@ -26,7 +26,7 @@ noted_run words rows from (suc n) (suc k) lt =
     (noted_run words rows (suc from) n k (omega arith)))
 
 -- a caller that has loaded a word of the layout knows all words
-pub seen_words : (words : List ℕ) (p : Pass) → HasBlocks words p.blocks → KnowsWords (after_seen words p)
+pub seen_words : (words : List ℕ) (p : Pass) {keeps : Bool} → HasBlocks words p.blocks keeps → KnowsWords (after_seen words p)
 seen_words words p room = record {
   layout = layout_in words;
   laid = refl;
@@ -38,7 +38,8 @@ seen_words words p room = record {
 }
 
 -- where each word that it knows stands among words that show kinds, it knows their rows
-pub known_blocks : (words : List ℕ) (kinds : ℕ → Option Kind) (pass : Pass) → HasBlocks words pass.blocks → RowsShow words kinds → KnowsWords pass
+pub known_blocks : (words : List ℕ) (kinds : ℕ → Option Kind) (pass : Pass) {keeps : Bool} → HasBlocks words pass.blocks keeps
+    → RowsShow words kinds → KnowsWords pass
     → ((t : ℕ) → t < 129 * pass.blocks + 1 → slice_index (known_words pass) t ≡ slice_index words (3 + t))
     → KnowsBlocks pass × (known_rows pass ≡ rows_in words)
 known_blocks words kinds pass room s k at =

@@ -29,6 +29,7 @@ use Rattle.area_guard.specs.History.{laid_with, without, rows_after, after_seen,
 use Rattle.area_guard.specs.History.MayLoad.{number, glance, sequence, layout, gap_word, row}
 use Rattle.area_guard.specs.History.MayStore.{store_row, store_count, store_gap, store_layout}
 use Rattle.area_guard.specs.History.MayAdd.{draw, raise}
+use Rattle.area_guard.specs.Draws.{only_load}
 use Rattle.area_guard.specs.Keeping.{no_note, steps_keep}
 use Rattle.area_guard.specs.Slots.{layout_long}
 use Rattle.area_guard.specs.Reads.{known_count, known_words, KnowsWords}
@@ -66,8 +67,8 @@ has_later words (s ∷ rest) rows i w h = inr (has_later words rest rows i w h)
 
 -- what a load of a word of the blocks leaves
 load_learns : {own : Option Held → Type 0} {free held : Type 0} {words : List ℕ} {history : List Entry} (place : ℕ) {p after : Pass}
-    → place < 129 * p.blocks + 1 → HasBlocks words p.blocks → KnowsWords p → MayLoad own free held words history (3 + place) p after → Learns p after
-load_learns place lt room k (number h o e is) = absurd (omega arith)
+    → place < 129 * p.blocks + 1 → HasBlocks words p.blocks p.keeps → KnowsWords p → MayLoad own free held words history (3 + place) p after → Learns p after
+load_learns place lt room k (number h o keeps e is) = absurd (omega arith)
 load_learns place lt room k (glance f e is) = absurd (omega arith)
 load_learns place lt room k (sequence h e is) = absurd (omega arith)
 load_learns place lt room k (gap_word h e is) = absurd (omega arith)
@@ -100,7 +101,7 @@ load_learns {words} place {p} lt room k (row i h slot e is) = record {
 load_keeps : {own : Option Held → Type 0} {free held : Type 0} {words : List ℕ} {history : List Entry} (place : ℕ) {p after : Pass}
     → place < 129 * p.blocks + 1 → StillLaid words p.laid → StillGap words p.gap → MayLoad own free held words history (3 + place) p after
     → KeepsRead p after
-load_keeps place lt still told (number h o e is) = absurd (omega arith)
+load_keeps place lt still told (number h o keeps e is) = absurd (omega arith)
 load_keeps place lt still told (glance f e is) = absurd (omega arith)
 load_keeps place lt still told (sequence h e is) = absurd (omega arith)
 load_keeps place lt still told (gap_word h e is) = absurd (omega arith)
@@ -200,15 +201,15 @@ module _ (seat : ℕ) {held : Option Held} {pass : Pass} (all : held ≡ Some ev
       let here = here_at m in
       let pages : HoldsPages grants seat = (everything, m.grant ∙ ap some all, everything_pages) in
       elim (cases_lt place (128 * pass.blocks)) [
-        | inl slot ↦ (after_row place (slice_index words (3 + place)) pass, (here, row place pages slot refl refl))
-        | inr ge ↦ (after_seen words pass, (here, layout pages (inr (omega arith, omega arith)) refl))
+        | inl slot ↦ (after_row place (slice_index words (3 + place)) pass, (here, inl (row place pages slot refl refl)))
+        | inr ge ↦ (after_seen words pass, (here, inl (layout pages (inr (omega arith, omega arith)) refl)))
       ]
 
   -- and of the gap word
   pub may_load_gap : IsAllowed HasHistory Allowed no_note seat held pass (loads 0)
   may_load_gap grants words passes m there small =
       let pages : HoldsPages grants seat = (everything, m.grant ∙ ap some all, everything_pages) in
-      (after_step pass, (here_at m, gap_word pages refl refl))
+      (after_step pass, (here_at m, inl (gap_word pages refl refl)))
 
   -- of one that has a splice to write
   module _ (plan : Splice) (planned : pass.pending ≡ Planned plan) where
@@ -320,7 +321,7 @@ module _ {table : TableShape} {a : SeatState Pass} (b : SeatState Pass) (w : Hol
       let part = part_at grants words passes a.number a.pass m.met m.own in
       let may : MayLoad (HoldsJust grants a.number) (HoldsNothing grants a.number) (HoldsPages grants a.number) words here.history (3 + place) a.pass b.pass =
       subst (λ (x : Pass). MayLoad (HoldsJust grants a.number) (HoldsNothing grants a.number) (HoldsPages grants a.number) words here.history
-      (3 + place) x b.pass) same made.5.1 in
+      (3 + place) x b.pass) same (only_load (λ e. let b = ap (λ (x : Pass). x.blocks) same in omega arith) made.5.1) in
       let learns = load_learns place lt part.room w.knows may in
       let step = step_of w call learns in
       let before = word_now a.number w.held w.knows grants words passes m.met m.grant m.own in
@@ -338,7 +339,7 @@ module _ {table : TableShape} {a : SeatState Pass} (b : SeatState Pass) (w : Hol
 -- what a load of the gap word leaves
 gap_loads : {own : Option Held → Type 0} {free held : Type 0} {words : List ℕ} {history : List Entry} {p after : Pass}
     → MayLoad own free held words history 0 p after → after ≡ after_step p
-gap_loads (number h o e is) = absurd (omega arith)
+gap_loads (number h o keeps e is) = absurd (omega arith)
 gap_loads (glance f e is) = absurd (omega arith)
 gap_loads (sequence h e is) = absurd (omega arith)
 gap_loads (layout h at is) = absurd (⊎_elim (λ two. omega arith) (λ t. let a = t.0 in omega arith) at)
@@ -353,7 +354,7 @@ gap_loaded {a} found w noted call made =
     let m = made.3 in let here = made.5.0 in
     let same : here.pass ≡ a.pass = some-injective here.pass a.pass (sym here.own ∙ m.own) in
     let part = part_at made.0 made.1 made.2 a.number a.pass m.met m.own in
-    let is = gap_loads made.5.1 ∙ ap after_step same in
+    let is = gap_loads (only_load (λ e. omega arith) made.5.1) ∙ ap after_step same in
     let all = w.knows in (
       step_of w call (record {
         laid = a.pass.laid;
@@ -376,7 +377,7 @@ pub record IsStore (table : TableShape) (a b : SeatState Pass) (words : List ℕ
 -- where it was made each word that the seat knew stood, and each word that it knows stands behind it
 record WasStored (table : TableShape) (a b : SeatState Pass) (at value : ℕ) (words : List ℕ) : Type 0 where
   step : IsStep table a b
-  room : HasBlocks words a.pass.blocks
+  room : HasBlocks words a.pass.blocks a.pass.keeps
   before : (t : ℕ) → t < 129 * a.pass.blocks + 1 → slice_index (known_words a.pass) t ≡ slice_index words (3 + t)
   counted : known_count a.pass ≡ slice_index words 2
   after : (t : ℕ) → t < 129 * a.pass.blocks + 1 → slice_index (known_words b.pass) t ≡ slice_index (set words at value) (3 + t)
@@ -449,7 +450,7 @@ module _ {table : TableShape} {a b : SeatState Pass} (w : WritesPlan table a) (v
 
 raise_after : {grants : Grants} {words : List ℕ} {passes : List Pass} {worker : ℕ} {here : Here grants words passes worker} {after : Pass}
     → MayAdd grants words passes worker no_note here 1 after → after ≡ after_raise here.pass
-raise_after (draw e d is) = absurd (omega arith)
+raise_after (draw e keeps drew) = absurd (omega arith)
 raise_after (raise plan e pends written right is) = is
 
 -- the raising of the sequence word, after which all is written
@@ -470,6 +471,7 @@ all_written {a} {b} found call made =
       asked = ap (λ (r : Record). r.asked) call.trace;
       start = ap (λ (x : Pass). x.start) is;
       blocks = ap (λ (x : Pass). x.blocks) is;
+      keeps = ap (λ (x : Pass). x.keeps) is;
       most = ap (λ (x : Pass). x.most) is;
       seen = ap (λ (x : Pass). x.seen) is;
       mine = ap (λ (x : Pass). x.mine) is;
@@ -495,6 +497,7 @@ written_on f g = record {
   asked = g.asked ∙ f.asked;
   start = g.start ∙ f.start;
   blocks = g.blocks ∙ f.blocks;
+  keeps = g.keeps ∙ f.keeps;
   most = g.most ∙ f.most;
   seen = g.seen ∙ f.seen;
   mine = g.mine ∙ f.mine;

@@ -44,10 +44,11 @@ pub record MayLoadAll (table : TableShape) (blocks count : ℕ) (seat : SeatStat
   pub list : IsRowList (known_rows seat.pass)
 
 -- loads by a seat that knows all words of the blocks: they read, and it knows the same words, and the same of the
--- table's blocks and of how many entries it may have
+-- table's blocks, of whether the space keeps its history, and of how many entries it may have
 pub record HasLoaded (before after : SeatState Pass) : Type 0 where
   pub reading : IsReading before after
   pub blocks : after.pass.blocks ≡ before.pass.blocks
+  pub keeps : after.pass.keeps ≡ before.pass.keeps
   pub most : after.pass.most ≡ before.pass.most
   pub same : known_words after.pass ≡ known_words before.pass
   pub count : known_count after.pass ≡ known_count before.pass
@@ -74,7 +75,7 @@ no_reading a = search arith
 
 -- no load leaves all as it is
 pub no_load_all : (seat : SeatState Pass) → HasLoaded seat seat
-no_load_all seat = record { reading = no_reading seat; blocks = refl; most = refl; same = refl; count = refl; knows = λ knows. knows }
+no_load_all seat = record { reading = no_reading seat; blocks = refl; keeps = refl; most = refl; same = refl; count = refl; knows = λ knows. knows }
 
 -- one load after another is a load
 pub loads_on_all : (one two three : SeatState Pass) → HasLoaded one two → HasLoaded two three → HasLoaded one three

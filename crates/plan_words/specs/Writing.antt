@@ -63,6 +63,7 @@ pub record IsWriting (before after : SeatState Pass) : Type 0 where
   pub further : after.further ≡ before.further
   pub start : after.pass.start ≡ before.pass.start
   pub blocks : after.pass.blocks ≡ before.pass.blocks
+  pub keeps : after.pass.keeps ≡ before.pass.keeps
   pub most : after.pass.most ≡ before.pass.most
   pub seen : after.pass.seen ≡ before.pass.seen
   pub mine : after.pass.mine ≡ before.pass.mine
@@ -86,6 +87,7 @@ pub record IsWritten (before after : SeatState Pass) : Type 0 where
   pub asked : after.trace.asked ≡ before.trace.asked
   pub start : after.pass.start ≡ before.pass.start
   pub blocks : after.pass.blocks ≡ before.pass.blocks
+  pub keeps : after.pass.keeps ≡ before.pass.keeps
   pub most : after.pass.most ≡ before.pass.most
   pub seen : after.pass.seen ≡ before.pass.seen
   pub mine : after.pass.mine ≡ before.pass.mine

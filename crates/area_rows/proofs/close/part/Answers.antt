@@ -8,6 +8,7 @@ some_left c = search rules
 
 pair : (c : goal.After-push_reserved-in-callers) → IsPair c.seat.inside.seat (record {
   worker = c.seat.inside.worker;
+  keeps = c.seat.inside.keeps;
   mine = c.seat.inside.mine;
   left = c.seat.inside.left;
   count = c.seat.inside.count;
@@ -27,6 +28,8 @@ pair c = let i = c.seat.invariant in record {
   rest = i.6;
   blocks = i.7;
   most = i.8;
+  kept = i.9;
+  keeps = i.10;
 }
 
 -- one caller more was taken apart, and its seat and the rest belong together

@@ -1,6 +1,5 @@
-use Rattle.std.proofs.Common.{◌∙◌, ap}
+use Rattle.std.proofs.Common.{◌∙◌}
 use Rattle.std.specs.Prelude.{length}
-use Rattle.row_plans.specs.RowLists.{areas_from}
 use Rattle.area_rows.proofs.Gathering.{whole, kept_stand, idle_rows}
 use Rattle.area_rows.proofs.collect.collect.Goals as goal
 
@@ -8,5 +7,5 @@ use Rattle.area_rows.proofs.collect.collect.Goals as goal
 pub returns : goal.returns
 returns c = λ callers r all wide.
     whole callers r.3 c.args.kept.now all (idle_rows (length callers) r.3 r.4) c.place_callers.new.out.items
-    c.read_areas.result.items (c.place_callers.ensures.wide ∙ wide) (c.place_callers.ensures.placed r.1 (kept_stand callers r.3 c.args.kept.now all))
-    (c.read_areas.ensures ∙ ap areas_from (c.as_slice.ensures.value ∙ c.read_rows-rows.ensures))
+    c.last_areas.result.items (c.place_callers.ensures.wide ∙ wide) (c.place_callers.ensures.placed r.1 (kept_stand callers r.3 c.args.kept.now all))
+    c.last_areas.ensures

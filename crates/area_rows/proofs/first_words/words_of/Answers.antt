@@ -1,4 +1,4 @@
-use Rattle.std.proofs.Common.{rules, ◌≡◌, ◌+◌, ◌-◌, ◌<◌, ℕ, List, length, ap, sym, ◌∙◌, subst, arith}
+use Rattle.std.proofs.Common.{eqb, rules, ◌≡◌, ◌+◌, ◌-◌, ◌<◌, ℕ, List, length, ap, sym, ◌∙◌, subst, arith}
 use Rattle.std.specs.Prelude.{slice_index}
 use Rattle.row_plans.specs.RowLists.{rows_from}
 use Rattle.row_plans.proofs.RowLists.{length-rows}
@@ -40,6 +40,7 @@ returns-clause-words c =
       free = laid.free;
       short = laid.short;
       blocks = ap (λ (n : ℕ). slice_index new (n - 17)) long ∙ (laid.above (length old - 17) (omega arith) ∙ around.blocks);
+      kept = ap (λ (n : ℕ). eqb (slice_index new (n - 18)) 1) long ∙ (ap (λ (n : ℕ). eqb n 1) (laid.above (length old - 18) (omega arith)) ∙ around.kept);
       quotas = λ n lt. ap (λ (k : ℕ). slice_index new (k - 16 + n)) long ∙ (laid.above (length old - 16 + n) (omega arith) ∙ around.quotas n lt);
     }
 

@@ -5,7 +5,7 @@ use Rattle.row_plans.specs.Gaps.{IsGapWord}
 use Rattle.row_plans.specs.Plans.{spliced, IsPlan}
 use Rattle.row_plans.specs.Loads.{TakesLoads}
 use Rattle.row_blocks.specs.declared.positions.Position.{Position}
-use Rattle.area_guard.specs.Rows.{blocks_by, room_of}
+use Rattle.area_guard.specs.Rows.{keeps_by, blocks_by, room_of}
 use Rattle.area_guard.specs.Reads.{known_rows}
 use Rattle.plan_words.specs.Places.{number_at}
 use Rattle.plan_words.specs.Reading.{same_known, same_numbers, same_places, same_rows}
@@ -30,9 +30,10 @@ pub invariant_of-self : goal.invariant_of-self
 invariant_of-self c =
     let l = c.plan_rows-planned.ensures.loaded in let r = l.reading in let i = c.self.invariant in let most = l.most in let blocks = l.blocks in
     let room = ap room_of blocks in let table = ap blocks_by r.table in let few = i.3 in let wide = i.4 in let is = i.7 in let limit = i.8 in
+    let mine = ap length r.mine in
     let grown = c.plan_rows-planned.ensures.room in (
       r.number ∙ i.0,
-      i.1 ∙ sym r.mine,
+      λ keeps. i.1 keeps ∙ sym r.mine,
       i.2,
       omega arith,
       omega arith,
@@ -40,6 +41,8 @@ invariant_of-self c =
       λ none. r.read.pending ∙ i.6 (sym r.held ∙ none),
       omega arith,
       omega arith,
+      i.9 ∙ ap keeps_by (sym r.table),
+      l.keeps ∙ (i.10 ∙ ap keeps_by (sym r.table)),
     )
 
 -- all that was done is a reading

@@ -6,6 +6,7 @@ use Rattle.space_model.specs.declared.areas.Area.{Area}
 use Rattle.space_model.specs.declared.entries.Entry.{Entry}
 use Rattle.area_guard.specs.declared.guard.Change.{Change}
 use Rattle.area_guard.specs.declared.guard.Pass.{Pass}
+use Rattle.area_guard.specs.Rows.{keeps_by}
 use Rattle.area_guard.specs.History.{HoldsFor, IsRight, Leaves, pending_of}
 use Rattle.area_guard.specs.Replies.{reply_named}
 use Rattle.row_blocks.specs.declared.positions.Position.{Position}
@@ -56,7 +57,7 @@ pub returns-clause-write : goal.returns-clause-write
 returns-clause-write c = λ whole known.
     let v = c.args.caller.now in
     let drawn = drawn_as (goal.at.returns-clause-write c).After-draw_as in
-    let held = subst (HoldsFor v.seat.held) whole c.requires.held in
+    let held = subst (HoldsFor (keeps_by v.seat.table) v.seat.held) whole c.requires.held in
     let right = c.requires.right _ _ _ drawn.words drawn.moment in
     let leaves = subst (λ u. Leaves drawn.numbered.state u (pending_of u (plan_of v) v.change) right.0) whole right.2 in
     writes_plan (record {

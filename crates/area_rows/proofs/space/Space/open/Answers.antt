@@ -19,6 +19,6 @@ returns-clause-callers c = IfOk-weaker c.open_cut.result _ _
 -- it has the words of one list
 pub returns-clause-words : goal.returns-clause-words
 returns-clause-words c = IfOk-weaker c.open_cut.result _ _ (λ r h.
-    let one : r.0.table.words ≤ 1 * word_count (length c.args.calls.now) + 292 + 129 * blocks_by r.0.table =
-    subst (λ (x : Regions). r.0.table.words ≤ list_count x * word_count (length c.args.calls.now) + 292 + 129 * blocks_by r.0.table) c.one.ensures h in
+    let one : r.0.table.words ≤ 1 * word_count (length c.args.calls.now) + 549 + 129 * blocks_by r.0.table =
+    subst (λ (x : Regions). r.0.table.words ≤ list_count x * word_count (length c.args.calls.now) + 549 + 129 * blocks_by r.0.table) c.one.ensures h in
     omega arith) c.open_cut.ensures.words

@@ -1,6 +1,6 @@
 use Rattle.std.proofs.Common.{ℕ, List, ◌∙◌, length, ap, sym, subst, arith}
 use Rattle.range_rw.specs.Contract.{TableShape}
-use Rattle.area_guard.specs.Rows.{blocks_by, room_of}
+use Rattle.area_guard.specs.Rows.{keeps_by, blocks_by, room_of}
 use Rattle.plan_words.specs.Writing.{IsWritten}
 use Rattle.area_rows.specs.Callers.{CallerView, HasToWrite}
 use Rattle.area_rows.proofs.Written.{IsReady, ready}
@@ -43,9 +43,9 @@ pub invariant_of-caller : goal.invariant_of-caller
 invariant_of-caller c =
     let w = c.write_splice.ensures.written in let i = c.caller.invariant in let most = w.most in let blocks = w.blocks in let room = ap room_of blocks in
     let table = ap blocks_by w.table in let few = i.3 in let wide = i.4 in let is = i.7 in
-    let limit = i.8 in (
+    let limit = i.8 in let mine = ap length w.mine in (
       w.number ∙ i.0,
-      i.1 ∙ sym w.mine,
+      λ keeps. i.1 keeps ∙ sym w.mine,
       i.2,
       omega arith,
       omega arith,
@@ -53,6 +53,8 @@ invariant_of-caller c =
       λ none. w.rest,
       omega arith,
       omega arith,
+      i.9 ∙ ap keeps_by (sym w.table),
+      w.keeps ∙ (i.10 ∙ ap keeps_by (sym w.table)),
     )
 
 -- all is written
