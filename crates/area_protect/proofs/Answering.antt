@@ -1,5 +1,5 @@
 -- The answers of a call that changes protection, from what is said of its arguments.
-use Rattle.std.proofs.Common.{◌≡◌, ℕ, ◌<◌, subst, sym}
+use Rattle.std.proofs.Common.{true, ◌≡◌, ℕ, ◌<◌, subst, sym, ap, ◌∙◌}
 use Rattle.std.specs.Prelude.{IsSome}
 use Rattle.page_types.specs.declared.calls.Call.{Call}
 use Rattle.page_types.specs.declared.calls.Call.TheVariants.{Protect}
@@ -7,6 +7,8 @@ use Rattle.page_types.specs.declared.sets.Prot.{Prot}
 use Rattle.page_types.specs.PlainReply.{plain_reply}
 use Rattle.page_types.specs.Classes.{IsProtect}
 use Rattle.space_model.specs.declared.entries.Entry.{Entry}
+use Rattle.area_rows.specs.Seated.{TableId}
+use Rattle.area_rows.specs.Rows.{keeps_by}
 use Rattle.area_rows.specs.Callers.{CallerView}
 use Rattle.area_rows.specs.Called.{IsCalled}
 use Rattle.area_protect.specs.declared.path.Path.{Path}
@@ -21,10 +23,12 @@ spent_call line (Protect addr len prot) is none same = (none, same)
 spent_call line call is none same = absurd is
 
 -- a call that its arguments decide has its entry, and is free
-pub free_call : {before : CallerView} {line : ℕ} (call : Call) {e : Entry} {after : CallerView} → IsProtect call → 0 < before.left → IsSome (plain_reply call)
+pub free_call : {before : CallerView} {line : ℕ} (call : Call) {e : Entry} {after : CallerView} {table : TableId} → before.seat.table ≡ table
+    → keeps_by table ≡ true → IsProtect call → 0 < before.left → IsSome (plain_reply call)
     → IsCalled before line call e after → IsAnswerTo before line call (Given e Free) after
-free_call (Protect addr len prot) is left decided called = (left, record { called = called; way = decided; looks = tt })
-free_call call is left decided called = absurd is
+free_call (Protect addr len prot) of_table keeps is left decided called =
+    (left, record { called = called; way = decided; keeps = ap keeps_by of_table ∙ keeps; looks = tt })
+free_call call of_table keeps is left decided called = absurd is
 
 -- a call with these arguments is answered as they are
 pub given_call : {before : CallerView} {line : ℕ} {call : Call} {addr len : ℕ} {prot : Prot} {e : Entry} {path : Path} {after : CallerView}

@@ -65,7 +65,8 @@ module _ {before after : CallerView} {line addr len : ℕ} {prot : Prot} {e : En
   found_state what t =
       let mine : StateAfter after.seat.pass.start num.history state = subst (λ (l : List Area). StateAfter l num.history state) (sym num.start)
       (all_legal before.seat.pass.start state num.history num.runs).1 in
-      let then : StateAfter after.seat.pass.start num.history t.0 = subst (λ (l : List Entry). StateAfter after.seat.pass.start l t.0) (before_entry num) t.1 in
+      let then : StateAfter after.seat.pass.start num.history t.0 =
+      subst (λ (l : List Entry). StateAfter after.seat.pass.start l t.0) (before_entry num p.keeps) t.1 in
       subst what (one_state after.seat.pass.start num.history t.0 state then mine) t.2
 
   -- what was so of the pages of a lone call at a number between is so of the state that its entry finds
@@ -95,14 +96,14 @@ module _ {before after : CallerView} {line addr len : ℕ} {prot : Prot} {e : En
   -- nothing came between: the history before the entry is what was seen
   lone_history : IsLone before e → num.history ≡ before.seat.pass.seen
   lone_history lone =
-      let c = num.counted in
+      let c = num.counted p.keeps in
       let l : length num.history ≡ length before.seat.pass.seen + length num.more.0 = ap length num.more.1 ∙ length-append before.seat.pass.seen num.more.0 in
       num.more.1 ∙ (ap (λ r. before.seat.pass.seen ++ r)
       (nil_from_length num.more.0 (let z : length num.more.0 ≡ 0 = omega arith in z)) ∙ append-nil before.seat.pass.seen)
 
   -- so many of the entries before it are under everything
   lone_count : (n : ℕ) → IsLone before e → HasWhole after.seat e.number n → whole_count before.seat.pass.seen ≡ n
-  lone_count n lone t = ap whole_count (sym (before_entry num ∙ lone_history lone)) ∙ t
+  lone_count n lone t = ap whole_count (sym (before_entry num p.keeps ∙ lone_history lone)) ∙ t
 
   simple_or : plain_reply (Protect addr len prot) ≡ None → IsLone before e → (way : Path)
       → HasPath before.seat (Protect addr len prot) (page_of addr) (end_page addr len) e after.seat way

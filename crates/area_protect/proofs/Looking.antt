@@ -1,6 +1,6 @@
 -- What a look has shown of the history stays so of what the caller sees later, and looks and a call after them are one
 -- call.
-use Rattle.std.proofs.Common.{◌≡◌, ◌≢◌, ℕ, ◌+◌, ◌<◌, ◌≤◌, ◌⊎◌, ⊎_elim, List, [], ◌∷◌, ◌++◌, take, length, sym, refl, ap, ◌∙◌, subst, arith, inl, inr}
+use Rattle.std.proofs.Common.{true, ◌≡◌, ◌≢◌, ℕ, ◌+◌, ◌<◌, ◌≤◌, ◌⊎◌, ⊎_elim, List, [], ◌∷◌, ◌++◌, take, length, sym, refl, ap, ◌∙◌, subst, arith, inl, inr}
 use Rattle.std.proofs.Common.{length-append, append_assoc}
 use Rattle.std.proofs.lemmas.Bool.{cases_lt}
 use Rattle.std.proofs.lemmas.List.{append-nil, take_all, take-append-le}
@@ -16,13 +16,15 @@ use Rattle.lock_core.specs.declared.range.Held.{Held}
 use Rattle.range_rw.specs.Contract.{SeatState}
 use Rattle.area_rows.specs.Seated.{TableId}
 use Rattle.area_rows.specs.AreaPlans.{IsOneKind}
-use Rattle.area_rows.specs.Rows.{blocks_by}
-use Rattle.area_rows.specs.History.{Runs, StartsWith, whole_count, planned_calls, IsAtRest}
-use Rattle.area_rows.specs.Callers.{CallerView, CountsWhole, IsLook, Shows}
+use Rattle.area_rows.specs.Rows.{keeps_by, blocks_by}
+use Rattle.area_rows.specs.History.{Runs, StartsWith, HoldsFor, whole_count, planned_calls, IsAtRest}
+use Rattle.area_rows.specs.Callers.{entry_in, CallerView, CountsWhole, IsLook, Shows}
 use Rattle.area_rows.specs.Called.{IsCalled, IsLastPlace}
 use Rattle.area_rows.proofs.Storing.{all_legal}
 use Rattle.area_guard.specs.declared.guard.Look.{Look}
 use Rattle.area_guard.specs.declared.guard.Pass.{Pass}
+use Rattle.area_protect.specs.declared.beside.Made.{Made}
+use Rattle.area_protect.specs.declared.beside.Made.TheVariants.{Done as Entered, Again as OtherEnds, Whole as NeedsAll}
 use Rattle.area_protect.specs.declared.path.Cause.{Cause}
 use Rattle.area_protect.specs.declared.path.Cause.TheVariants.{NotOneArea, NotSimple, Moved}
 use Rattle.area_protect.specs.declared.steps.Attempt.{Attempt}
@@ -30,7 +32,7 @@ use Rattle.area_protect.specs.declared.steps.Request.{Request}
 use Rattle.area_protect.specs.declared.steps.Attempt.TheVariants.{Done, Again, Whole}
 use Rattle.area_protect.specs.Protects.{HasCause, IsBetween, WereFound}
 use Rattle.area_protect.specs.Looks.{IsAfter, HasWhole, HasMade, KeepsLooks, IsFoundBy, IsFoundSince, LooksFirst, HasLooked, IsLookedAt}
-use Rattle.area_protect.specs.Attempts.{MayCall, ArePagesOf, IsReason, IsChanged, IsAttempt, CallIs, NeedsMoreRows}
+use Rattle.area_protect.specs.Attempts.{MayCall, ArePagesOf, IsReason, IsChanged, IsAttempt, CallIs, IsMade, NeedsMoreRows}
 
 -- beginnings of beginnings
 pub begins_on : (a b c : List Entry) → StartsWith b a → StartsWith c b → StartsWith c a
@@ -151,7 +153,7 @@ rises s first second old new le f g differ = elim (cases_lt first second) [
 -- a call after looks is a call from before them, with whatever was held at it
 pub called_after : {a b c : CallerView} {line : ℕ} {call : Call} {e : Entry} (h : Option Held) → HasLooked a b → h ≡ a.seat.held
     → IsCalled (record b { seat = record b.seat { held = h } }) line call e c → IsCalled a line call e c
-called_after {a} {b} {e} h look held called =
+called_after {a} {b} {c} {e} h look held called =
     let num = called.numbered in
     record {
       line_is = called.line_is;
@@ -163,13 +165,14 @@ called_after {a} {b} {e} h look held called =
         more = begins_on a.seat.pass.seen b.seat.pass.seen num.history look.more num.more;
         runs = subst (λ (l : List Area). Runs 0 l num.history num.state) look.start num.runs;
         in_order = num.in_order;
-        counted = num.counted;
+        counted = λ keeps. num.counted (ap keeps_by look.table ∙ keeps);
+        unkept = λ none. num.unkept (ap keeps_by look.table ∙ none);
         worker = num.worker ∙ look.number;
         left = num.left;
         right = num.right;
         seen = num.seen;
-        mine = num.mine ∙ ap (λ (l : List Entry). l ++ e ∷ []) look.mine;
-        drew = num.drew;
+        mine = num.mine ∙ ap (λ (l : List Entry). l ++ entry_in num.history e ∷ []) look.mine;
+        drew = subst (λ (t : TableId). HoldsFor (keeps_by t) c.seat.pass.drew e.under) look.table num.drew;
         start = num.start ∙ look.start;
         table = num.table ∙ look.table;
         number = num.number ∙ look.number;
@@ -188,31 +191,31 @@ called_after {a} {b} {e} h look held called =
     }
 
 -- what the caller had seen is seen still behind its entry
-pub seen_on : {a b : CallerView} {line : ℕ} {call : Call} {e : Entry} → IsCalled a line call e b
+pub seen_on : {a b : CallerView} {line : ℕ} {call : Call} {e : Entry} → keeps_by a.seat.table ≡ true → IsCalled a line call e b
     → StartsWith b.seat.pass.seen a.seat.pass.seen × (length a.seat.pass.seen ≤ e.number)
-seen_on {a} {b} {e} called =
+seen_on {a} {b} {e} keeps called =
     let num = called.numbered in
-    let more : StartsWith b.seat.pass.seen num.history = (e ∷ [], num.seen) in (
+    let more : StartsWith b.seat.pass.seen num.history = (entry_in num.history e ∷ [], num.seen) in (
       begins_on a.seat.pass.seen num.history b.seat.pass.seen num.more more,
-      let l = longer a.seat.pass.seen num.history num.more in let c = num.counted in omega arith,
+      let l = longer a.seat.pass.seen num.history num.more in let c = num.counted keeps in omega arith,
     )
 
 -- what was found at a look stands between what was seen before it and the entry of a call that follows
-between : (a : CallerView) {b c : CallerView} {line : ℕ} {call : Call} {e : Entry} (m : ℕ) → IsLookedAt a.seat m b.seat → IsCalled b line call e c
-    → IsBetween a.seat m e
-between a m looked called = (looked.0, (let h = looked.1 in let l = (seen_on called).1 in omega arith))
+between : (a : CallerView) {b c : CallerView} {line : ℕ} {call : Call} {e : Entry} (m : ℕ) → keeps_by b.seat.table ≡ true
+    → IsLookedAt a.seat m b.seat → IsCalled b line call e c → IsBetween a.seat m e
+between a m keeps looked called = (looked.0, (let h = looked.1 in let l = (seen_on keeps called).1 in omega arith))
 
 -- the reason of an attempt is the cause of the call that follows
-pub cause_of : (a : CallerView) {b c : CallerView} (r : Request) {line : ℕ} {call : Call} {e : Entry} (cause : Cause) → IsReason a r b cause
-    → IsCalled b line call e c → HasCause a.seat (Protect r.addr r.len r.prot) (page_of r.addr) (end_page r.addr r.len) e c.seat cause
-cause_of a {b} {c} r (NotOneArea at) reason called =
-    (between a at reason.0 called, after_on b.seat c.seat at _ called.numbered.start (seen_on called).0 reason.0.1 reason.1)
-cause_of a {b} {c} r (NotSimple at) reason called =
-    (between a at reason.0 called, after_on b.seat c.seat at _ called.numbered.start (seen_on called).0 reason.0.1 reason.1)
-cause_of a {b} {c} r (Moved first second old new) reason called =
-    let more = (seen_on called).0 in (
-      between a first reason.0 called,
-      between a second reason.1 called,
+pub cause_of : (a : CallerView) {b c : CallerView} (r : Request) {line : ℕ} {call : Call} {e : Entry} (cause : Cause)
+    → keeps_by b.seat.table ≡ true → IsReason a r b cause → IsCalled b line call e c → HasCause a.seat (Protect r.addr r.len r.prot) (page_of r.addr) (end_page r.addr r.len) e c.seat cause
+cause_of a {b} {c} r (NotOneArea at) keeps reason called =
+    (between a at keeps reason.0 called, after_on b.seat c.seat at _ called.numbered.start (seen_on keeps called).0 reason.0.1 reason.1)
+cause_of a {b} {c} r (NotSimple at) keeps reason called =
+    (between a at keeps reason.0 called, after_on b.seat c.seat at _ called.numbered.start (seen_on keeps called).0 reason.0.1 reason.1)
+cause_of a {b} {c} r (Moved first second old new) keeps reason called =
+    let more = (seen_on keeps called).0 in (
+      between a first keeps reason.0 called,
+      between a second keeps reason.1 called,
       reason.2,
       whole_on b.seat c.seat first old more reason.0.1 reason.3,
       whole_on b.seat c.seat second new more reason.1.1 reason.4,
@@ -302,6 +305,16 @@ attempt_since c r (Whole cause) look held t = (looked_on look t.0, reason_since 
 -- an attempt's outcome may be told of equal callers and equal outcomes
 pub same_attempt : (a : CallerView) {b c : CallerView} (r : Request) {x y : Attempt} → c ≡ b → y ≡ x → IsAttempt a r b x → IsAttempt a r c y
 same_attempt a r e f t = subst (λ (z : CallerView × Attempt). IsAttempt a r z.0 z.1) (λ i. (sym e i, sym f i)) t
+
+-- the same two of an attempt that makes no look at the history
+pub made_since : {a b : CallerView} (c : CallerView) (r : Request) (made : Made) → HasLooked a b → b.seat.held ≡ a.seat.held
+    → IsMade b r c made → IsMade a r c made
+made_since {b} c r (Entered e) look held t = (called_after b.seat.held look held t.0, t.1)
+made_since c r OtherEnds look held t = looked_on look t
+made_since c r NeedsAll look held t = looked_on look t
+
+pub same_made : (a : CallerView) {b c : CallerView} (r : Request) {x y : Made} → c ≡ b → y ≡ x → IsMade a r b x → IsMade a r c y
+same_made a r e f t = subst (λ (z : CallerView × Made). IsMade a r z.0 z.1) (λ i. (sym e i, sym f i)) t
 
 -- who has looked and holds nothing may call still
 pub may_call_on : {table : TableId} {a b : CallerView} → MayCall table a → HasLooked a b → b.seat.held ≡ None → MayCall table b

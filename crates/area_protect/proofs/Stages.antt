@@ -1,8 +1,8 @@
 -- The steps of a change of protection, each from what the calls of `area_rows` promise: what a look has found, and that
 -- planning, numbering, storing and giving back are one call.
-use Rattle.std.proofs.Common.{◌≡◌, ℕ, ◌+◌, ◌<◌, ◌≤◌, ◌⊎◌, List, [], ◌∷◌, ◌++◌, take, length, sym, refl, ap, ◌∙◌, subst, arith, inl, inr, ⊎_elim}
+use Rattle.std.proofs.Common.{true, ◌≡◌, ℕ, ◌+◌, ◌<◌, ◌≤◌, ◌⊎◌, List, [], ◌∷◌, ◌++◌, take, length, sym, refl, ap, ◌∙◌, subst, arith, inl, inr, ⊎_elim}
 use Rattle.std.proofs.lemmas.List.{append-nil, take-append-le, take_all}
-use Rattle.std.specs.Prelude.{Option, Some, None}
+use Rattle.std.specs.Prelude.{Bool, Option, Some, None}
 use mathlib.Core.Option.{some}
 use lib.ListN.{get_elem?}
 use Rattle.page_types.specs.declared.calls.Call.{Call}
@@ -24,11 +24,12 @@ use Rattle.area_guard.specs.declared.guard.Pending.{Pending}
 use Rattle.area_rows.specs.declared.row.Row.{Row}
 use Rattle.area_rows.specs.AreaPlans.{IsOneKind}
 use Rattle.area_rows.specs.Seated.{TableId}
-use Rattle.area_rows.specs.Rows.{blocks_by, number_place}
+use Rattle.area_rows.specs.Rows.{keeps_by, blocks_by, number_place}
 use Rattle.area_rows.specs.Reads.{IsHeldPage}
 use Rattle.area_rows.specs.History.{StartsWith, Runs, whole_count, planned_calls, IsAtRest, HoldsFor, rest_of}
 use Rattle.area_rows.specs.Called.{IsCalled, IsLastPlace}
-use Rattle.area_rows.specs.Callers.{CallerView, CountsWhole, IsReading, IsLook, IsDrawn, IsNumbered, IsStoredRow, RowIs, Shows, keeps_on}
+use Rattle.area_rows.specs.Callers.{entry_in, CallerView, CountsWhole, IsReading, IsLook, IsDrawn, IsNumbered, IsStoredRow, RowIs, Shows, keeps_on}
+use Rattle.area_rows.proofs.Wholes.{numbered_on, seen_read, seen_released}
 use Rattle.row_plans.proofs.RowLists.{some_none}
 use Rattle.area_protect.specs.declared.steps.Request.{Request}
 use Rattle.area_protect.specs.Attempts.{IsChanged}
@@ -104,30 +105,15 @@ pub called_area : (b r n w d : CallerView) {e : Entry} {line : ℕ} {call : Call
     → IsFinished n.seat w.seat → w.left ≡ n.left → IsRelease rest_of w.seat d.seat → d.left ≡ w.left
     → IsCalled (record b { seat = record b.seat { held = None } }) line call e d
 called_area b r n w d {e} span reading same line_is call_is under named drawn left finished stored_left release same_left =
-    let num = drawn.numbered in
+    let back = seen_released release in
     let taken : n.seat.trace.taken ≡ r.seat.trace.taken + 1 = ap (λ (t : Record). t.taken) drawn.trace in
     record {
       line_is = line_is;
       call_is = call_is;
       named = named;
-      numbered = record {
-        history = num.history;
-        state = num.state;
-        more = subst (StartsWith num.history) reading.seen num.more;
-        runs = subst (λ (a : List Area). Runs 0 a num.history num.state) reading.start num.runs;
-        in_order = num.in_order;
-        counted = num.counted;
-        worker = num.worker ∙ reading.number;
-        left = num.left;
-        right = num.right;
-        seen = ap (λ (p : Pass). p.seen) release.pass ∙ (finished.seen ∙ num.seen);
-        mine = ap (λ (p : Pass). p.mine) release.pass ∙ (finished.mine ∙ (num.mine ∙ ap (λ (m : List Entry). m ++ e ∷ []) reading.mine));
-        drew = subst (λ h. HoldsFor h e.under) (sym (ap (λ (p : Pass). p.drew) release.pass ∙ finished.drew)) num.drew;
-        start = ap (λ (p : Pass). p.start) release.pass ∙ (finished.start ∙ (num.start ∙ reading.start));
-        table = release.table ∙ (finished.table ∙ (num.table ∙ reading.table));
-        number = release.number ∙ (finished.number ∙ (num.number ∙ reading.number));
-        held = release.held;
-      };
+      numbered = numbered_on (seen_read reading) drawn.numbered
+          (back.0 ∙ finished.table, back.1 ∙ finished.number, back.2 ∙ finished.start, back.3 ∙ finished.seen, back.4 ∙ finished.mine)
+          (ap (λ (p : Pass). p.drew) release.pass ∙ finished.drew) release.held;
       last = ⊎_elim (λ same_trace. record {
         place = number_place (blocks_by r.seat.table);
         step = r.seat.trace.taken;
@@ -264,18 +250,20 @@ counts_on {b} {c} n reading counts start history state words m =
     omega arith
 
 -- what was seen before a numbered entry is the history that it found
-pub before_entry : {r n : SeatState Pass} {e : Entry} (num : IsNumbered r e n) → take e.number n.pass.seen ≡ num.history
-before_entry {e} num = ap (take e.number) num.seen ∙ (take-append-le e.number num.history (e ∷ []) (let c = num.counted in omega arith)
-    ∙ take_all e.number num.history (let c = num.counted in omega arith))
+pub before_entry : {r n : SeatState Pass} {e : Entry} (num : IsNumbered r e n) → keeps_by r.table ≡ true → take e.number n.pass.seen ≡ num.history
+before_entry {e} num keeps =
+    let c = num.counted keeps in
+    ap (take e.number) num.seen ∙ (take-append-le e.number num.history (entry_in num.history e ∷ []) (omega arith)
+    ∙ take_all e.number num.history (omega arith))
 
 -- and at the draw they are those before the entry
-pub drawn_counts : {r n : SeatState Pass} {e : Entry} {pending : Pending} (k : ℕ) → IsDrawn r e pending n → IsAtRest r.pass → CountsWhole r k
-    → HasWhole n e.number k
-drawn_counts {r} {n} {e} k drawn rest counts =
+pub drawn_counts : {r n : SeatState Pass} {e : Entry} {pending : Pending} (k : ℕ) → keeps_by r.table ≡ true
+    → IsDrawn r e pending n → IsAtRest r.pass → CountsWhole r k → HasWhole n e.number k
+drawn_counts {r} {n} {e} k keeps drawn rest counts =
     let num = drawn.numbered in
     let c : k + planned_calls r.pass.pending ≡ whole_count num.history = counts r.pass.start num.history num.state drawn.words drawn.moment in
     let none : planned_calls r.pass.pending ≡ 0 = ap planned_calls rest in
-    ap whole_count (before_entry num) ∙ (let z : whole_count num.history ≡ k = omega arith in z)
+    ap whole_count (before_entry num keeps) ∙ (let z : whole_count num.history ≡ k = omega arith in z)
 
 -- so a change over the area that the caller holds got its entry, whether a row was to be stored or not
 pub changed_area : (b r n w d : CallerView) (q : Request) {e : Entry} (span : Span) {pending : Pending} → IsReading b.seat r.seat → r.left ≡ b.left
@@ -285,8 +273,9 @@ pub changed_area : (b r n w d : CallerView) (q : Request) {e : Entry} (span : Sp
 changed_area b r n w d q {e} span reading same rest line_is call_is under named drawn left finished stored_left release same_left = record {
   called = called_area b r n w d span reading same line_is call_is under named drawn left finished stored_left release same_left;
   area = subst HoldsSomeArea (sym under) tt;
-  whole = λ k counts.
-      let drew : HasWhole n.seat e.number k = drawn_counts k drawn (reading.read.pending ∙ rest) (counts_on k reading counts) in
+  whole = λ keeps k counts.
+      let drew : HasWhole n.seat e.number k =
+      drawn_counts k (ap keeps_by reading.table ∙ keeps) drawn (reading.read.pending ∙ rest) (counts_on k reading counts) in
       let stored : HasWhole w.seat e.number k = ap (λ l. whole_count (take e.number l)) finished.seen ∙ drew in
       whole_back release e.number k stored;
   looks = ap (λ (p : Pass). p.looks) release.pass ∙ (finished.looks ∙ (drawn.looks ∙ reading.looks));

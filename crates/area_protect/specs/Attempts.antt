@@ -1,12 +1,14 @@
 -- What the steps of a change of protection have found, each as a fact of the history that the caller has seen. Only
 -- private functions speak of this; what callers see is `IsProtected` of `Protects`.
-use Rattle.std.specs.Prelude.{ℕ, ◌≡◌, ◌≢◌, ◌<◌, ◌≤◌, Some, None}
+use Rattle.area_rows.specs.Rows.{keeps_by}
+use Rattle.std.specs.Prelude.{true, ℕ, ◌≡◌, ◌≢◌, ◌<◌, ◌≤◌, Some, None}
 use Rattle.page_types.specs.declared.calls.Call.TheVariants.{Protect}
 use Rattle.page_types.specs.declared.calls.Kind.{Kind}
 use Rattle.page_types.specs.declared.pages.Span.{Span}
 use Rattle.page_types.specs.Pages.{page_of, end_page}
 use Rattle.page_types.specs.Named.{IsNamedCall, IsNamedKind}
 use Rattle.page_types.specs.PlainReply.{plain_reply}
+use Rattle.space_model.specs.declared.areas.Area.{Area}
 use Rattle.space_model.specs.declared.entries.Entry.{Entry}
 use Rattle.space_model.specs.Areas.{IsInRange}
 use Rattle.space_model.specs.Held.{HoldsSomeArea, IsSimple}
@@ -17,8 +19,10 @@ use Rattle.area_rows.specs.declared.row.Row.{Row}
 use Rattle.area_rows.specs.AreaPlans.{IsOneKind}
 use Rattle.area_rows.specs.Changes.{alone}
 use Rattle.area_rows.specs.OneStore.{IsRound}
-use Rattle.area_rows.specs.Callers.{CallerView, CountsWhole, IsAsRead, RowIs, Shows}
+use Rattle.area_rows.specs.Callers.{CallerView, CountsWhole, IsAsRead, IsReading, RowIs, Shows}
 use Rattle.area_rows.specs.Called.{IsCalled}
+use Rattle.area_protect.specs.declared.beside.Made.{Made}
+use Rattle.area_protect.specs.declared.beside.Made.TheVariants.{Done as Entered, Again as OtherEnds, Whole as NeedsAll}
 use Rattle.area_protect.specs.declared.path.Cause.{Cause}
 use Rattle.area_protect.specs.declared.path.Cause.TheVariants.{NotOneArea, NotSimple, Moved}
 use Rattle.area_protect.specs.declared.steps.Attempt.{Attempt}
@@ -84,12 +88,19 @@ abbrev pub CallIs : CallerView → Request → Entry → CallerView → Type 0
 CallIs before r e after = IsCalled before r.line (Protect r.addr r.len r.prot) e after
 
 -- the change got its entry while the caller held its area; as many entries before it were under everything as the
--- caller knew, and it made no look
+-- caller knew, where the space keeps its history, and it made no look
 pub record IsChanged (before : CallerView) (r : Request) (after : CallerView) (e : Entry) : Type 0 where
   pub called : CallIs (record before { seat = record before.seat { held = None } }) r e after
   pub area : HoldsSomeArea e.under
-  pub whole : (n : ℕ) → CountsWhole before.seat n → HasWhole after.seat e.number n
+  pub whole : keeps_by before.seat.table ≡ true → (n : ℕ) → CountsWhole before.seat n → HasWhole after.seat e.number n
   pub looks : after.seat.pass.looks ≡ before.seat.pass.looks
+
+-- the change of pages of one kind would leave another number of rows, as what the caller has read shows; it is not made,
+-- and the caller holds what it held
+pub record NeedsRows (before : CallerView) (r : Request) (after : CallerView) : Type 0 where
+  pub reading : IsReading before.seat after.seat
+  pub left : after.left ≡ before.left
+  pub shows : Shows after.seat (λ _ state. IsOneKind state (page_of r.addr) (end_page r.addr r.len) × ¬ IsSimple state (Protect r.addr r.len r.prot))
 
 -- after so many entries the change of pages of one kind would have left another number of rows
 pub record NeedsMoreRows (before : CallerView) (r : Request) (after : CallerView) (at : ℕ) : Type 0 where
@@ -119,3 +130,21 @@ abbrev pub IsAttempt : CallerView → Request → CallerView → Attempt → Typ
 IsAttempt before r after (Done e seq) = CallIs before r e after × HoldsSomeArea e.under × HasWhole after.seat e.number seq
 IsAttempt before r after Again = HasLooked before after
 IsAttempt before r after (Whole cause) = HasLooked before after × IsReason before r after cause
+
+-- an area with all these pages
+pub record IsAround (pages : Span) (a : Area) : Type 0 where
+  pub area : IsInRange a
+  pub from : a.lo ≤ pages.lo
+  pub until : pages.hi ≤ a.hi
+
+-- the same of an attempt that makes no look at the history: its entry is over its area, or it has none
+abbrev pub IsMade : CallerView → Request → CallerView → Made → Type 0
+IsMade before r after (Entered e) = CallIs before r e after × HoldsSomeArea e.under
+IsMade before r after OtherEnds = HasLooked before after
+IsMade before r after NeedsAll = HasLooked before after
+
+-- another one is due
+abbrev pub IsMadeAgain : Made → Type 0
+IsMadeAgain (Entered e) = ⊥
+IsMadeAgain OtherEnds = Unit {0}
+IsMadeAgain NeedsAll = ⊥

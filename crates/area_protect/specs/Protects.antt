@@ -1,7 +1,8 @@
 -- What a change of protection answers, and what each answer says: mprotect(2), with the way that the call went. A way
 -- is no claim about what the code did: it is a fact of the history after so many entries, which stands between what the
 -- caller had seen before the call and the call's own entry.
-use Rattle.std.specs.Prelude.{ℕ, ◌≡◌, ◌≢◌, ◌<◌, ◌≤◌, ◌⊎◌, ◌↔◌, List, ◌∷◌, IsSome, None, length}
+use Rattle.area_rows.specs.Rows.{keeps_by}
+use Rattle.std.specs.Prelude.{true, ℕ, ◌≡◌, ◌≢◌, ◌<◌, ◌≤◌, ◌⊎◌, ◌↔◌, List, ◌∷◌, IsSome, None, length}
 use Rattle.page_types.specs.declared.calls.Call.{Call}
 use Rattle.page_types.specs.declared.calls.Call.TheVariants.{Protect}
 use Rattle.page_types.specs.declared.pages.Span.{Span}
@@ -10,7 +11,8 @@ use Rattle.page_types.specs.Pages.{page_of, end_page}
 use Rattle.page_types.specs.PlainReply.{plain_reply}
 use Rattle.space_model.specs.declared.areas.Area.{Area}
 use Rattle.space_model.specs.declared.entries.Entry.{Entry}
-use Rattle.space_model.specs.declared.entries.Under.TheVariants.{Whole as Everything}
+use Rattle.space_model.specs.declared.entries.Under.{Under}
+use Rattle.space_model.specs.declared.entries.Under.TheVariants.{Nothing, Reader as UnderPage, Area as UnderArea, Whole as Everything}
 use Rattle.space_model.specs.Areas.{IsInRange}
 use Rattle.space_model.specs.Held.{HoldsSomeArea, IsSimple, IsWidened}
 use Rattle.lock_core.specs.declared.range.Held.{Held}
@@ -22,6 +24,8 @@ use Rattle.area_guard.specs.declared.guard.Pass.{Pass}
 use Rattle.area_rows.specs.AreaPlans.{IsOneKind}
 use Rattle.area_rows.specs.Callers.{CallerView}
 use Rattle.area_rows.specs.Called.{IsCalled}
+use Rattle.area_rows.specs.declared.answer.Answer.{Answer}
+use Rattle.area_rows.specs.declared.answer.Answer.TheVariants.{Given as Entered, Spent as NoNumber}
 use Rattle.area_protect.specs.declared.path.Cause.{Cause}
 use Rattle.area_protect.specs.declared.path.Cause.TheVariants.{NotOneArea, NotSimple, Moved}
 use Rattle.area_protect.specs.declared.path.Path.{Path}
@@ -91,10 +95,23 @@ abbrev pub AnswerAskedTo : Call → Protected → List Held → List Held → Ty
 AnswerAskedTo (Protect addr len prot) answer before after = AnswerAsked (page_of addr) (end_page addr len) answer before after
 AnswerAskedTo call answer before after = ⊥
 
--- the call got one entry, as each call that gives one, and went that way, by its own looks
+-- the same of a call that doesn't say its way, by what its entry was numbered under
+abbrev pub AskedUnder : ℕ → ℕ → Under → List Held → List Held → Type 0
+AskedUnder lo hi Nothing before after = after ≡ before
+AskedUnder lo hi (UnderPage span) before after = ⊥
+AskedUnder lo hi (UnderArea span) before after = AsksPagesFirst lo hi before after
+AskedUnder lo hi Everything before after = (mid : List Held) × AsksPagesFirst lo hi before mid × AsksFor everything mid after
+
+-- and by its answer
+abbrev pub AskedBeside : ℕ → ℕ → Answer → List Held → List Held → Type 0
+AskedBeside lo hi (Entered e) before after = AskedUnder lo hi e.under before after
+AskedBeside lo hi NoNumber before after = after ≡ before
+
+-- the call got one entry, as each call that gives one, and went that way, by its own looks. The space keeps its history
 pub record IsProtected (before : CallerView) (line addr len : ℕ) (prot : Prot) (e : Entry) (path : Path) (after : CallerView) : Type 0 where
   pub called : IsCalled before line (Protect addr len prot) e after
   pub way : HasPath before.seat (Protect addr len prot) (page_of addr) (end_page addr len) e after.seat path
+  pub keeps : keeps_by before.seat.table ≡ true
   pub looks : HasLooks before.seat (page_of addr) (end_page addr len) path after.seat
 
 -- the answer: an entry where a number is left, and otherwise nothing has changed

@@ -4,6 +4,7 @@
 //! of `specs/Protects.antt`.
 #![tactic(auto)]
 
+mod beside;
 mod laws;
 mod path;
 mod protecting;
@@ -11,6 +12,7 @@ mod steps;
 #[cfg(test)]
 mod tests;
 
+pub use beside::protect_beside;
 pub use laws::{lone_protects_hold_their_area, paths_are_of_the_history};
 pub use path::{Cause, Path, Protected};
 pub use protecting::{make_protect, protect};

@@ -1,10 +1,11 @@
 //! The call: nothing where the caller has no number left, the reply of the arguments where these decide, and otherwise
 //! attempts over one area until one gets its entry or shows that the call has to hold everything.
-ghost use Rattle.std.specs.Prelude.{◌≡◌, ◌<◌, None};
+ghost use Rattle.std.specs.Prelude.{true, ◌≡◌, ◌<◌, None};
 ghost use Rattle.page_types.specs.declared.calls.Call.TheVariants.{Protect};
 ghost use Rattle.page_types.specs.Named.{IsNamedCall};
 ghost use Rattle.page_types.specs.Classes.{IsProtect};
 ghost use Rattle.page_types.specs.Pages.{page_of, end_page};
+ghost use Rattle.area_rows.specs.Rows.{keeps_by};
 ghost use Rattle.area_protect.specs.Looks.{LooksFirst};
 ghost use Rattle.area_protect.specs.Protects.{AsksPagesFirst, HasAsked, AnswerAsked, AnswerAskedTo, IsProtected, IsAnswer, IsAnswerTo};
 ghost use Rattle.area_protect.specs.Attempts.{MayCall, IsUndecided, ArePagesOf, IsAgain, IsAttempt};
@@ -29,6 +30,7 @@ fn attempts<R: Wait, L: Ledger>(
     steps: &mut Steps<L>,
 ) -> Attempt
     requires caller { MayCall space.now.table caller.old }
+    requires keeps { keeps_by space.now.table ≡ true }
     requires asked { IsUndecided request }
     requires pages { ArePagesOf request pages }
     ensures free { caller.new.seat.held ≡ None }
@@ -59,6 +61,7 @@ fn protect_counting<L: Ledger, R: Wait>(
 ) -> (Entry, Path)
     requires blank { (blank.name ≡ L.name) × (blank.parts ≡ L.parts) × (0 < L.parts) }
     requires caller { MayCall space.now.table caller.old }
+    requires keeps { keeps_by space.now.table ≡ true }
     requires asked { IsUndecided request }
     ensures protected { IsProtected caller.old request.line request.addr request.len request.prot result.0 result.1 caller.new }
     ensures asks { HasAsked (page_of request.addr) (end_page request.addr request.len) result.1 caller.old.seat.trace.asked caller.new.seat.trace.asked }
@@ -85,6 +88,7 @@ pub fn make_protect<R: Wait>(
     call: Call,
 ) -> Protected
     requires table { caller.old.seat.table ≡ space.now.table }
+    requires keeps { keeps_by space.now.table ≡ true }
     requires free { caller.old.seat.held ≡ None }
     requires call { IsProtect call }
     requires named { IsNamedCall call }
@@ -132,6 +136,7 @@ pub fn protect<R: Wait>(
     prot: Prot,
 ) -> Protected
     requires table { caller.old.seat.table ≡ space.now.table }
+    requires keeps { keeps_by space.now.table ≡ true }
     requires free { caller.old.seat.held ≡ None }
     requires named { IsNamedCall (Protect addr len prot) }
     ensures answer { IsAnswer caller.old line addr len prot result caller.new }

@@ -2,7 +2,7 @@
 //! 2020: a look at the area under its pages as a reader; the area, with a page on each side, held as a writer, and the
 //! look made anew; and the change. Each step says what it has found as a fact of the history, so a way that ends at
 //! holding everything keeps its cause. Only private functions speak of these.
-ghost use Rattle.std.specs.Prelude.{◌≡◌, ◌<◌, ◌≤◌, None, IfOk, IfErr};
+ghost use Rattle.std.specs.Prelude.{true, ◌≡◌, ◌<◌, ◌≤◌, None, IfOk, IfErr, MatchOption};
 ghost use Rattle.page_types.specs.declared.TheConstants.{LIMIT};
 ghost use Rattle.page_types.specs.declared.calls.Call.TheVariants.{Protect};
 ghost use Rattle.page_types.specs.Pages.{page_of, end_page};
@@ -11,9 +11,11 @@ ghost use Rattle.space_model.specs.Held.{IsWidened};
 ghost use Rattle.area_rows.specs.History.{IsAtRest};
 ghost use Rattle.range_rw.specs.Contract.{AsksFor, AsksOnly};
 ghost use Rattle.area_rows.specs.Changes.{alone};
+ghost use Rattle.area_rows.specs.Rows.{keeps_by};
 ghost use Rattle.area_protect.specs.Protects.{AsksPagesFirst, read_pages};
 ghost use Rattle.area_protect.specs.Looks.{HasLooked, LooksFirst};
-ghost use Rattle.area_protect.specs.Attempts.{MayCall, IsUndecided, ArePagesOf, HoldsRow, IsFound, IsOtherKind, IsHeld, IsChanged, NeedsMoreRows, IsAttempt};
+ghost use Rattle.area_protect.specs.Attempts.{MayCall, IsUndecided, ArePagesOf, HoldsRow, IsFound, IsOtherKind, IsHeld, IsAttempt};
+ghost use Rattle.area_protect.specs.Attempts.{IsChanged, NeedsRows, NeedsMoreRows};
 
 use crate::path::Cause;
 use area_rows::{AreaPlan, Caller, Row, Space};
@@ -86,6 +88,7 @@ pub(crate) fn look_around<R: Wait, L: Ledger>(
     steps: &mut Steps<L>,
 ) -> Result<Found, u64>
     requires table { caller.old.seat.table ≡ space.now.table }
+    requires keeps { keeps_by space.now.table ≡ true }
     requires free { caller.old.seat.held ≡ None }
     ensures looked { HasLooked caller.old caller.new }
     ensures free { caller.new.seat.held ≡ None }
@@ -124,6 +127,7 @@ pub(crate) fn hold_area<R: Wait, L: Ledger>(
     steps: &mut Steps<L>,
 ) -> Held
     requires table { caller.old.seat.table ≡ space.now.table }
+    requires keeps { keeps_by space.now.table ≡ true }
     requires free { caller.old.seat.held ≡ None }
     requires area { IsInRange found.area }
     requires inside { (found.area.lo ≤ page) × (page < found.area.hi) }
@@ -151,8 +155,8 @@ pub(crate) fn hold_area<R: Wait, L: Ledger>(
 
 /// The change, where the area is held: it is planned, numbered and stored, and the range is given back. In a sealed
 /// area it is numbered as refused, and nothing is stored. Where it would leave another number of rows it is not
-/// numbered, and the answer is after how many entries that was so.
-pub(crate) fn change_area<L: Ledger>(
+/// numbered, and the area is held still.
+pub(crate) fn change_held<L: Ledger>(
     space: &Space,
     caller: &mut Caller,
     request: Request,
@@ -160,7 +164,7 @@ pub(crate) fn change_area<L: Ledger>(
     kind: Kind,
     wide: Span,
     steps: &mut Steps<L>,
-) -> Result<Entry, u64>
+) -> Option<Entry>
     requires table { caller.old.seat.table ≡ space.now.table }
     requires left { 0 < caller.old.left }
     requires asked { IsUndecided request }
@@ -169,10 +173,8 @@ pub(crate) fn change_area<L: Ledger>(
     requires from { row.lo ≤ page_of request.addr }
     requires until { end_page request.addr request.len ≤ row.hi }
     requires limit { row.hi ≤ LIMIT }
-    ensures free { caller.new.seat.held ≡ None }
     ensures asked { caller.new.seat.trace.asked ≡ caller.old.seat.trace.asked }
-    ensures changed { IfOk result (IsChanged caller.old request caller.new) }
-    ensures rows { IfErr result (NeedsMoreRows caller.old request caller.new) }
+    ensures changed { MatchOption result (NeedsRows caller.old request caller.new) (IsChanged caller.old request caller.new) }
 {
     let plan = space.plan_area(
         caller,
@@ -185,32 +187,63 @@ pub(crate) fn change_area<L: Ledger>(
     );
     let (line, call, under) = (request.line, request.call(), Under::Area(wide));
     match plan {
-        AreaPlan::NotSimple => {
-            let at = space.look(caller);
-            space.release(caller, steps);
-            Err(at)
-        }
+        AreaPlan::NotSimple => None,
         AreaPlan::Same(reply) => {
             let entry = space.number(caller, line, call, reply, under, steps);
             space.release(caller, steps);
-            Ok(entry)
+            Some(entry)
         }
         AreaPlan::SetKind(change, reply) => {
             let entry = space.number(caller, line, call, reply, under, steps);
             space.set_kind(caller, change.index, change.kind);
             space.release(caller, steps);
-            Ok(entry)
+            Some(entry)
         }
         AreaPlan::MoveStart(change, reply) => {
             let entry = space.number(caller, line, call, reply, under, steps);
             space.move_start(caller, change.index, change.start);
             space.release(caller, steps);
-            Ok(entry)
+            Some(entry)
         }
         AreaPlan::Sealed(reply) => {
             let entry = space.number(caller, line, call, reply, under, steps);
             space.release(caller, steps);
-            Ok(entry)
+            Some(entry)
+        }
+    }
+}
+
+/// The same, with nothing held afterwards: where the change would leave another number of rows, the answer is after how
+/// many entries that was so.
+pub(crate) fn change_area<L: Ledger>(
+    space: &Space,
+    caller: &mut Caller,
+    request: Request,
+    row: Row,
+    kind: Kind,
+    wide: Span,
+    steps: &mut Steps<L>,
+) -> Result<Entry, u64>
+    requires table { caller.old.seat.table ≡ space.now.table }
+    requires keeps { keeps_by space.now.table ≡ true }
+    requires left { 0 < caller.old.left }
+    requires asked { IsUndecided request }
+    requires holds { HoldsRow caller.old (page_of request.addr) wide row kind }
+    requires rest { IsAtRest caller.old.seat.pass }
+    requires from { row.lo ≤ page_of request.addr }
+    requires until { end_page request.addr request.len ≤ row.hi }
+    requires limit { row.hi ≤ LIMIT }
+    ensures free { caller.new.seat.held ≡ None }
+    ensures asked { caller.new.seat.trace.asked ≡ caller.old.seat.trace.asked }
+    ensures changed { IfOk result (IsChanged caller.old request caller.new) }
+    ensures rows { IfErr result (NeedsMoreRows caller.old request caller.new) }
+{
+    match change_held(space, caller, request, row, kind, wide, steps) {
+        Some(entry) => Ok(entry),
+        None => {
+            let at = space.look(caller);
+            space.release(caller, steps);
+            Err(at)
         }
     }
 }
@@ -225,6 +258,7 @@ pub(crate) fn one_attempt<R: Wait, L: Ledger>(
     steps: &mut Steps<L>,
 ) -> Attempt
     requires caller { MayCall space.now.table caller.old }
+    requires keeps { keeps_by space.now.table ≡ true }
     requires asked { IsUndecided request }
     requires pages { ArePagesOf request pages }
     ensures free { caller.new.seat.held ≡ None }

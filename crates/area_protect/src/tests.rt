@@ -1,6 +1,7 @@
 //! The steps of a change of protection, one by one, with a call of another caller between them: so each way that ends
 //! at holding everything, and the one that begins anew, is seen to come.
-ghost use Rattle.std.specs.Prelude.{◌≡◌, ◌<◌, ◌≤◌, None};
+ghost use Rattle.area_rows.specs.Rows.{keeps_by};
+ghost use Rattle.std.specs.Prelude.{true, ◌≡◌, ◌<◌, ◌≤◌, None};
 ghost use Rattle.page_types.specs.Named.{IsNamedCall};
 ghost use Rattle.page_types.specs.PlainReply.{plain_reply};
 ghost use Rattle.page_types.specs.Classes.{IsFault};
@@ -28,6 +29,7 @@ fn held_after<R: Wait, L: Ledger>(
 ) -> Option<Held>
     requires blank { (blank.name ≡ L.name) × (blank.parts ≡ L.parts) × (0 < L.parts) }
     requires caller { (caller.old.seat.table ≡ space.now.table) × (caller.old.seat.held ≡ None) }
+    requires keeps { keeps_by space.now.table ≡ true }
     requires other { (other.old.seat.table ≡ space.now.table) × (other.old.seat.held ≡ None) × (0 < other.old.left) }
     requires call { ¬ IsFault call }
     requires named { IsNamedCall call }
@@ -58,6 +60,7 @@ fn held_beside<R: Wait, L: Ledger>(
 ) -> Option<Held>
     requires blank { (blank.name ≡ L.name) × (blank.parts ≡ L.parts) × (0 < L.parts) }
     requires caller { (caller.old.seat.table ≡ space.now.table) × (caller.old.seat.held ≡ None) }
+    requires keeps { keeps_by space.now.table ≡ true }
     requires other { (other.old.seat.table ≡ space.now.table) × (other.old.seat.held ≡ None) }
 {
     let mut steps = Steps::<L>::new(blank);

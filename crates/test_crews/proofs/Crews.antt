@@ -15,7 +15,7 @@ use Rattle.page_types.specs.declared.calls.Call.{Call}
 use Rattle.space_model.specs.declared.areas.Area.{Area}
 use Rattle.area_rows.specs.declared.answer.Answer.{Answer}
 use Rattle.area_rows.specs.declared.answer.Answer.TheVariants.{Given, Spent}
-use Rattle.area_rows.specs.Callers.{CallerView, AreIdle, AreNewCallersIn}
+use Rattle.area_rows.specs.Callers.{CallerView, AreIdle, AreNewCallersIn, entry_in}
 use Rattle.area_rows.specs.Called.{IsAnswered}
 use Rattle.page_fault.specs.Faults.{IsTried}
 use Rattle.page_fault.specs.declared.faults.TriedFault.{TriedFault}
@@ -128,7 +128,8 @@ second_tried seats (x ∷ []) (y ∷ rest) w d n line addr access answer one is 
 pub one_more : (calls : ℕ) (start before after : CallerView) (line : ℕ) (call : Call) (answer : Answer)
     → HasCalled calls start before → IsAnswered before line call answer after → HasCalled (calls + 1) start after
 one_more calls start before after line call (Given e) h is =
-    let more : length after.seat.pass.mine ≡ length before.seat.pass.mine + 1 = ap length is.1.numbered.mine ∙ length-append before.seat.pass.mine (e ∷ []) in
+    let more : length after.seat.pass.mine ≡ length before.seat.pass.mine + 1 = ap length is.1.numbered.mine ∙ length-append before.seat.pass.mine
+    (entry_in is.1.numbered.history e ∷ []) in
     let l = h.left in let k = h.kept in let m = is.1.left in record { left = omega arith; kept = omega arith }
 one_more calls start before after line call Spent h is =
     let same : after.left ≡ before.left = ap (λ (x : CallerView). x.left) is.1 in

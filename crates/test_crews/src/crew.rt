@@ -1,10 +1,11 @@
 //! A crew: all callers of one space in order of their numbers. One of them makes a call, or one tries once beside
 //! another that holds a span as a writer, or each makes calls on a thread of its own. After each of these the crew may
 //! go on or be closed.
-ghost use Rattle.std.specs.Prelude.{◌≡◌, ◌<◌, ◌≤◌, ◌^◌, None, drop, length, IfOk, IfErr};
+ghost use Rattle.std.specs.Prelude.{true, ◌≡◌, ◌<◌, ◌≤◌, ◌^◌, None, drop, length, IfOk, IfErr};
 ghost use Rattle.space_model.specs.Areas.{row_count};
 ghost use Rattle.page_types.specs.declared.sets.Access.TheVariants.{Read};
 ghost use Rattle.page_types.specs.Named.{IsNamedCall};
+ghost use Rattle.area_rows.specs.Rows.{keeps_by};
 ghost use Rattle.area_rows.specs.Callers.{IsSpaceFault};
 ghost use Rattle.area_rows.specs.Called.{IsAnswered};
 ghost use Rattle.page_fault.specs.Faults.{IsTried};
@@ -35,14 +36,17 @@ pub fn open_crew(
     requires { length calls.now < 2 ^ 32 }
     ensures refused { IfErr result (IsSpaceFault (length calls.now) (row_count start.now)) }
     ensures count { IfOk result (λ r. r.0.seats ≡ length calls.now) }
+    ensures keeps { IfOk result (λ r. keeps_by r.0.table ≡ true) }
     ensures crew { IfOk result (λ r. IsCrew r.0.table r.0.seats r.1.items) }
 {
-    open_cut_crew(alloc, calls, Cut::one(), start)
+    open_cut_crew(alloc, true, calls, Cut::one(), start)
 }
 
-/// The same over a lock with a list for each region of a cut of the pages.
+/// The same over a lock with a list for each region of a cut of the pages, and with a history or without one. Without
+/// it a caller may make more calls than were asked for.
 pub fn open_cut_crew(
     alloc: Global,
+    keeps: bool,
     calls: &[u32],
     cut: Cut,
     start: &PlainSpace,
@@ -50,9 +54,14 @@ pub fn open_cut_crew(
     requires { length calls.now < 2 ^ 32 }
     ensures refused { IfErr result (IsSpaceFault (length calls.now) (row_count start.now)) }
     ensures count { IfOk result (λ r. r.0.seats ≡ length calls.now) }
+    ensures keeps { IfOk result (λ r. keeps_by r.0.table ≡ keeps) }
     ensures crew { IfOk result (λ r. IsCrew r.0.table r.0.seats r.1.items) }
 {
-    Space::open_cut(alloc, calls, cut, start)
+    if keeps {
+        Space::open_cut(alloc, calls, cut, start)
+    } else {
+        Space::open_unkept(alloc, calls.len() as u32, cut, start)
+    }
 }
 
 /// The first caller of the crew makes a call, whose sets have named bits alone, and the others are as they were.

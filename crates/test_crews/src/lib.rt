@@ -5,8 +5,10 @@
 
 mod calls;
 mod crew;
+mod held;
 mod work;
 
 pub use calls::make_call;
 pub use crew::{call_by, open_crew, open_cut_crew, try_beside, try_by, try_read, work_all};
+pub use held::{HeldCalls, Holding, hold_beside};
 pub use work::{Work, call_at, not_replacing, replacing};

@@ -64,6 +64,7 @@ protect_entry {before} {line} {addr} {len} {prot} {e} {path} {after} p =
     let num = p.called.numbered in
     record {
       called = p.called;
+      keeps = p.keeps;
       alone = λ lone. record {
         fits = num.right.fits;
         area = area_of_protect num.state addr len prot e.under p.called.call_is num.right.fits

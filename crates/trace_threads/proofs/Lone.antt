@@ -4,6 +4,7 @@ use Rattle.std.proofs.Common.{◌≡◌, ℕ, eqb, ◌+◌, List, [], ◌∷◌,
 use Rattle.std.proofs.lemmas.Bool.{eqb-true, ne_eqb}
 use Rattle.std.proofs.lemmas.List.{append-nil, length-append, nil_from_length}
 use Rattle.std.specs.Prelude.{Bool, true, false, cond}
+use Rattle.area_rows.proofs.Wholes.{kept_entry}
 use Rattle.space_model.specs.declared.areas.Area.{Area}
 use Rattle.space_model.specs.declared.entries.Entry.{Entry}
 use Rattle.space_model.specs.History.{Chains, StateAfter, IsNumberedFrom}
@@ -30,7 +31,7 @@ held_chain [] c (e ∷ es) after A B plays seen began runs numbered chain = absu
 held_chain (l ∷ ls) c [] after A B plays seen began runs numbered chain = absurd plays
 held_chain (l ∷ ls) c (e ∷ es) after {start} {front} A B plays seen began runs numbered chain =
     let p = plays.1 in let num = p.called.numbered in
-    let history : num.history ≡ front = same_history c.seat.pass.seen num.history num.more (let count = num.counted in
+    let history : num.history ≡ front = same_history c.seat.pass.seen num.history num.more (let count = num.counted p.keeps in
     let first = numbered.0 in let long = ap length seen in omega arith) ∙ seen in
     let mine : StateAfter start front num.state = subst (λ (z : List Area × List Entry). StateAfter z.0 z.1 num.state) (λ i. (began i, history i))
     (all_legal c.seat.pass.start num.state num.history num.runs).1 in
@@ -40,7 +41,7 @@ held_chain (l ∷ ls) c (e ∷ es) after {start} {front} A B plays seen began ru
     let longer : length front + 1 ≡ length (front ++ e ∷ []) = sym (length-append front (e ∷ [])) in (
       chain.0,
       (held, step.1),
-      held_chain ls plays.0 es after chain.0 B plays.2 (num.seen ∙ ap (λ h. h ++ e ∷ []) history) (num.start ∙ began)
+      held_chain ls plays.0 es after chain.0 B plays.2 (num.seen ∙ (λ i. history i ++ kept_entry num p.keeps i ∷ [])) (num.start ∙ began)
           (runs_more front 0 start A chain.0 e runs (numbered.0 ∙ zero_on) step.0 step.1) (subst (λ n. IsNumberedFrom n es) longer numbered.1) chain.2,
     )
 

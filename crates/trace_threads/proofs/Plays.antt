@@ -2,10 +2,11 @@
 use Rattle.std.proofs.Common.{◌≡◌, ℕ, ◌<◌, ◌+◌, List, [], ◌∷◌, ◌++◌, get_or, length, sym, refl, ap, ◌∙◌, subst, arith, append-nil, append_assoc, length-append}
 use mathlib.Core.Option.{some}
 use lib.ListN.{get_elem?}
+use Rattle.area_rows.proofs.Wholes.{kept_entry}
 use Rattle.lock_core.proofs.ByPlace.{below, at_or}
 use Rattle.space_model.specs.declared.entries.Entry.{Entry}
 use Rattle.area_rows.specs.History.{StartsWith}
-use Rattle.area_rows.specs.Callers.{CallerView}
+use Rattle.area_rows.specs.Callers.{entry_in, CallerView}
 use Rattle.area_protect.proofs.Looking.{begins_on, longer as no_shorter}
 use Rattle.trace_threads.specs.declared.worker.Line.{Line}
 use Rattle.trace_threads.specs.Workers.{WorkerView, AreEntriesOf, Rise, IsPlayedAs, HasPlayed, HasDone, HavePlayed}
@@ -33,9 +34,9 @@ played_none_by c = (
 pub played_more_by : {l : Line} (ls : List Line) {a b : CallerView} (c : CallerView) {e : Entry} → IsPlayedAs a l e b → (h : HasPlayed ls b c)
     → (m : HasPlayed (l ∷ ls) a c) × (m.entries ≡ e ∷ h.entries)
 played_more_by ls {a} {b} c {e} p h =
-    let n = p.called.numbered in let seen_by : StartsWith b.seat.pass.seen n.history = (e ∷ [], n.seen) in
-    let longer : length b.seat.pass.seen ≡ length n.history + 1 = ap length n.seen ∙ length-append n.history (e ∷ []) in
-    let next : e.number + 1 ≡ length b.seat.pass.seen = (let count = n.counted in omega arith) in
+    let n = p.called.numbered in let seen_by : StartsWith b.seat.pass.seen n.history = (entry_in n.history e ∷ [], n.seen) in
+    let longer : length b.seat.pass.seen ≡ length n.history + 1 = ap length n.seen ∙ length-append n.history (entry_in n.history e ∷ []) in
+    let next : e.number + 1 ≡ length b.seat.pass.seen = (let count = n.counted p.keeps in omega arith) in
     let first = no_shorter a.seat.pass.seen n.history n.more in (
       record {
         entries = e ∷ h.entries;
@@ -44,8 +45,9 @@ played_more_by ls {a} {b} c {e} p h =
           record { worker_is = n.worker; line_is = p.called.line_is; call_is = p.called.call_is },
           subst (λ k. AreEntriesOf k ls h.entries) n.number h.theirs,
         );
-        rise = ((let count = n.counted in omega arith), subst (λ k. Rise k h.entries (length c.seat.pass.seen)) (sym next) h.rise);
-        mine = h.mine ∙ (ap (λ m. m ++ h.entries) n.mine ∙ append_assoc a.seat.pass.mine (e ∷ []) h.entries);
+        rise = ((let count = n.counted p.keeps in omega arith), subst (λ k. Rise k h.entries (length c.seat.pass.seen)) (sym next) h.rise);
+        mine = h.mine ∙ (ap (λ m. m ++ h.entries) (n.mine ∙ ap (λ x. a.seat.pass.mine ++ x ∷ []) (kept_entry n p.keeps))
+            ∙ append_assoc a.seat.pass.mine (e ∷ []) h.entries);
         seen = begins_on a.seat.pass.seen n.history c.seat.pass.seen n.more (begins_on n.history b.seat.pass.seen c.seat.pass.seen seen_by h.seen);
         left = (let one = p.called.left in let rest = h.left in omega arith);
         start = h.start ∙ n.start;

@@ -1,9 +1,10 @@
 -- What contracts see of a worker, and what it is that lines were played: each line's call was made once, by the
 -- worker's caller, in the lines' order, and has its entry. A trace's lines are those of strace(1) with the process that
 -- made them; how they are shared out among workers is no matter of this crate.
-use Rattle.std.specs.Prelude.{ℕ, ◌≡◌, ◌<◌, ◌≤◌, ◌+◌, ◌↔◌, None, List, [], ◌∷◌, ◌++◌, length}
+use Rattle.std.specs.Prelude.{true, ℕ, ◌≡◌, ◌<◌, ◌≤◌, ◌+◌, ◌↔◌, None, List, [], ◌∷◌, ◌++◌, length}
 use mathlib.Core.Option.{some}
 use lib.ListN.{get_elem?}
+use Rattle.area_rows.specs.Rows.{keeps_by}
 use Rattle.atomic_table.specs.Seated.{TableId}
 use Rattle.page_types.specs.PlainReply.{plain_reply}
 use Rattle.space_model.specs.declared.areas.Area.{Area}
@@ -48,9 +49,10 @@ pub record IsHeld (A : List Area) (e : Entry) : Type 0 where
   pub area : HoldsSomeArea e.under ↔ ((plain_reply e.call ≡ None) × IsSimple A e.call)
 
 -- the call of a line was made once and has this entry, as each call that gives one. Where no number was drawn since the
--- caller saw the history last, it holds its area alone exactly where it may
+-- caller saw the history last, it holds its area alone exactly where it may. The space keeps its history
 pub record IsPlayedAs (before : CallerView) (l : Line) (e : Entry) (after : CallerView) : Type 0 where
   pub called : IsCalled before l.line l.call e after
+  pub keeps : keeps_by before.seat.table ≡ true
   pub alone : e.number ≡ length before.seat.pass.seen → IsHeld called.numbered.state e
 
 -- the answer of a line's call: an entry where a number is left, and otherwise nothing has changed

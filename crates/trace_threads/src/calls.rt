@@ -1,7 +1,8 @@
 //! The call of a line, handed on whole to who makes it: a fault to `page_fault`, a change of protection to
 //! `area_protect`, and any other to the space itself. Who makes a call is decided here alone, and the contract doesn't
 //! say.
-ghost use Rattle.std.specs.Prelude.{◌≡◌, ◌<◌, None};
+ghost use Rattle.std.specs.Prelude.{true, ◌≡◌, ◌<◌, None};
+ghost use Rattle.area_rows.specs.Rows.{keeps_by};
 ghost use Rattle.page_types.specs.Named.{IsNamedCall};
 ghost use Rattle.trace_threads.specs.Workers.{IsLineAnswer, IsPlayedAs};
 
@@ -16,6 +17,7 @@ use std::sync::Wait;
 /// A caller makes the call of a line.
 pub(crate) fn make_call<R: Wait>(wait: &R, space: &Space, caller: &mut Caller, line: Line) -> Answer
     requires table { caller.old.seat.table ≡ space.now.table }
+    requires keeps { keeps_by space.now.table ≡ true }
     requires free { caller.old.seat.held ≡ None }
     requires named { IsNamedCall line.call }
     ensures answer { IsLineAnswer caller.old line result caller.new }
@@ -45,6 +47,7 @@ pub(crate) fn answer_line<R: Wait>(
     line: Line,
 ) -> Entry
     requires table { caller.old.seat.table ≡ space.now.table }
+    requires keeps { keeps_by space.now.table ≡ true }
     requires free { caller.old.seat.held ≡ None }
     requires left { 0 < caller.old.left }
     requires named { IsNamedCall line.call }

@@ -1,7 +1,8 @@
 //! Workers at play: each plays its lines in their order, and all play beside each other. What a reader may rely on is
 //! said by place (`HavePlayed` in `specs/Workers.antt`): each worker's caller is the one that it was, and has made the
 //! calls of its worker's lines, each once and in their order. That threads run at the same time is not said.
-ghost use Rattle.std.specs.Prelude.{◌≡◌, ◌<◌, ◌≤◌, None, All, length};
+ghost use Rattle.std.specs.Prelude.{true, ◌≡◌, ◌<◌, ◌≤◌, None, All, length};
+ghost use Rattle.area_rows.specs.Rows.{keeps_by};
 ghost use Rattle.page_types.specs.Named.{IsNamedCall};
 ghost use Rattle.space_model.specs.declared.entries.Entry.{Entry};
 ghost use Rattle.trace_threads.specs.Workers.{AreOfTable, HasPlayed, HasDone, HavePlayed, IsPlayedAs};
@@ -20,6 +21,7 @@ pub(crate) const MOST_THREADS: usize = 16;
 /// A caller plays one line, between the gate's two calls.
 fn play_line<R: Wait, G: Gate>(space: &Space, wait: &R, caller: &mut Caller, line: Line, gate: &G)
     requires table { caller.old.seat.table ≡ space.now.table }
+    requires keeps { keeps_by space.now.table ≡ true }
     requires free { caller.old.seat.held ≡ None }
     requires left { 0 < caller.old.left }
     requires named { IsNamedCall line.call }
@@ -40,6 +42,7 @@ fn play_lines<R: Wait, G: Gate>(
     gate: &G,
 )
     requires table { caller.old.seat.table ≡ space.now.table }
+    requires keeps { keeps_by space.now.table ≡ true }
     requires free { caller.old.seat.held ≡ None }
     requires left { length lines.now ≤ caller.old.left }
     requires named { All (λ l. IsNamedCall l.call) lines.now }
@@ -52,7 +55,8 @@ fn play_lines<R: Wait, G: Gate>(
 
 /// A worker plays its lines, and has none left.
 fn play_worker<R: Wait, G: Gate>(space: &Space, wait: &R, worker: &mut Worker, gate: &G)
-    requires { worker.old.caller.seat.table ≡ space.now.table }
+    requires table { worker.old.caller.seat.table ≡ space.now.table }
+    requires keeps { keeps_by space.now.table ≡ true }
     ensures { HasDone worker.old worker.new }
 {
     let Worker { caller, lines } = worker;
@@ -71,11 +75,12 @@ pub fn play_all<R: Threads + Wait + Sync, G: Gate>(
     workers: &mut [Worker],
     gate: &G,
 )
-    requires { AreOfTable space.now.table workers.old }
+    requires workers { AreOfTable space.now.table workers.old }
+    requires keeps { keeps_by space.now.table ≡ true }
     ensures { HavePlayed workers.old workers.new }
 {
     let turn = |_: usize, worker: &mut Worker|
-        requires { worker.now.caller.seat.table ≡ space.now.table }
+        requires { (worker.now.caller.seat.table ≡ space.now.table) × (keeps_by space.now.table ≡ true) }
         ensures { HasDone worker.entry.now worker.exit.now }
     { play_worker(space, wait, worker, gate) };
     thread::for_each_mut(wait, workers, MOST_THREADS, &turn);

@@ -1,7 +1,9 @@
 //! A whole trace at one call, with the set of the pages that it touched: a set is opened beside the space with a seat
 //! for each worker, the workers play and touch, and both are closed. A reader may rely on the pages being those of the
 //! granted faults, each once and in rising order (`AreTouchedPages` in `specs/Touching.antt`).
-ghost use Rattle.std.specs.Prelude.{◌≡◌, ◌≤◌, ◌<◌, ◌^◌, ◌↔◌, ℕ, [], All, Contains, IfOk, IfErr, IfSome, flat_map, length, map, sum, sum_by, vec_items, vec_len, vec_capacity};
+ghost use Rattle.std.specs.Prelude.{true, ◌≡◌, ◌≤◌, ◌<◌, ◌^◌, ◌↔◌, ℕ, [], All, Contains, IfOk, IfErr, IfSome};
+ghost use Rattle.std.specs.Prelude.{flat_map, length, map, sum, sum_by, vec_items, vec_len, vec_capacity};
+ghost use Rattle.area_rows.specs.Rows.{keeps_by};
 ghost use Rattle.page_types.specs.Named.{IsNamedCall};
 ghost use Rattle.page_types.specs.declared.TheConstants.{ROWS};
 ghost use Rattle.space_model.specs.Areas.{row_count};
@@ -124,6 +126,7 @@ fn close_both(
 ) -> Option<(Closed, Vec<u64>)>
     requires count { length callers.items ≡ space.seats }
     requires idle { AreIdle space.table callers.items }
+    requires keeps { keeps_by space.table ≡ true }
     requires some { 0 < length seats.items }
     requires tables { All (λ s. s.table ≡ touches.table) seats.items }
     requires all { sum_by seat_quota seats.items ≡ touches.total }

@@ -1,8 +1,9 @@
 //! Workers that touch: each plays its lines as a worker does, and touches the page of each fault that was granted, in a
 //! set of touched pages beside the space. A reader may rely on each seat having touched the pages of its worker's
 //! granted faults and no other (`HasTouched` in `specs/Touching.antt`).
-ghost use Rattle.std.specs.Prelude.{◌≡◌, ◌<◌, ◌≤◌, ◌+◌, [], None, All, length};
+ghost use Rattle.std.specs.Prelude.{true, ◌≡◌, ◌<◌, ◌≤◌, ◌+◌, [], None, All, length};
 ghost use Rattle.std.specs.List.{cons_option};
+ghost use Rattle.area_rows.specs.Rows.{keeps_by};
 ghost use Rattle.page_types.specs.declared.TheConstants.{LIMIT};
 ghost use Rattle.page_types.specs.Named.{IsNamedCall};
 ghost use Rattle.space_model.specs.declared.entries.Entry.{Entry};
@@ -105,6 +106,7 @@ fn touch_line<R: Wait, G: Gate>(
     gate: &G,
 )
     requires tables { (caller.old.seat.table ≡ space.now.table) × (seat.old.table ≡ touches.now.table) }
+    requires keeps { keeps_by space.now.table ≡ true }
     requires free { caller.old.seat.held ≡ None }
     requires left { 0 < caller.old.left }
     requires named { IsNamedCall line.call }
@@ -129,6 +131,7 @@ fn touch_lines<R: Wait, G: Gate>(
     gate: &G,
 )
     requires tables { (caller.old.seat.table ≡ space.now.table) × (seat.old.table ≡ touches.now.table) }
+    requires keeps { keeps_by space.now.table ≡ true }
     requires free { caller.old.seat.held ≡ None }
     requires left { length lines.now ≤ caller.old.left }
     requires named { All (λ l. IsNamedCall l.call) lines.now }
@@ -148,7 +151,8 @@ fn touch_worker<R: Wait, G: Gate>(
     toucher: &mut TouchWorker,
     gate: &G,
 )
-    requires { (toucher.old.worker.caller.seat.table ≡ space.now.table) × (toucher.old.seat.table ≡ touches.now.table) }
+    requires tables { (toucher.old.worker.caller.seat.table ≡ space.now.table) × (toucher.old.seat.table ≡ touches.now.table) }
+    requires keeps { keeps_by space.now.table ≡ true }
     ensures { HasTouched toucher.old toucher.new }
 {
     let TouchWorker { worker, seat } = toucher;
@@ -168,11 +172,13 @@ pub fn play_touching<R: Threads + Wait + Sync, G: Gate>(
     workers: &mut [TouchWorker],
     gate: &G,
 )
-    requires { AreTouchersOf space.now.table touches.now.table workers.old }
+    requires workers { AreTouchersOf space.now.table touches.now.table workers.old }
+    requires keeps { keeps_by space.now.table ≡ true }
     ensures { HaveTouched workers.old workers.new }
 {
     let turn = |_: usize, toucher: &mut TouchWorker|
-        requires { (toucher.now.worker.caller.seat.table ≡ space.now.table) × (toucher.now.seat.table ≡ touches.now.table) }
+        requires { (toucher.now.worker.caller.seat.table ≡ space.now.table) × (toucher.now.seat.table ≡ touches.now.table)
+            × (keeps_by space.now.table ≡ true) }
         ensures { HasTouched toucher.entry.now toucher.exit.now }
     { touch_worker(space, touches, wait, toucher, gate) };
     thread::for_each_mut(wait, workers, MOST_THREADS, &turn);

@@ -1,7 +1,8 @@
 //! A whole trace at one call: a space is opened with one caller for each list of lines, the workers play, and the space
 //! is closed. All memory is taken before the first line is played or when the space is closed. A reader may rely on
 //! what comes back being the history of a space that ran, with just the entries of these lines.
-ghost use Rattle.std.specs.Prelude.{◌≡◌, ◌≤◌, ◌<◌, ◌^◌, [], All, IfOk, IfErr, length, map, vec_items, vec_len, vec_capacity};
+ghost use Rattle.std.specs.Prelude.{true, ◌≡◌, ◌≤◌, ◌<◌, ◌^◌, [], All, IfOk, IfErr, length, map, vec_items, vec_len, vec_capacity};
+ghost use Rattle.area_rows.specs.Rows.{keeps_by};
 ghost use Rattle.page_types.specs.Named.{IsNamedCall};
 ghost use Rattle.page_types.specs.declared.TheConstants.{ROWS};
 ghost use Rattle.space_model.specs.Areas.{row_count};
@@ -92,6 +93,7 @@ pub(crate) fn open_workers(
     requires few { All (λ list. vec_len list < 2 ^ 32) lines.items }
     requires named { All (λ ls. All (λ l. IsNamedCall l.call) ls) (map vec_items lines.items) }
     ensures opened { IfOk result (λ _. IsSeatCount (length lines.items) × (row_count start.now ≤ ROWS)) }
+    ensures keeps { IfOk result (λ r. keeps_by r.0.table ≡ true) }
     ensures workers { IfOk result (λ r. AreNewWorkers r.0.table start.now (map vec_items lines.items) r.1.items) }
     ensures count { IfOk result (λ r. r.0.seats ≡ length r.1.items) }
     ensures room { IfOk result (λ r. (r.2.items ≡ []) × (length r.1.items ≤ vec_capacity r.2)) }

@@ -1,4 +1,5 @@
-use Rattle.std.proofs.Common.{◌∙◌, [], subst}
+use Rattle.std.proofs.Common.{◌∙◌, [], ap, subst}
+use Rattle.area_rows.specs.Rows.{keeps_by}
 use Rattle.area_protect.specs.Attempts.{HoldsRow}
 use Rattle.area_protect.specs.Looks.{LooksFirst}
 use Rattle.area_protect.specs.Protects.{AsksPagesFirst}
@@ -62,12 +63,14 @@ pub returns-in-Ok-change_area : goal.returns-in-Ok-change_area
 returns-in-Ok-change_area g c =
     let h = (goal.at.returns-in-Ok-change_area g c).After-hold_area in
     let a = c.in-Area.ensures in let d = c.in-Ok-change_area.ensures.changed in
+    let look = looked_on c.look_around.ensures.looked a.looked in
+    let keeps = ap keeps_by look.table ∙ (ap keeps_by c.requires.caller.table_is ∙ c.requires.keeps) in
     record {
       free = c.change_area.ensures.free;
       first = first_more c.args.caller.now.seat c.hold_area.new.caller.seat c.change_area.new.caller.seat c.args.pages.lo c.args.pages.hi (held_first g h)
           ([], d.looks);
       asks = asks_kept (area_asked g h) c.change_area.ensures.asked;
-      attempt = (changed_after c.requires.caller.free (looked_on c.look_around.ensures.looked a.looked) d, d.area, d.whole c.in-Ok.found.sequence a.held.whole);
+      attempt = (changed_after c.requires.caller.free look d, d.area, d.whole keeps c.in-Ok.found.sequence a.held.whole);
     }
 
 -- where it needs more rows, that is the reason

@@ -5,7 +5,8 @@ use Rattle.trace_threads.proofs.playing.play_all.Goals as goal
 
 -- the closure may be called at each worker, since each is of the space's table
 pub for_each_mut-requires-clause-accepts : goal.for_each_mut-requires-clause-accepts
-for_each_mut-requires-clause-accepts g c κs within = λ i p lt e. (c.requires i p.now (at_index _ i p.now lt e), (search rules, search rules))
+for_each_mut-requires-clause-accepts g c κs within = λ i p lt e.
+    ((c.requires.workers i p.now (at_index _ i p.now lt e), c.requires.keeps), (search rules, search rules))
 
 -- what was said of each worker's turn by place is said of all
 pub returns : goal.returns

@@ -42,11 +42,11 @@ open_touchers-requires-clause-quotas g c =
     let are : quotas ≡ map worker_faults workers = counts ∙ new_faults c.in-Ok-open_workers.ensures.workers in are
 
 -- the workers are of the new space, and their seats of the new set
-pub play_touching-requires-after_bounds : goal.play_touching-requires-after_bounds
-play_touching-requires-after_bounds g c κs within =
+pub play_touching-requires-clause-workers : goal.play_touching-requires-clause-workers
+play_touching-requires-clause-workers g c κs within =
     let same : c.as_mut_slice.result.now ≡ c.in-Some.touchers.items = search rules in
     subst (λ (ts : List ToucherView). AreTouchersOf c.in-Ok-open_workers.space.table c.in-Some.touches.table ts) (sym same)
-    (staged_of (staged g (goal.at.play_touching-requires-after_bounds g c).In-Some))
+    (staged_of (staged g (goal.at.play_touching-requires-clause-workers g c).In-Some))
 
 -- there is room for the callers and the seats of all workers
 pub dismiss_touchers-callers-requires-clause-room : goal.dismiss_touchers-callers-requires-clause-room

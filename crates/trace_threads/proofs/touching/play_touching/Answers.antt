@@ -5,7 +5,8 @@ use Rattle.trace_threads.proofs.touching.play_touching.Goals as goal
 
 -- the closure may be called at each worker, since each is of the space and of the set
 pub for_each_mut-requires-clause-accepts : goal.for_each_mut-requires-clause-accepts
-for_each_mut-requires-clause-accepts g c κs within = λ i p lt e. (c.requires i p.now (at_index _ i p.now lt e), (search rules, search rules))
+for_each_mut-requires-clause-accepts g c κs within = λ i p lt e.
+    let t = c.requires.workers i p.now (at_index _ i p.now lt e) in ((t.0, t.1, c.requires.keeps), (search rules, search rules))
 
 -- what was said of each worker's turn by place is said of all
 pub returns : goal.returns

@@ -8,8 +8,8 @@ use Rattle.trace_threads.proofs.Hirings.{of_table, played_idle, all_played}
 use Rattle.trace_threads.proofs.trace.play_trace.Goals as goal
 
 -- the new workers are of the space's table
-pub play_all-requires-after_bounds : goal.play_all-requires-after_bounds
-play_all-requires-after_bounds g c κs within =
+pub play_all-requires-clause-workers : goal.play_all-requires-clause-workers
+play_all-requires-clause-workers g c κs within =
     let is : c.as_mut_slice.result.now ≡ c.in-Ok.workers.items = search rules in
     subst (λ (ws : List WorkerView). AreOfTable c.in-Ok.space.table ws) (sym is) (of_table c.in-Ok.ensures.workers)
 
