@@ -2,9 +2,9 @@
 //! links its node first it inserts patiently, and comes back to the fast path where it finds that list empty. A narrow
 //! caller that meets a wide range in list 0 gives its node back and keeps none while it waits. A wide caller that was
 //! refused often enough keeps its node in list 0 while it looks at the lists again, so many times at most: narrow
-//! callers find it there and give way, and the ranges that it waits for come to an end. So two callers don't refuse
-//! each other again and again. A reader may rely on the range counting only once all lists are passed, and on nothing
-//! being held where the answer is to begin anew. This project's own profile.
+//! callers find it there and are refused. That any of them gets its range by that was measured, and isn't claimed. A
+//! reader may rely on the range counting only once all lists are passed, and on nothing being held where the answer is
+//! to begin anew. This project's own profile.
 ghost use Rattle.std.specs.Prelude.{◌≡◌, ◌≢◌, ◌<◌, ◌≤◌, ◌+◌, ◌*◌, OnOk};
 ghost use Rattle.range_rw.specs.Calls.{IsHandOf, Leaves};
 ghost use Rattle.range_rw.specs.Contract.{AsksFor};
