@@ -10,6 +10,7 @@ ghost use Rattle.range_rw.specs.Calls.{IsHandOf, Leaves};
 ghost use Rattle.range_rw.specs.Contract.{AsksFor};
 ghost use Rattle.range_rw.specs.Several.{MayLinkIn, IsLinkedIn, IsHoldCall, MayHold};
 ghost use Rattle.range_rw.specs.Looks.{IsHome, IsToLook};
+ghost use Rattle.range_rw.specs.declared.patience.Anew.TheVariants.{AtOnce, Later};
 ghost use Rattle.word_rows.specs.declared.backoff.TheConstants.{REFUSED_ROUNDS, KEPT_LOOKS};
 
 use crate::patience::{Anew, anew_without, hold_patiently};
@@ -21,7 +22,7 @@ use word_rows::{KEPT_LOOKS, REFUSED_ROUNDS, Steps};
 
 /// How many further looks a wide caller has in its next round, by how many of its rounds were refused since it had
 /// some: none before `REFUSED_ROUNDS`, and all of them then.
-pub(crate) fn looks_after(refused: u32) -> u32
+pub fn looks_after(refused: u32) -> u32
     ensures none { refused < REFUSED_ROUNDS → result ≡ 0 }
     ensures some { REFUSED_ROUNDS ≤ refused → result ≡ KEPT_LOOKS }
 {
@@ -32,15 +33,20 @@ pub(crate) fn looks_after(refused: u32) -> u32
     }
 }
 
-/// How many rounds were refused since the last one with further looks, after one more.
-pub(crate) fn one_more(refused: u32) -> u32
-    ensures counts { refused < REFUSED_ROUNDS → result ≡ refused + 1 }
+/// How many rounds of a caller were refused since its last one with further looks, once a round has ended so before
+/// which there were `refused`. A round with further looks begins the count anew, however it ended. Of the others those
+/// count after which the caller has to wait.
+pub fn next_refused(refused: u32, anew: Anew) -> u32
     ensures anew { REFUSED_ROUNDS ≤ refused → result ≡ 0 }
+    ensures counts { refused < REFUSED_ROUNDS → anew ≡ Later → result ≡ refused + 1 }
+    ensures stays { refused < REFUSED_ROUNDS → anew ≡ AtOnce → result ≡ refused }
 {
-    if refused < REFUSED_ROUNDS {
-        refused + 1
-    } else {
-        0
+    if refused >= REFUSED_ROUNDS {
+        return 0;
+    }
+    match anew {
+        Anew::AtOnce => refused,
+        Anew::Later => refused + 1,
     }
 }
 

@@ -23,9 +23,9 @@ use marked_list::{Cursor, Walked, begin, end, mark, validate};
 use std::sync::ledger::Ledger;
 use word_rows::{Backoff, MOST_LOOKS, Steps};
 
-/// When `acquire` begins anew, where its range isn't held.
+/// When a caller of `acquire_round` begins the next round, where its range isn't held.
 #[derive(Clone, Copy, Debug, PartialEq, Eq)]
-pub(crate) enum Anew {
+pub enum Anew {
     /// At once: an exchange was lost, or the list was found empty.
     AtOnce,
     /// After a pause: another seat has to move first.
