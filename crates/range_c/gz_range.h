@@ -31,16 +31,19 @@
    - What each call of the archive answers, and what it leaves in its handles, is proved, as long as you keep what the
      list below says that you owe. Of gz_range_end only its answer is proved, and that the handle is closed; that the
      range is given back and the last one frees the table is tested. The calls that are written in this header, such as
-     acquire and close, are C over those of the archive, and are tested.
+     acquire and close, are C over those of the archive, and are tested. So acquire's loop, which tries again and waits
+     between two tries, is C. Of a pause of the archive it is proved how many turns the next one takes; that a pause
+     takes time, and how long, is neither proved nor tested.
    - What a thread wrote before it gave a range back is seen by each thread that later holds a range in conflict with
      it: a release happens before that grant, in the words of C11. So does a step on a client word before a later step
      on the same word. Two readers are in no order to each other, and neither are ranges that don't overlap. This isn't
      proved of your memory: it rests on each step of the library being sequentially consistent, and on a compiler that
      moves no access across a call.
-   - No call sleeps or takes a lock. Only gz_range_acquire waits without a bound, by trying again; gz_range_try and
-     gz_range_pause wait a bounded number of turns. Only open, open_cut and share take memory; the others can't fail for
-     want of it. A table takes 2 to 25 KB for 1 to 16 seats, once for each of its lists, twice as much while it is
-     opened, and 8 bytes for each client word; each further handle takes 128 bytes.
+   - No call sleeps, and none takes a lock but in malloc and free. Only gz_range_acquire waits without a bound, by
+     trying again; gz_range_try and gz_range_pause wait a bounded number of turns. Only open, open_cut, share and close
+     call the allocator, and only the first three can fail for want of memory. A table takes 2 to 25 KB for 1 to 16
+     seats, once for each of its lists, twice as much while it is opened, and 8 bytes for each client word; each further
+     handle takes 128 bytes.
 
    What you owe. Nothing checks it:
    - A handle begins as GZ_RANGE_CLOSED, and afterwards only these calls write or copy it.
@@ -185,12 +188,15 @@ gz_range_answer gz_range_open(uint32_t seats, const uint64_t *words, size_t coun
    first block belongs to the first region, the next one to the second, and so on; after the last region the first one
    has its turn again. Each region has a list of its own; where there are several, one more list is for the ranges in
    more than one region.
-   A cut is for many threads at ranges of different regions: while nobody asks for or holds a range in several of them,
-   they change no word of a list in common, where with one list they all change its head. So most ranges should fit into
-   a block; with bits 16 it has 65536 numbers. A range in several regions takes longer: a look at the list of each, and
-   more where somebody is there. A table takes as many times the memory as it has lists. All else is as with
-   gz_range_open, whose tables have one list: which ranges are in conflict, and what each call answers. Which cut serves
-   a load best, or whether any does, only measuring tells.
+   A cut is for many threads at ranges of different regions: where no node is in the list for ranges in several of them,
+   they change no word of a list in common, where with one list they all change its head. A range in several regions may
+   leave its node there when it is given back; the next calls for ranges of one region take it out, and work in that
+   list meanwhile. So most ranges should fit into a block; with bits 16 it has 65536 numbers. A range in several regions
+   takes longer: a look at the list of each, and more where somebody is there. And while threads at ranges of one region
+   keep coming, gz_range_acquire of a range in several may try for ever, since one of them may be in its way at each
+   try; a caller from C keeps no node in a list while it waits. A table takes as many times the memory as it has lists.
+   All else is as with gz_range_open, whose tables have one list: which ranges are in conflict, and what each call
+   answers. Which cut serves a load best, or whether any does, only measuring tells.
    DONE; or the first of IS_OPEN, BAD_CUT, BAD_WORDS, BAD_SEATS, NO_MEMORY that applies. After a refusal nothing has
    changed.
    Any thread. It allocates. */
@@ -402,8 +408,9 @@ static inline bool gz_range_may_retry(gz_range_answer answer) {
    waits and tries again: 1,024 turns of gz_range_pause at first, then twice as many each time, up to 8,192; after each
    wait of 8,192 it lets other threads run. After AGAIN it tries again at once. So a range that is given back may be
    free for as long as a wait before a waiting thread takes it.
-   Nothing is claimed of when it returns, or of any order among those that wait. Measured for ten seconds with threads
-   that take one range of 256 slots again and again, 60 in 100 as readers, on four processors
+   Nothing is claimed of when it returns, or of any order among those that wait. In a table of several regions callers
+   of ranges in one region may keep out one that asks for a range in several, for as long as they come. Measured for ten
+   seconds with threads that take one range of 256 slots again and again, 60 in 100 as readers, on four processors
    (bench/figures.d/peers_tables.md of the repository): four threads had 0.90 million turns a second, a mean wait of 3.3
    microseconds and a longest one of 4.4 ms; over a table of regions 0.80, 3.8 and 5.3; under a pthread_mutex 0.53, 4.8
    and 5.4. Of sixteen threads the longest wait in three rounds of 80 ms was 12, 9.3 and 15 ms. Longer runs may have

@@ -180,7 +180,8 @@ class seat {
         return try_hold<false>(lo, hi, tries);
     }
 
-    /* Each holds them however long that takes: gz_range_acquire. */
+    /* Each holds them however long that takes: gz_range_acquire. In a table of several regions, callers of ranges in
+       one region may keep out a caller of a range in several, for as long as they come. */
     result<write_range> write(uint64_t lo, uint64_t hi) noexcept { return hold<true>(lo, hi); }
     result<read_range> read(uint64_t lo, uint64_t hi) noexcept { return hold<false>(lo, hi); }
 

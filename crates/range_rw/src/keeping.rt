@@ -2,14 +2,15 @@
 //! links its node first it inserts patiently, and comes back to the fast path where it finds that list empty. A narrow
 //! caller that meets a wide range in list 0 gives its node back and keeps none while it waits. A wide caller that was
 //! refused often enough keeps its node in list 0 while it looks at the lists again, so many times at most: narrow
-//! callers find it there and give way, and the ranges that it waits for come to an end. So two callers don't refuse
-//! each other again and again. A reader may rely on the range counting only once all lists are passed, and on nothing
-//! being held where the answer is to begin anew. This project's own profile.
+//! callers find it there and are refused. That any of them gets its range by that was measured, and isn't claimed. A
+//! reader may rely on the range counting only once all lists are passed, and on nothing being held where the answer is
+//! to begin anew. This project's own profile.
 ghost use Rattle.std.specs.Prelude.{◌≡◌, ◌≢◌, ◌<◌, ◌≤◌, ◌+◌, ◌*◌, OnOk};
 ghost use Rattle.range_rw.specs.Calls.{IsHandOf, Leaves};
 ghost use Rattle.range_rw.specs.Contract.{AsksFor};
 ghost use Rattle.range_rw.specs.Several.{MayLinkIn, IsLinkedIn, IsHoldCall, MayHold};
 ghost use Rattle.range_rw.specs.Looks.{IsHome, IsToLook};
+ghost use Rattle.range_rw.specs.declared.patience.Anew.TheVariants.{AtOnce, Later};
 ghost use Rattle.word_rows.specs.declared.backoff.TheConstants.{REFUSED_ROUNDS, KEPT_LOOKS};
 
 use crate::patience::{Anew, anew_without, hold_patiently};
@@ -21,7 +22,7 @@ use word_rows::{KEPT_LOOKS, REFUSED_ROUNDS, Steps};
 
 /// How many further looks a wide caller has in its next round, by how many of its rounds were refused since it had
 /// some: none before `REFUSED_ROUNDS`, and all of them then.
-pub(crate) fn looks_after(refused: u32) -> u32
+pub fn looks_after(refused: u32) -> u32
     ensures none { refused < REFUSED_ROUNDS → result ≡ 0 }
     ensures some { REFUSED_ROUNDS ≤ refused → result ≡ KEPT_LOOKS }
 {
@@ -32,15 +33,20 @@ pub(crate) fn looks_after(refused: u32) -> u32
     }
 }
 
-/// How many rounds were refused since the last one with further looks, after one more.
-pub(crate) fn one_more(refused: u32) -> u32
-    ensures counts { refused < REFUSED_ROUNDS → result ≡ refused + 1 }
+/// How many rounds of a caller were refused since its last one with further looks, once a round has ended so before
+/// which there were `refused`. A round with further looks begins the count anew, however it ended. Of the others those
+/// count after which the caller has to wait.
+pub fn next_refused(refused: u32, anew: Anew) -> u32
     ensures anew { REFUSED_ROUNDS ≤ refused → result ≡ 0 }
+    ensures counts { refused < REFUSED_ROUNDS → anew ≡ Later → result ≡ refused + 1 }
+    ensures stays { refused < REFUSED_ROUNDS → anew ≡ AtOnce → result ≡ refused }
 {
-    if refused < REFUSED_ROUNDS {
-        refused + 1
-    } else {
-        0
+    if refused >= REFUSED_ROUNDS {
+        return 0;
+    }
+    match anew {
+        Anew::AtOnce => refused,
+        Anew::Later => refused + 1,
     }
 }
 

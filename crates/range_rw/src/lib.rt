@@ -20,7 +20,9 @@ mod threads;
 mod trying;
 
 pub use epoch_pools::{LastClient, Looked, Lost, Met, Record, Stuck};
+pub use keeping::{looks_after, next_refused};
 pub use laws::{keeps_apart, keeps_lock, keeps_no_reuse};
+pub use patience::Anew;
 pub use refusals::{NotHeld, OpenFault};
 pub use scan::{Scan, Scanned};
 pub use table::{CloseRefused, MOST_SEATS, RangeTable, Seat};

@@ -1,9 +1,9 @@
 //! How `acquire` inserts its filled node: as a try does, but for a reader that meets another seat's writer in its
 //! validation. It stays inside its epoch and looks at that node again, with growing pauses, until the node is marked or
-//! `MOST_LOOKS` looks were made; only then it marks its own node. A writer that meets its node marks at once, so the
-//! two don't both give way. A reader that waits here is inside its epoch and keeps the nodes of all seats from being
-//! ready again, so the looks aren't more than serves. A reader may rely on the hand having no own node where its range
-//! isn't held afterwards. Kogan, Dice and Issa 2020, where the reader waits without end.
+//! `MOST_LOOKS` looks were made; only then it marks its own node. A writer that meets its node marks at once. A reader
+//! that waits here is inside its epoch and keeps the nodes of all seats from being ready again, so the looks aren't
+//! more than serves. A reader may rely on the hand having no own node where its range isn't held afterwards. Kogan,
+//! Dice and Issa 2020, where the reader waits without end.
 ghost use Rattle.std.specs.Prelude.{◌≡◌, ◌+◌, ◌≤◌, ◌<◌, true, false, Some, None, OnOk, OnErr};
 ghost use Rattle.lock_core.specs.declared.views.Own.TheVariants.{Nothing};
 ghost use Rattle.lock_core.specs.Machine.{held_at};
@@ -23,9 +23,9 @@ use marked_list::{Cursor, Walked, begin, end, mark, validate};
 use std::sync::ledger::Ledger;
 use word_rows::{Backoff, MOST_LOOKS, Steps};
 
-/// When `acquire` begins anew, where its range isn't held.
+/// When a caller of `acquire_round` begins the next round, where its range isn't held.
 #[derive(Clone, Copy, Debug, PartialEq, Eq)]
-pub(crate) enum Anew {
+pub enum Anew {
     /// At once: an exchange was lost, or the list was found empty.
     AtOnce,
     /// After a pause: another seat has to move first.

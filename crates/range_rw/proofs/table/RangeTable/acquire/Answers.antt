@@ -4,22 +4,21 @@ use Rattle.range_rw.proofs.Asking.{asks_on, for_then}
 use Rattle.range_rw.proofs.table.RangeTable.acquire.Goals.{in-None, in-Some+in-Ok}
 use Rattle.range_rw.proofs.table.RangeTable.acquire.Goals as goal
 
--- one round more holds nothing, and asked for the range or for nothing
-pub loop-preserved-in-Err-AtOnce : goal.loop-preserved-in-Err-AtOnce
-loop-preserved-in-Err-AtOnce g c = record {
+-- one round more holds nothing, and asked for the range or for nothing, also behind a pause
+pub loop-preserved-in-Later : goal.loop-preserved-in-Later
+loop-preserved-in-Later g c = record {
   held = search rules;
   call = search rules;
-  asks = asks_on c.loop.invariant.asks c.hold_or_wait.ensures.asks;
+  asks = asks_on c.loop.invariant.asks c.acquire_round.ensures.asks;
   closed = search rules;
   only = search rules;
 }
 
--- also behind a pause
 pub loop-preserved : goal.loop-preserved
 loop-preserved g c = record {
   held = search rules;
   call = search rules;
-  asks = asks_on c.loop.invariant.asks c.hold_or_wait.ensures.asks;
+  asks = asks_on c.loop.invariant.asks c.acquire_round.ensures.asks;
   closed = search rules;
   only = search rules;
 }

@@ -12,7 +12,3 @@ invariant-loop g l = record {
   closed : l.initial.seat.scan ≡ None → l.seat.scan ≡ None;
   only : l.initial.seat.scan ≡ None → KeepsOthers l.self.cut l.range l.initial.seat l.seat;
 }
-
--- the ledger of the steps is that of the blank
-abbrev pub ghosts-hold_or_wait : goal.ghosts-hold_or_wait
-ghosts-hold_or_wait g a = record { name = a.blank.name; parts = a.blank.parts }
