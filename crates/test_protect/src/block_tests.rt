@@ -4,15 +4,16 @@
 //! chosen by the rules of `row_blocks`.
 ghost use Rattle.std.specs.Prelude.{◌<◌, ◌≤◌, ◌^◌};
 
-use crate::claims::closed_right;
+use crate::claims::ends_with;
 use area_rows::Answer;
+use list_cuts::Cut;
 use page_types::{Call, Kind, PAGE, Prot};
 use space_model::{Area, PlainSpace, have_named_kinds};
 use std::alloc::{AllocError, Global};
 use std::process::Abort;
 use std::sync::Wait;
 use std::test::Fail;
-use test_crews::{call_by, open_crew};
+use test_crews::{call_by, open_cut_crew};
 
 /// How many single pages are moved; each makes four rows more. With the three rows at the start that is nearly what
 /// eight blocks have room for, which is how many the space has then.
@@ -50,18 +51,20 @@ fn prot_of(number: u64) -> Prot {
     }
 }
 
-/// One caller makes the calls on a space that starts with the first areas, and can make no other. The last ones are
-/// left.
-fn plays<R: Abort + Wait>(
+/// One caller makes the calls on a space that starts with the first areas, and can make no other where it keeps its
+/// history. The last ones are left.
+fn plays_kind<R: Abort + Wait>(
     rt: &R,
     alloc: Global,
+    keeps: bool,
     before: &[Area],
     calls: &[Call],
     after: &[Area],
 ) -> Result<(), Fail> {
     assert!(rt; have_named_kinds(before) && before.len() < 1 << 30 && calls.len() < 1 << 20);
     let start = PlainSpace::of_areas(alloc, before)?;
-    let Ok((space, mut callers)) = open_crew(alloc, &[calls.len() as u32], &start) else {
+    let counts = [calls.len() as u32];
+    let Ok((space, mut callers)) = open_cut_crew(alloc, keeps, &counts, Cut::one(), &start) else {
         panic!(rt; "no space");
     };
     for call in calls {
@@ -69,10 +72,19 @@ fn plays<R: Abort + Wait>(
         let answer = call_by(rt, &space, callers.as_mut_slice(), 1, *call);
         assert!(rt; answer != Answer::Spent);
     }
-    let closed = closed_right(rt, alloc, space, callers, &start)?;
-    assert_eq!(rt; closed.entries().len(), calls.len());
-    assert_eq!(rt; closed.areas(), after);
-    Ok(())
+    ends_with(rt, alloc, keeps, space, callers, &start, calls.len(), after)
+}
+
+/// The same on a space of each kind.
+fn plays<R: Abort + Wait>(
+    rt: &R,
+    alloc: Global,
+    before: &[Area],
+    calls: &[Call],
+    after: &[Area],
+) -> Result<(), Fail> {
+    plays_kind(rt, alloc, true, before, calls, after)?;
+    plays_kind(rt, alloc, false, before, calls, after)
 }
 
 /// Pages out of the middle of an area go to places in the gap below it, and have a page more there. They are taken in

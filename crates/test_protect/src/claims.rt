@@ -1,13 +1,15 @@
 //! Whether the way that a change of protection went is true of the history that the closed space gives. It is judged by
 //! the one-thread model of `space_model`, played along the history: by the areas after so many entries, and by how many
 //! of these entries were under everything.
+ghost use Rattle.std.specs.Prelude.{true, ◌≡◌};
 ghost use Rattle.page_types.specs.Named.{IsNamedCall};
+ghost use Rattle.area_rows.specs.Rows.{keeps_by};
 ghost use Rattle.test_crews.specs.Crews.{IsCrew};
 
 use area_protect::{Cause, Path};
 use area_rows::{Caller, Closed, Space};
 use page_types::{Call, Span};
-use space_model::{Entry, PlainSpace, Under, have_named_calls, legal};
+use space_model::{Area, Entry, PlainSpace, Under, have_named_calls, legal};
 use std::alloc::{AllocError, Global};
 use std::process::Abort;
 use std::test::Fail;
@@ -20,7 +22,8 @@ pub(crate) fn closed_right(
     callers: Vec<Caller>,
     start: &PlainSpace,
 ) -> Result<Closed, Fail>
-    requires { IsCrew space.table space.seats callers.items }
+    requires crew { IsCrew space.table space.seats callers.items }
+    requires keeps { keeps_by space.table ≡ true }
 {
     let Ok(closed) = space.close(alloc, callers) else {
         panic!(rt; "memory");
@@ -29,6 +32,47 @@ pub(crate) fn closed_right(
     assert!(rt; entries.len() < 1 << 30 && have_named_calls(entries));
     assert_eq!(rt; legal(alloc, start, entries)?, None);
     Ok(closed)
+}
+
+/// Closes a space, and gives the areas that are left.
+pub(crate) fn areas_left(
+    rt: &impl Abort,
+    alloc: Global,
+    space: Space,
+    callers: Vec<Caller>,
+) -> Vec<Area>
+    requires { IsCrew space.table space.seats callers.items }
+{
+    let Ok(areas) = space.close_areas(alloc, callers) else {
+        panic!(rt; "memory");
+    };
+    areas
+}
+
+/// Closes a space that keeps its history or doesn't. These areas are left; a history is so many entries long, and
+/// legal.
+pub(crate) fn ends_with(
+    rt: &impl Abort,
+    alloc: Global,
+    keeps: bool,
+    space: Space,
+    callers: Vec<Caller>,
+    start: &PlainSpace,
+    count: usize,
+    after: &[Area],
+) -> Result<(), Fail>
+    requires crew { IsCrew space.table space.seats callers.items }
+    requires keeps { keeps_by space.table ≡ keeps }
+{
+    if keeps {
+        let closed = closed_right(rt, alloc, space, callers, start)?;
+        assert_eq!(rt; closed.entries().len(), count);
+        assert_eq!(rt; closed.areas(), after);
+        return Ok(());
+    }
+    let areas = areas_left(rt, alloc, space, callers);
+    assert_eq!(rt; areas.as_slice(), after);
+    Ok(())
 }
 
 /// An address space after the first entries of a history, and how many of these were under everything.

@@ -22,4 +22,4 @@ mod trials;
 #[cfg(test)]
 mod ways;
 
-pub use single::protect_by;
+pub use single::{change, protect_by};

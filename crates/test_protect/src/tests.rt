@@ -1,8 +1,9 @@
 //! Worked cases of changes of protection over a running space, with their ways. What a test expects is reckoned by
 //! hand, never taken from the program.
-use crate::claims::closed_right;
+use crate::claims::ends_with;
 use crate::protect_by;
-use area_protect::{Cause, Path, Protected};
+use area_protect::{Cause, Path};
+use area_rows::Answer;
 use list_cuts::Cut;
 use page_types::{Call, Field, Kind, PAGE, Prot, Reply, Short, Span, Why};
 use space_model::{Area, PlainSpace, Under, have_named_kinds};
@@ -48,11 +49,12 @@ fn over(lo: u64, hi: u64) -> Under {
     }
 }
 
-/// Maps the last areas on a space that starts with the first ones and whose pages are cut so, and then makes the
-/// changes, one after another; these areas are left.
-fn plays_cut<R: Abort + Wait>(
+/// Maps the last areas on a space that starts with the first ones, whose pages are cut so and which keeps its history
+/// or doesn't, and then makes the changes, one after another; these areas are left.
+fn plays_kind<R: Abort + Wait>(
     rt: &R,
     alloc: Global,
+    keeps: bool,
     cut: Cut,
     before: &[Area],
     maps: &[Area],
@@ -61,7 +63,7 @@ fn plays_cut<R: Abort + Wait>(
 ) -> Result<(), Fail> {
     assert!(rt; have_named_kinds(before) && before.len() < 1 << 30);
     let start = PlainSpace::of_areas(alloc, before)?;
-    let Ok((space, mut callers)) = open_cut_crew(alloc, &[8], cut, &start) else {
+    let Ok((space, mut callers)) = open_cut_crew(alloc, keeps, &[8], cut, &start) else {
         panic!(rt; "no space");
     };
     for area in maps {
@@ -76,28 +78,40 @@ fn plays_cut<R: Abort + Wait>(
     }
     for case in cases {
         assert!(rt; case.prot.is_named());
-        let answer = protect_by(
+        let (answer, path) = protect_by(
             rt,
             &space,
             callers.as_mut_slice(),
+            keeps,
             7,
             case.addr,
             case.len,
             case.prot,
         );
-        let Protected::Given { entry, path } = answer else {
+        let Answer::Given(entry) = answer else {
             panic!(rt; "no number left");
         };
         assert_eq!(rt; entry.line, 7);
         assert_eq!(rt; entry.reply, case.reply);
         assert_eq!(rt; entry.under, case.under);
-        assert_eq!(rt; path, case.path);
+        assert_eq!(rt; path, keeps.then_some(case.path));
     }
-    let closed = closed_right(rt, alloc, space, callers, &start)?;
     let count = usize::wrapping_add(maps.len(), cases.len());
-    assert_eq!(rt; closed.entries().len(), count);
-    assert_eq!(rt; closed.areas(), after);
-    Ok(())
+    ends_with(rt, alloc, keeps, space, callers, &start, count, after)
+}
+
+/// The same on a space of each kind. What is answered and held is alike; the way is told where the history is kept.
+fn plays_cut<R: Abort + Wait>(
+    rt: &R,
+    alloc: Global,
+    cut: Cut,
+    before: &[Area],
+    maps: &[Area],
+    cases: &[Case],
+    after: &[Area],
+) -> Result<(), Fail> {
+    plays_kind(rt, alloc, true, cut, before, maps, cases, after)?;
+    plays_kind(rt, alloc, false, cut, before, maps, cases, after)
 }
 
 /// The same on a space of one list.

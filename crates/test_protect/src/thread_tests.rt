@@ -1,9 +1,10 @@
 //! Threads that move the boundaries of areas that touch, beside threads that fault on both sides. Whatever their order,
 //! the history is legal by the one-thread model, and each way that `protect` told is true of this history.
-use crate::claims::{closed_right, is_true, play};
-use crate::trials::{AREAS, FIRST, Trial, WIDE, change_all, prot_of};
+use crate::claims::{areas_left, closed_right, is_true, play};
+use crate::trials::{AREAS, FIRST, Trial, WIDE, call_of, change_all, prot_of};
 use crate::ways::Ways;
 use area_protect::Path;
+use list_cuts::Cut;
 use page_types::{Call, Kind, Prot};
 use space_model::{Area, Entry, PlainSpace, have_named_kinds};
 use std::alloc::{AllocError, Global};
@@ -11,7 +12,7 @@ use std::process::Abort;
 use std::sync::Wait;
 use std::test::Fail;
 use std::thread::Threads;
-use test_crews::open_crew;
+use test_crews::{open_crew, open_cut_crew};
 
 /// How many turns each caller takes.
 const TURNS: u32 = 500;
@@ -101,10 +102,61 @@ fn runs<R: Abort + Threads + Wait + Sync>(
         panic!(rt; "no space");
     };
     let ways = Ways::open(alloc, 4, TURNS)?;
-    change_all(rt, &space, callers.as_mut_slice(), trial, TURNS, &ways);
+    change_all(
+        rt,
+        &space,
+        callers.as_mut_slice(),
+        trial,
+        TURNS,
+        true,
+        &ways,
+    );
     let closed = closed_right(rt, alloc, space, callers, &start)?;
     assert_eq!(rt; closed.entries().len(), 3000);
     ways_are_true(rt, alloc, &start, closed.entries(), &ways)
+}
+
+/// The same calls with no way told, on a space that keeps its history or doesn't. No two callers change one page, so
+/// the areas that are left are those of the one-thread model where the callers take their turns one after another.
+fn leaves_the_models<R: Abort + Threads + Wait + Sync>(
+    rt: &R,
+    alloc: Global,
+    keeps: bool,
+    trial: Trial,
+) -> Result<(), Fail> {
+    let areas = areas_of(alloc)?;
+    assert!(rt; have_named_kinds(&areas) && areas.len() < 1 << 30);
+    let start = PlainSpace::of_areas(alloc, &areas)?;
+    let Ok((space, mut callers)) = open_cut_crew(alloc, keeps, &[TURNS; 6], Cut::one(), &start)
+    else {
+        panic!(rt; "no space");
+    };
+    let ways = Ways::open(alloc, 0, 0)?;
+    change_all(
+        rt,
+        &space,
+        callers.as_mut_slice(),
+        trial,
+        TURNS,
+        false,
+        &ways,
+    );
+    let left = areas_left(rt, alloc, space, callers);
+    let mut model = start.copied(alloc)?;
+    for turn in 0..6 * TURNS {
+        model.step(&call_of(trial, turn / TURNS, turn % TURNS))?;
+    }
+    assert_eq!(rt; model.areas(), left.as_slice());
+    Ok(())
+}
+
+#[test]
+fn without_a_history_the_models_areas_are_left(rt: HostRuntime) -> Result<(), Fail> {
+    for trial in [Trial::Boundaries, Trial::Splits, Trial::Blocks] {
+        leaves_the_models(&rt, rt.alloc(), false, trial)?;
+        leaves_the_models(&rt, rt.alloc(), true, trial)?;
+    }
+    Ok(())
 }
 
 #[test]

@@ -1,13 +1,14 @@
 //! All callers of a crew take their turns, each on a thread of its own: the first four change protections at the
 //! boundaries between their areas, and the others read.
-ghost use Rattle.std.specs.Prelude.{◌≡◌, ◌<◌, ◌+◌, ◌^◌, None};
+ghost use Rattle.std.specs.Prelude.{true, ◌≡◌, ◌<◌, ◌+◌, ◌^◌, None};
 ghost use Rattle.page_types.specs.Named.{IsNamedCall};
 ghost use Rattle.page_types.specs.Sets.{IsNamedProt};
+ghost use Rattle.area_rows.specs.Rows.{keeps_by};
 ghost use Rattle.area_rows.specs.Called.{IsAnswered};
 ghost use Rattle.test_crews.specs.Crews.{HasCalled, HaveCalled, IsCrew, IsIdleAgain};
 
+use crate::single::change;
 use crate::ways::Ways;
-use area_protect::{Protected, make_protect};
 use area_rows::{Answer, Caller, Space};
 use page_types::{Access, Call, PAGE, Prot};
 use std::sync::Wait;
@@ -110,62 +111,75 @@ pub fn call_of(trial: Trial, worker: u32, turn: u32) -> Call
     one_page(first + WIDE - 1, prot_of(own == (turn % 2 == 1)))
 }
 
-/// One call of a caller, whose way is kept where it changes a protection. The line is that of the turn, counted from 1.
+/// One call of a caller. Where it changes a protection, its way is kept if it is told. The line is that of the turn,
+/// counted from 1.
 fn take_turn<R: Wait>(
     rt: &R,
     space: &Space,
     caller: &mut Caller,
     turn: u32,
     call: Call,
+    told: bool,
     ways: &Ways,
 ) -> Answer
     requires turn { turn + 1 < 2 ^ 32 }
     requires table { caller.old.seat.table ≡ space.now.table }
     requires free { caller.old.seat.held ≡ None }
+    requires told { told ≡ true → keeps_by space.now.table ≡ true }
     requires named { IsNamedCall call }
     ensures answer { IsAnswered caller.old (turn + 1) call result caller.new }
 {
-    match call {
-        Call::Protect { .. } => match make_protect(space, rt, caller, turn + 1, call) {
-            Protected::Given { entry, path } => {
-                ways.keep(entry.worker, turn, path);
-                Answer::Given(entry)
-            }
-            Protected::Spent => Answer::Spent,
-        },
-        _ => make_call(rt, space, caller, turn + 1, call),
+    let Call::Protect { addr, len, prot } = call else {
+        return make_call(rt, space, caller, turn + 1, call);
+    };
+    let (answer, path) = change(rt, space, caller, told, turn + 1, addr, len, prot);
+    if let Some(path) = path {
+        ways.keep(caller.worker(), turn, path);
     }
+    answer
 }
 
 /// So many turns of a caller, for the lines from 1 on.
-fn turns<R: Wait>(rt: &R, space: &Space, caller: &mut Caller, trial: Trial, turns: u32, ways: &Ways)
+fn turns<R: Wait>(
+    rt: &R,
+    space: &Space,
+    caller: &mut Caller,
+    trial: Trial,
+    turns: u32,
+    told: bool,
+    ways: &Ways,
+)
     requires table { caller.old.seat.table ≡ space.now.table }
     requires free { caller.old.seat.held ≡ None }
+    requires told { told ≡ true → keeps_by space.now.table ≡ true }
     ensures back { IsIdleAgain caller.old caller.new }
     ensures called { HasCalled turns caller.old caller.new }
 {
     for turn in 0..turns {
         let call = call_of(trial, caller.worker(), turn);
-        take_turn(rt, space, caller, turn, call, ways);
+        take_turn(rt, space, caller, turn, call, told, ways);
     }
 }
 
-/// Each caller takes so many turns, on a thread of its own, and the ways of the changes are kept.
+/// Each caller takes so many turns, on a thread of its own, and the ways of the changes are kept where they are told.
 pub fn change_all<R: Threads + Wait + Sync>(
     rt: &R,
     space: &Space,
     callers: &mut [Caller],
     trial: Trial,
     count: u32,
+    told: bool,
     ways: &Ways,
 )
-    requires { IsCrew space.now.table space.now.seats callers.old }
+    requires crew { IsCrew space.now.table space.now.seats callers.old }
+    requires told { told ≡ true → keeps_by space.now.table ≡ true }
     ensures crew { IsCrew space.now.table space.now.seats callers.new }
     ensures called { HaveCalled count callers.old callers.new }
 {
     let turn = |_: usize, caller: &mut Caller|
-        requires { (caller.now.seat.table ≡ space.now.table) × (caller.now.seat.held ≡ None) }
+        requires { (caller.now.seat.table ≡ space.now.table) × (caller.now.seat.held ≡ None)
+            × (told ≡ true → keeps_by space.now.table ≡ true) }
         ensures { IsIdleAgain caller.entry.now caller.exit.now × HasCalled count caller.entry.now caller.exit.now }
-    { turns(rt, space, caller, trial, count, ways) };
+    { turns(rt, space, caller, trial, count, told, ways) };
     thread::for_each_mut(rt, callers, 16, &turn);
 }

@@ -1,14 +1,15 @@
 //! The callers of one running address space make drawn calls on the same pages, each on a thread of its own. A reader
 //! may rely on each caller having made as many calls as were asked for, or as many as it had numbers for.
-ghost use Rattle.std.specs.Prelude.{◌≡◌, ◌<◌, None};
+ghost use Rattle.std.specs.Prelude.{true, ◌≡◌, ◌<◌, None};
 ghost use Rattle.page_types.specs.Named.{IsNamedCall};
+ghost use Rattle.area_rows.specs.Rows.{keeps_by};
 ghost use Rattle.area_rows.specs.Called.{IsAnswered};
 ghost use Rattle.test_crews.specs.Crews.{HasCalled, HaveCalled, IsCrew, IsIdleAgain};
 
 use crate::calls::draw_call;
 use crate::counts::Tries;
 use crate::draws::below;
-use area_protect::{Protected, make_protect};
+use area_protect::{Protected, make_protect, protect_beside};
 use area_rows::{Answer, Caller, Space};
 use page_fault::{TriedFault, fault, try_fault};
 use page_types::{Access, Call};
@@ -49,19 +50,31 @@ fn try_counting<L: Ledger, R: Wait>(
     }
 }
 
-/// One call of a caller, by the function that the call is for.
-fn make_drawn<R: Wait>(rt: &R, space: &Space, caller: &mut Caller, line: u32, call: Call) -> Answer
+/// One call of a caller, by the function that the call is for: a change of protection that tells its way where that is
+/// asked for, which only a space can that keeps its history.
+fn make_drawn<R: Wait>(
+    rt: &R,
+    space: &Space,
+    caller: &mut Caller,
+    told: bool,
+    line: u32,
+    call: Call,
+) -> Answer
     requires table { caller.old.seat.table ≡ space.now.table }
     requires free { caller.old.seat.held ≡ None }
+    requires told { told ≡ true → keeps_by space.now.table ≡ true }
     requires named { IsNamedCall call }
     ensures answer { IsAnswered caller.old line call result caller.new }
 {
-    match call {
-        Call::Protect { .. } => match make_protect(space, rt, caller, line, call) {
-            Protected::Given { entry, .. } => Answer::Given(entry),
-            Protected::Spent => Answer::Spent,
-        },
-        _ => make_call(rt, space, caller, line, call),
+    let Call::Protect { addr, len, prot } = call else {
+        return make_call(rt, space, caller, line, call);
+    };
+    if !told {
+        return protect_beside(space, rt, caller, line, addr, len, prot);
+    }
+    match make_protect(space, rt, caller, line, call) {
+        Protected::Given { entry, .. } => Answer::Given(entry),
+        Protected::Spent => Answer::Spent,
     }
 }
 
@@ -70,6 +83,7 @@ fn take_turn<R: Wait>(
     rt: &R,
     space: &Space,
     caller: &mut Caller,
+    told: bool,
     line: u32,
     call: Call,
     tried: bool,
@@ -77,6 +91,7 @@ fn take_turn<R: Wait>(
 )
     requires table { caller.old.seat.table ≡ space.now.table }
     requires free { caller.old.seat.held ≡ None }
+    requires told { told ≡ true → keeps_by space.now.table ≡ true }
     requires named { IsNamedCall call }
     ensures back { IsIdleAgain caller.old caller.new }
     ensures called { HasCalled 1 caller.old caller.new }
@@ -87,7 +102,7 @@ fn take_turn<R: Wait>(
             try_counting::<Brand, R>(rt, space, caller, line, addr, access, tries, blank);
         }
         _ => {
-            make_drawn(rt, space, caller, line, call);
+            make_drawn(rt, space, caller, told, line, call);
         }
     }
 }
@@ -97,19 +112,21 @@ fn make_calls<R: Wait>(
     rt: &R,
     space: &Space,
     caller: &mut Caller,
+    told: bool,
     draws: &mut Pcg32,
     calls: u32,
     tries: &mut Tries,
 )
     requires table { caller.old.seat.table ≡ space.now.table }
     requires free { caller.old.seat.held ≡ None }
+    requires told { told ≡ true → keeps_by space.now.table ≡ true }
     ensures back { IsIdleAgain caller.old caller.new }
     ensures called { HasCalled calls caller.old caller.new }
 {
     for turn in 0..calls {
         let call = draw_call(draws);
         let tried = below(draws, 2) == 0;
-        take_turn(rt, space, caller, turn + 1, call, tried, tries);
+        take_turn(rt, space, caller, told, turn + 1, call, tried, tries);
     }
 }
 
@@ -118,38 +135,44 @@ fn play_caller<R: Wait>(
     rt: &R,
     space: &Space,
     caller: &mut Caller,
+    told: bool,
     seed: u64,
     calls: u32,
     total: &Mutex<Tries>,
 )
     requires table { caller.old.seat.table ≡ space.now.table }
     requires free { caller.old.seat.held ≡ None }
+    requires told { told ≡ true → keeps_by space.now.table ≡ true }
     ensures back { IsIdleAgain caller.old caller.new }
     ensures called { HasCalled calls caller.old caller.new }
 {
     let mut draws = Pcg32::new(seed, u64::from(caller.worker()));
     let mut tries = Tries::none();
-    make_calls(rt, space, caller, &mut draws, calls, &mut tries);
+    make_calls(rt, space, caller, told, &mut draws, calls, &mut tries);
     let mut total = total.lock(rt);
     *total = total.plus(tries);
 }
 
-/// Each caller of a crew makes so many calls, on a thread of its own.
+/// Each caller of a crew makes so many calls, on a thread of its own. Changes of protection tell their way where that
+/// is asked for.
 pub fn call_all<R: Threads + Wait + Sync>(
     rt: &R,
     space: &Space,
     callers: &mut [Caller],
+    told: bool,
     seed: u64,
     calls: u32,
     total: &Mutex<Tries>,
 )
-    requires { IsCrew space.now.table space.now.seats callers.old }
+    requires crew { IsCrew space.now.table space.now.seats callers.old }
+    requires told { told ≡ true → keeps_by space.now.table ≡ true }
     ensures crew { IsCrew space.now.table space.now.seats callers.new }
     ensures called { HaveCalled calls callers.old callers.new }
 {
     let turn = |_: usize, caller: &mut Caller|
-        requires { (caller.now.seat.table ≡ space.now.table) × (caller.now.seat.held ≡ None) }
+        requires { (caller.now.seat.table ≡ space.now.table) × (caller.now.seat.held ≡ None)
+            × (told ≡ true → keeps_by space.now.table ≡ true) }
         ensures { IsIdleAgain caller.entry.now caller.exit.now × HasCalled calls caller.entry.now caller.exit.now }
-    { play_caller(rt, space, caller, seed, calls, total) };
+    { play_caller(rt, space, caller, told, seed, calls, total) };
     thread::for_each_mut(rt, callers, 16, &turn);
 }

@@ -1,7 +1,9 @@
 //! Threads at the range lock and at an address space, for as many seconds as the first word says, and two without one;
-//! the second word is a seed. What is played is proved below, over every interleaving: this program looks at the build,
-//! the compiler and the processor. It ends with an error where an owner of a slot was found that exclusion doesn't
-//! allow, or a history isn't legal. What it counted goes to standard error, since it differs from run to run.
+//! the second word is a seed. With a third word each of 16 callers makes so many calls more on a space that keeps no
+//! history, which takes the same memory however many they are. What is played is proved below, over every interleaving:
+//! this program looks at the build, the compiler and the processor. It ends with an error where an owner of a slot was
+//! found that exclusion doesn't allow, or a history isn't legal. What it counted goes to standard error, since it
+//! differs from run to run.
 #![tactic(auto)]
 
 mod callers;
@@ -17,12 +19,13 @@ mod visits;
 use anyhow::{Result, ensure};
 use counts::Tries;
 use limit::Limit;
-use rounds::stress_space;
+use list_cuts::Cut;
+use rounds::{play_unkept, stress_space};
 use seats::stress_lock;
 use std::alloc::Global;
 use std::env;
 use std::io::Eprint;
-use std::sync::Wait;
+use std::sync::{Mutex, Wait};
 use std::thread::Threads;
 use std::time::Clock;
 
@@ -45,8 +48,25 @@ fn main(rt: HostRuntime) -> Result<()> {
     let millis = seconds.saturating_mul(500);
     try_lock(&rt, rt.alloc(), seed, millis)?;
     try_space(&rt, rt.alloc(), seed, calls, millis)?;
+    if let Some(word) = env::args(&rt)?.nth(3) {
+        try_calls(&rt, rt.alloc(), seed, word.as_str().parse::<u32>()?)?;
+    }
     println!(rt; "no wrong owner of a slot, and each history is legal")?;
     Ok(())
+}
+
+/// One round more of so many calls of each caller, on a space that keeps no history.
+fn try_calls<R: Threads + Wait + Sync + Eprint>(
+    rt: &R,
+    alloc: Global,
+    seed: u64,
+    calls: u32,
+) -> Result<()> {
+    let total = Mutex::new(Tries::none());
+    play_unkept(rt, alloc, Cut::one(), seed, calls, &total)?;
+    let tries = *total.lock(rt);
+    eprintln!(rt; "without a history: {calls} calls of each caller")?;
+    print_tries(rt, tries)
 }
 
 /// Rounds at the range lock, and their totals.

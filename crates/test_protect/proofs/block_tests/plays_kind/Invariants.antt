@@ -1,5 +1,5 @@
 use Rattle.test_crews.specs.Crews.{IsCrew}
-use Rattle.test_protect.proofs.block_tests.plays.Given as goal
+use Rattle.test_protect.proofs.block_tests.plays_kind.Given as goal
 
 -- after each call the callers are a crew
 abbrev pub invariant-loop-call : goal.invariant-loop-call

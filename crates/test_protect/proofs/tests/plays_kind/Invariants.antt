@@ -1,5 +1,5 @@
 use Rattle.test_crews.specs.Crews.{IsCrew}
-use Rattle.test_protect.proofs.tests.plays_cut.Given as goal
+use Rattle.test_protect.proofs.tests.plays_kind.Given as goal
 
 -- after each area that is mapped the callers are a crew
 abbrev pub invariant-loop-area : goal.invariant-loop-area
