@@ -1,12 +1,10 @@
 -- How a text grows line by line while its first part goes to the sink: for the loops that write one line for each
 -- item of a list, whatever the items are.
-use Rattle.std.proofs.Common.{◌≡◌, ℕ, ◌+◌, ◌<◌, ◌≤◌, List, [], ◌∷◌, ◌++◌, Option, length, take, drop, get_or, refl, sym}
+use Rattle.std.proofs.Common.{◌≡◌, ℕ, ◌+◌, ◌<◌, ◌≤◌, List, [], ◌∷◌, ◌++◌, Option, length, take, drop, get_or, sym}
 use Rattle.std.proofs.Common.{ap, ◌∙◌, subst, append_assoc, append-nil, take-append-drop}
 use Rattle.std.proofs.lemmas.Grind.{flat_map-append, take_at_read}
 use Rattle.std.proofs.lemmas.List.{take_all}
 use Rattle.std.specs.List.{flat_map}
-use Rattle.std.specs.Io.KnownBytes.{Appends}
-use Rattle.std.proofs.KnownBytes.{Appends-nil, Appends-trans}
 use Rattle.byte_ports.specs.Bytes.{AppendsAllBut, AppendsPrefix}
 use Rattle.byte_ports.proofs.Pieces.{AppendsAllBut-after, AppendsAllBut-of, AppendsPrefix-of, AppendsPrefix-after, AppendsPrefix-more}
 

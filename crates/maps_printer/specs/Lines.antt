@@ -1,16 +1,18 @@
 -- The texts as functions of what they show: the maps of an address space, as proc_pid_maps(5) has them, and the log
 -- of a history and the summary of a run, which are this project's own profile. The text of a list is the texts of its
 -- items one after the other, so a first part of the list has a first part of the text.
-use Rattle.std.specs.Prelude.{ℕ, List, ◌++◌, codes, decimal}
+use Rattle.std.specs.Prelude.{ℕ, List, ◌++◌, Option, Some, None, codes, decimal}
 use Rattle.std.specs.List.{flat_map}
 use Rattle.page_types.specs.declared.pages.Span.{Span}
+use Rattle.page_types.specs.declared.calls.Kind.{Kind}
 use Rattle.space_model.specs.declared.areas.Area.{Area}
+use Rattle.area_changes.specs.declared.changes.EntryChange.{EntryChange}
 use Rattle.space_model.specs.declared.entries.Entry.{Entry}
 use Rattle.space_model.specs.declared.entries.Under.{Under}
 use Rattle.space_model.specs.declared.entries.Under.TheVariants.{Nothing, Reader, Area as UnderArea, Whole}
 use Rattle.maps_printer.specs.Numbers.{page_address, prefixed_hex}
 use Rattle.maps_printer.specs.Calls.{call_text, reply_text}
-use Rattle.maps_printer.specs.Words.{kind_text}
+use Rattle.maps_printer.specs.Words.{kind_text, log_kind}
 
 -- proc_pid_maps(5): addresses, permissions, and the offset, device and inode of memory that no file backs
 abbrev pub area_line : Area → List ℕ
@@ -48,3 +50,18 @@ entry_line e = decimal e.number ++ codes " " ++ decimal e.worker ++ codes " " ++
 -- a line for each entry
 abbrev pub log_text : List Entry → List ℕ
 log_text entries = flat_map entry_line entries
+
+-- the kind of a page as a log has it, or that it isn't mapped; this project's own profile
+abbrev pub kind_or_none : Option Kind → List ℕ
+kind_or_none None = codes "none"
+kind_or_none (Some kind) = log_kind kind
+
+-- what the call of an entry changed: the entry's number, the addresses as maps have them, and the kind of the pages
+-- before and after the call; this project's own profile
+abbrev pub change_line : EntryChange → List ℕ
+change_line c = decimal c.number ++ codes " " ++ page_address c.change.lo ++ codes "-" ++ page_address c.change.hi ++ codes " "
+    ++ kind_or_none c.change.before ++ codes " " ++ kind_or_none c.change.after ++ codes "\n"
+
+-- a line for each change
+abbrev pub changes_text : List EntryChange → List ℕ
+changes_text changes = flat_map change_line changes

@@ -1,0 +1,4 @@
+pub mod OneList
+pub mod Adding
+pub mod Untouched
+pub mod Running
