@@ -16,10 +16,11 @@ use Rattle.command_words.specs.declared.commands.Asked.{Asked}
 use Rattle.command_words.specs.declared.commands.Command.{Command}
 use Rattle.command_words.specs.declared.commands.Command.TheVariants.{Play, Load, Check}
 use Rattle.command_words.specs.declared.commands.Given.{Given}
-use Rattle.command_words.specs.declared.commands.Given.TheVariants.{Opening, Log, Touched, Threads, Seed, Calls}
+use Rattle.command_words.specs.declared.commands.Given.TheVariants.{Opening, Log, Touched, Changes, Differ, Threads, Seed, Calls}
 use Rattle.command_words.specs.Spellings.{AreSpellings, Ask}
 use Rattle.command_words.specs.Commands.{option_name, number_of, HasNumberInRange, AreWritten, BeginsWithOption, Kind, of_opening, of_log, of_touched}
-use Rattle.command_words.specs.Commands.{of_threads, of_seed, of_calls, value_for, asked_for, DoAsk, IsCommand, HasRanges, AskFor, IsFlag, IsNamed, IsNumbered}
+use Rattle.command_words.specs.Commands.{of_changes, of_differ, of_threads, of_seed, of_calls, value_for, asked_for, DoAsk, IsCommand}
+use Rattle.command_words.specs.Commands.{HasRanges, AskFor, IsFlag, IsNamed, IsNumbered}
 use Rattle.command_words.proofs.Spellings.{of_option, value_once}
 
 -- the first two letters of an option's name, behind its dashes, as one number
@@ -31,6 +32,8 @@ abbrev letter_of : Given → ℕ
 letter_of Opening = 223
 letter_of Log = 219
 letter_of Touched = 227
+letter_of Changes = 203
+letter_of Differ = 205
 letter_of (Threads n) = 220
 letter_of (Seed n) = 216
 letter_of (Calls n) = 196
@@ -85,6 +88,8 @@ pub begins_once : (g h : Given) (r s words : List (List ℕ)) → BeginsWithOpti
 begins_once Opening Opening r s words b d = (refl, ap (drop 1) (sym b.1 ∙ d.1))
 begins_once Log Log r s words b d = (refl, ap (drop 1) (sym b.1 ∙ d.1))
 begins_once Touched Touched r s words b d = (refl, ap (drop 1) (sym b.1 ∙ d.1))
+begins_once Changes Changes r s words b d = (refl, ap (drop 1) (sym b.1 ∙ d.1))
+begins_once Differ Differ r s words b d = (refl, ap (drop 1) (sym b.1 ∙ d.1))
 begins_once (Threads m) (Threads n) r s words b d =
     let (same, rest) = same_number (codes "--threads") m n r s words (omega (arith, b.0)) (omega (arith, d.0)) b.1 d.1 in (ap (λ x. Threads x) same, rest)
 begins_once (Seed m) (Seed n) r s words b d =
@@ -98,6 +103,8 @@ named_once : (g h : Given) (n : ℕ) → option_name g ≡ option_name h → num
 named_once Opening Opening n e p q = refl
 named_once Log Log n e p q = refl
 named_once Touched Touched n e p q = refl
+named_once Changes Changes n e p q = refl
+named_once Differ Differ n e p q = refl
 named_once (Threads a) (Threads b) n e p q = let same : a ≡ b = cc in ap (λ x. Threads x) same
 named_once (Seed a) (Seed b) n e p q = let same : a ≡ b = cc in ap (λ x. Seed x) same
 named_once (Calls a) (Calls b) n e p q = let same : a ≡ b = cc in ap (λ x. Calls x) same
@@ -255,6 +262,8 @@ pub at_most_one : (kind : Kind) (asked : Asked) → length (asked_for kind asked
 at_most_one of_opening asked = of_flag asked.opening
 at_most_one of_log asked = of_flag asked.log
 at_most_one of_touched asked = of_flag asked.touched
+at_most_one of_changes asked = of_flag asked.changes
+at_most_one of_differ asked = of_flag asked.differ
 at_most_one of_threads asked = of_option asked.threads
 at_most_one of_seed asked = of_option asked.seed
 at_most_one of_calls asked = of_option asked.calls
@@ -265,19 +274,27 @@ flag_once true true e = refl
 flag_once false false e = refl
 flag_once a b e = cc
 
-make : Bool → Bool → Bool → Option ℕ → Option ℕ → Option ℕ → Asked
-make opening log touched threads seed calls = record { opening = opening; log = log; touched = touched; threads = threads; seed = seed; calls = calls }
+make : Bool → Bool → Bool → Bool → Bool → Option ℕ → Option ℕ → Option ℕ → Asked
+make opening log touched changes differ threads seed calls = record {
+  opening = opening;
+  log = log;
+  touched = touched;
+  changes = changes;
+  differ = differ;
+  threads = threads;
+  seed = seed;
+  calls = calls;
+}
 
 -- what is asked for of each kind is all that is asked for
 pub same_asked : (a b : Asked) → ((kind : Kind) → asked_for kind a ≡ asked_for kind b) → a ≡ b
 unfolding make
 same_asked a b h =
     let o = flag_once a.opening b.opening (h of_opening) in let l = flag_once a.log b.log (h of_log) in
-    let p = flag_once a.touched b.touched (h of_touched) in let t = value_once a.threads b.threads (h of_threads) in
-    let s = value_once a.seed b.seed (h of_seed) in let c = value_once a.calls b.calls (h of_calls) in
-    ap (λ x. make x a.log a.touched a.threads a.seed a.calls) o ∙ ap (λ x. make b.opening x a.touched a.threads a.seed a.calls) l
-    ∙ ap (λ x. make b.opening b.log x a.threads a.seed a.calls) p ∙ ap (λ x. make b.opening b.log b.touched x a.seed a.calls) t
-    ∙ ap (λ x. make b.opening b.log b.touched b.threads x a.calls) s ∙ ap (λ x. make b.opening b.log b.touched b.threads b.seed x) c
+    let p = flag_once a.touched b.touched (h of_touched) in let g = flag_once a.changes b.changes (h of_changes) in
+    let d = flag_once a.differ b.differ (h of_differ) in let t = value_once a.threads b.threads (h of_threads) in
+    let s = value_once a.seed b.seed (h of_seed) in let c = value_once a.calls b.calls (h of_calls) in λ i.
+    make (o i) (l i) (p i) (g i) (d i) (t i) (s i) (c i)
 
 -- no words begin with no option
 pub not_empty : (given : Given) (rest : List (List ℕ)) → BeginsWithOption given rest [] → ⊥
@@ -319,6 +336,8 @@ value_in_range : (kind : Kind) (given : Given) (n : ℕ) → HasNumberInRange gi
 value_in_range of_opening given n in_range e = tt
 value_in_range of_log given n in_range e = tt
 value_in_range of_touched given n in_range e = tt
+value_in_range of_changes given n in_range e = tt
+value_in_range of_differ given n in_range e = tt
 value_in_range of_threads (Threads m) n in_range e = let same : m ≡ n = cc in (omega (arith, in_range), omega (arith, in_range))
 value_in_range of_seed (Seed m) n in_range e = let same : m ≡ n = cc in omega (arith, in_range)
 value_in_range of_calls (Calls m) n in_range e = let same : m ≡ n = cc in omega (arith, in_range)
@@ -351,11 +370,11 @@ threads_in_range words asked (Some n) h e = asked_in_range of_threads words aske
 pub has_ranges : (name : List ℕ) (words : List (List ℕ)) (asked : Asked) → DoAsk words asked → (command : Command)
     → IsCommand name asked command → HasRanges command
 has_ranges name words asked h (Play options threads) is =
-    let (low, high) = threads_in_range words asked asked.threads h refl in let same = is.4 in (omega arith, omega arith)
+    let (low, high) = threads_in_range words asked asked.threads h refl in let same = is.6 in (omega arith, omega arith)
 has_ranges name words asked h (Load seed threads calls) is =
     let list = λ (v : Option ℕ). option_to_list v in
-    let (low, high) = asked_in_range of_threads words asked threads h (ap list is.5) in
-    (asked_in_range of_seed words asked seed h (ap list is.4), low, high, asked_in_range of_calls words asked calls h (ap list is.6))
+    let (low, high) = asked_in_range of_threads words asked threads h (ap list is.7) in
+    (asked_in_range of_seed words asked seed h (ap list is.6), low, high, asked_in_range of_calls words asked calls h (ap list is.8))
 has_ranges name words asked h (Check opening) is = tt
 
 -- what holds of an answer holds in each weaker form
@@ -371,14 +390,18 @@ one_command answer first other p q = cc (p, q)
 pub is_answer : (answer : Option Command) (command : Command) → answer ≡ Some command → IsNone answer → ⊥
 is_answer answer command p none = let yes : is_some answer ≡ true = ap is_some p in absurd (cc (yes, none))
 
+-- nothing is asked for
+abbrev no_options : Asked
+no_options = record { opening = false; log = false; touched = false; changes = false; differ = false; threads = None; seed = None; calls = None }
+
 -- at the start nothing was asked for
-nothing_asked : (kind : Kind) → asked_for kind (record { opening = false; log = false; touched = false; threads = None; seed = None; calls = None }) ≡ []
+nothing_asked : (kind : Kind) → asked_for kind no_options ≡ []
 nothing_asked of_opening = refl
 nothing_asked kind = refl
 
 -- what is left over at the start, where nothing was asked for, is what all words ask for
 pub to_all : (words : List (List ℕ)) (after : Asked)
-    → LeftOver (record { opening = false; log = false; touched = false; threads = None; seed = None; calls = None }) words after → DoAsk words after
+    → LeftOver no_options words after → DoAsk words after
 to_all words after h = record {
   given = h.given;
   spelled = h.spelled;
@@ -387,7 +410,7 @@ to_all words after h = record {
 
 -- and what all words ask for is left over at the start
 pub from_all : (words : List (List ℕ)) (after : Asked) → DoAsk words after
-    → LeftOver (record { opening = false; log = false; touched = false; threads = None; seed = None; calls = None }) words after
+    → LeftOver no_options words after
 from_all words after h = record {
   given = h.given;
   spelled = h.spelled;

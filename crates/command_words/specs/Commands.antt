@@ -8,7 +8,7 @@ use Rattle.std.specs.Fmt.{decimal}
 use Rattle.command_words.specs.declared.commands.Command.{Command}
 use Rattle.command_words.specs.declared.commands.Command.TheVariants.{Play, Load, Check}
 use Rattle.command_words.specs.declared.commands.Given.{Given}
-use Rattle.command_words.specs.declared.commands.Given.TheVariants.{Opening, Log, Touched, Threads, Seed, Calls}
+use Rattle.command_words.specs.declared.commands.Given.TheVariants.{Opening, Log, Touched, Changes, Differ, Threads, Seed, Calls}
 use Rattle.command_words.specs.declared.commands.Asked.{Asked}
 use Rattle.command_words.specs.declared.commands.Options.{Options}
 use Rattle.command_words.specs.Spellings.{Ask, AddsOne}
@@ -18,6 +18,8 @@ abbrev pub option_name : Given → List ℕ
 option_name Opening = codes "--opening"
 option_name Log = codes "--log"
 option_name Touched = codes "--touched"
+option_name Changes = codes "--changes"
+option_name Differ = codes "--differ"
 option_name (Threads n) = codes "--threads"
 option_name (Seed n) = codes "--seed"
 option_name (Calls n) = codes "--calls"
@@ -27,6 +29,8 @@ abbrev pub number_of : Given → Option ℕ
 number_of Opening = None
 number_of Log = None
 number_of Touched = None
+number_of Changes = None
+number_of Differ = None
 number_of (Threads n) = Some n
 number_of (Seed n) = Some n
 number_of (Calls n) = Some n
@@ -36,6 +40,8 @@ abbrev pub HasNumberInRange : Given → Type 0
 HasNumberInRange Opening = ⊤
 HasNumberInRange Log = ⊤
 HasNumberInRange Touched = ⊤
+HasNumberInRange Changes = ⊤
+HasNumberInRange Differ = ⊤
 HasNumberInRange (Threads n) = (1 ≤ n) × (n ≤ 16)
 HasNumberInRange (Seed n) = n ≤ 2147483647
 HasNumberInRange (Calls n) = n ≤ 1048576
@@ -56,6 +62,8 @@ pub data Kind : Type 0 where
   of_opening : Kind
   of_log : Kind
   of_touched : Kind
+  of_changes : Kind
+  of_differ : Kind
   of_threads : Kind
   of_seed : Kind
   of_calls : Kind
@@ -65,6 +73,8 @@ abbrev pub value_for : Kind → Given → Option ℕ
 value_for of_opening Opening = Some 0
 value_for of_log Log = Some 0
 value_for of_touched Touched = Some 0
+value_for of_changes Changes = Some 0
+value_for of_differ Differ = Some 0
 value_for of_threads (Threads n) = Some n
 value_for of_seed (Seed n) = Some n
 value_for of_calls (Calls n) = Some n
@@ -75,6 +85,8 @@ abbrev pub asked_for : Kind → Asked → List ℕ
 asked_for of_opening asked = if asked.opening then 0 ∷ [] else []
 asked_for of_log asked = if asked.log then 0 ∷ [] else []
 asked_for of_touched asked = if asked.touched then 0 ∷ [] else []
+asked_for of_changes asked = if asked.changes then 0 ∷ [] else []
+asked_for of_differ asked = if asked.differ then 0 ∷ [] else []
 asked_for of_threads asked = option_to_list asked.threads
 asked_for of_seed asked = option_to_list asked.seed
 asked_for of_calls asked = option_to_list asked.calls
@@ -91,6 +103,8 @@ IsCommand name asked (Play options threads) =
     × (asked.opening ≡ options.opening)
     × (asked.log ≡ options.log)
     × (asked.touched ≡ options.touched)
+    × (asked.changes ≡ options.changes)
+    × (asked.differ ≡ options.differ)
     × (threads ≡ unwrap_or asked.threads 1)
     × (asked.seed ≡ None)
     × (asked.calls ≡ None)
@@ -99,6 +113,8 @@ IsCommand name asked (Load seed threads calls) =
     × (asked.opening ≡ false)
     × (asked.log ≡ false)
     × (asked.touched ≡ false)
+    × (asked.changes ≡ false)
+    × (asked.differ ≡ false)
     × (asked.seed ≡ Some seed)
     × (asked.threads ≡ Some threads)
     × (asked.calls ≡ Some calls)
@@ -107,6 +123,8 @@ IsCommand name asked (Check opening) =
     × (asked.opening ≡ opening)
     × (asked.log ≡ false)
     × (asked.touched ≡ false)
+    × (asked.changes ≡ false)
+    × (asked.differ ≡ false)
     × (asked.threads ≡ None)
     × (asked.seed ≡ None)
     × (asked.calls ≡ None)

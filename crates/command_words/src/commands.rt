@@ -19,6 +19,10 @@ pub struct Options {
     pub log: bool,
     /// How many pages were touched is written behind the summary.
     pub touched: bool,
+    /// The changes that each call made are written before the maps.
+    pub changes: bool,
+    /// The lines of the log whose reply isn't the recorded one are written before the maps, and no others of it.
+    pub differ: bool,
 }
 
 /// What the words of the command line ask for.
@@ -56,6 +60,10 @@ pub enum Given {
     Log,
     /// `--touched`.
     Touched,
+    /// `--changes`.
+    Changes,
+    /// `--differ`.
+    Differ,
     /// `--threads N`.
     Threads(u32),
     /// `--seed N`.
@@ -73,6 +81,10 @@ pub struct Asked {
     pub log: bool,
     /// `--touched` is among them.
     pub touched: bool,
+    /// `--changes` is among them.
+    pub changes: bool,
+    /// `--differ` is among them.
+    pub differ: bool,
     /// The number of `--threads`.
     pub threads: Option<u32>,
     /// The number of `--seed`.
@@ -134,6 +146,8 @@ fn play(asked: Asked) -> Option<Command>
             opening: asked.opening,
             log: asked.log,
             touched: asked.touched,
+            changes: asked.changes,
+            differ: asked.differ,
         },
         threads: asked.threads.unwrap_or(1),
     })
@@ -151,6 +165,12 @@ fn load(asked: Asked) -> Option<Command>
         return None;
     }
     if asked.touched {
+        return None;
+    }
+    if asked.changes {
+        return None;
+    }
+    if asked.differ {
         return None;
     }
     let seed = asked.seed?;
@@ -172,6 +192,12 @@ fn check(asked: Asked) -> Option<Command>
         return None;
     }
     if asked.touched {
+        return None;
+    }
+    if asked.changes {
+        return None;
+    }
+    if asked.differ {
         return None;
     }
     if asked.threads.is_some() {
@@ -196,6 +222,8 @@ fn asked_of(words: &[String]) -> Option<Asked>
         opening: false,
         log: false,
         touched: false,
+        changes: false,
+        differ: false,
         threads: None,
         seed: None,
         calls: None,
@@ -220,6 +248,8 @@ impl Asked {
             Given::Opening if !self.opening => asked.opening = true,
             Given::Log if !self.log => asked.log = true,
             Given::Touched if !self.touched => asked.touched = true,
+            Given::Changes if !self.changes => asked.changes = true,
+            Given::Differ if !self.differ => asked.differ = true,
             Given::Threads(number) if self.threads.is_none() => asked.threads = Some(number),
             Given::Seed(number) if self.seed.is_none() => asked.seed = Some(number),
             Given::Calls(number) if self.calls.is_none() => asked.calls = Some(number),
@@ -263,6 +293,10 @@ fn flag(name: &str) -> Option<Given>
         Some(Given::Log)
     } else if name == "--touched" {
         Some(Given::Touched)
+    } else if name == "--changes" {
+        Some(Given::Changes)
+    } else if name == "--differ" {
+        Some(Given::Differ)
     } else {
         None
     }
@@ -303,7 +337,7 @@ fn is_in_range(given: Given) -> bool
     ensures { IsTrue result ↔ HasNumberInRange given }
 {
     match given {
-        Given::Opening | Given::Log | Given::Touched => true,
+        Given::Opening | Given::Log | Given::Touched | Given::Changes | Given::Differ => true,
         Given::Threads(number) => 1 <= number && number <= 16,
         Given::Seed(number) => number <= 2_147_483_647,
         Given::Calls(number) => number <= 1_048_576,

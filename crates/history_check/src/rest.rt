@@ -1,6 +1,6 @@
 //! What follows the log: the maps of the space that it leaves, a line for each area, then a line that begins `played `
-//! and at most one more, which begins `touched `. What these two say behind their first word is not looked at, since a
-//! log doesn't tell it.
+//! and at most one more, which begins `touched `. What these two say behind their first word is no part of the verdict:
+//! a log tells how many calls were played and refused, but not what was skipped or differs, and none of it is compared.
 ghost use Rattle.std.specs.Prelude.{◌≡◌, ◌↔◌, ◌+◌, ◌≤◌, ◌<◌, ◌^◌, ◌∷◌, ◌++◌, [], length, codes, IsTrue, IfSome, MatchOption};
 ghost use Rattle.line_parts.specs.Lines.{lines_of};
 ghost use Rattle.strace_reader.specs.Grammar.{BeginsWith};

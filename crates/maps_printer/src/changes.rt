@@ -1,7 +1,7 @@
 //! The changes that the calls of a history make, as text: a line for each span of pages, with the number of the entry,
-//! the addresses as proc_pid_maps(5) has them, and the kind of the pages before and after. A kind is that of a log, whose
-//! seal the maps don't show; no sealed page changes, so ` sealed` stands at the end of a line alone. The form of a line
-//! is this project's own profile.
+//! the addresses as proc_pid_maps(5) has them, and the kind of the pages before and after. A kind is that of a log,
+//! whose seal the maps don't show; no sealed page changes, so ` sealed` stands at the end of a line alone. The form of
+//! a line is this project's own profile.
 ghost use Rattle.std.specs.Prelude.{◌≡◌, ◌+◌, ◌≤◌, ◌++◌, length, codes, OnOk, OnErr};
 ghost use Rattle.std.specs.Io.KnownBytes.{Appends};
 ghost use Rattle.byte_ports.specs.Bytes.{AppendsPrefix};

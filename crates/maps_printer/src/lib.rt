@@ -1,6 +1,7 @@
 //! The texts of an address space: its maps as proc_pid_maps(5) has them, a call as strace(1) prints it, and this
-//! project's own log, changes and summary. Each text is a definition in `specs/`, a function from what it shows to bytes. Each
-//! call here appends exactly that text to a sink, or a first part of it where the sink failed, and takes no memory.
+//! project's own log, changes and summary. Each text is a definition in `specs/`, a function from what it shows to
+//! bytes. Each call here appends exactly that text to a sink, or a first part of it where the sink failed, and takes no
+//! memory.
 #![tactic(auto)]
 
 mod buffer;

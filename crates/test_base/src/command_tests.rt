@@ -6,7 +6,7 @@ use std::process::Abort;
 use std::test::Fail;
 
 /// Words that are not accepted.
-const REFUSED: [&str; 46] = [
+const REFUSED: [&str; 53] = [
     "",
     "--",
     "help",
@@ -40,13 +40,20 @@ const REFUSED: [&str; 46] = [
     "load --seed 1",
     "load --seed 1 --threads 1",
     "load --seed 1 --threads 1 --calls 1 --calls 1",
+    "play --changes --changes",
+    "play --differ --log --differ",
+    "play --differ=1",
     "load --seed 1 --threads 1 --calls 1 --log",
+    "load --seed 1 --threads 1 --calls 1 --changes",
+    "load --seed 1 --threads 1 --calls 1 --differ",
     "load --seed 2147483648 --threads 1 --calls 1",
     "load --seed 1 --threads 1 --calls 1048577",
     "load --seed 1 --threads 0 --calls 1",
     "load --seed -1 --threads 1 --calls 1",
     "check play",
     "check --log",
+    "check --changes",
+    "check --differ",
     "check --threads 1",
     "check --seed 1",
     "check --calls=1",
@@ -56,7 +63,7 @@ const REFUSED: [&str; 46] = [
 ];
 
 /// Words that are accepted, their options in any order, and what they ask for.
-const ACCEPTED: [(&str, Command); 11] = [
+const ACCEPTED: [(&str, Command); 13] = [
     (
         "play",
         Command::Play {
@@ -64,6 +71,8 @@ const ACCEPTED: [(&str, Command); 11] = [
                 opening: false,
                 log: false,
                 touched: false,
+                changes: false,
+                differ: false,
             },
             threads: 1,
         },
@@ -75,6 +84,8 @@ const ACCEPTED: [(&str, Command); 11] = [
                 opening: false,
                 log: true,
                 touched: false,
+                changes: false,
+                differ: false,
             },
             threads: 1,
         },
@@ -86,6 +97,8 @@ const ACCEPTED: [(&str, Command); 11] = [
                 opening: false,
                 log: false,
                 touched: false,
+                changes: false,
+                differ: false,
             },
             threads: 4,
         },
@@ -97,6 +110,8 @@ const ACCEPTED: [(&str, Command); 11] = [
                 opening: true,
                 log: true,
                 touched: false,
+                changes: false,
+                differ: false,
             },
             threads: 16,
         },
@@ -108,6 +123,8 @@ const ACCEPTED: [(&str, Command); 11] = [
                 opening: true,
                 log: true,
                 touched: false,
+                changes: false,
+                differ: false,
             },
             threads: 1,
         },
@@ -119,8 +136,36 @@ const ACCEPTED: [(&str, Command); 11] = [
                 opening: false,
                 log: true,
                 touched: true,
+                changes: false,
+                differ: false,
             },
             threads: 2,
+        },
+    ),
+    (
+        "play --changes",
+        Command::Play {
+            options: Options {
+                opening: false,
+                log: false,
+                touched: false,
+                changes: true,
+                differ: false,
+            },
+            threads: 1,
+        },
+    ),
+    (
+        "play --differ --opening --changes --threads 3",
+        Command::Play {
+            options: Options {
+                opening: true,
+                log: false,
+                touched: false,
+                changes: true,
+                differ: true,
+            },
+            threads: 3,
         },
     ),
     (

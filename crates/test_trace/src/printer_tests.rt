@@ -1,7 +1,10 @@
 //! The texts at worked cases, and a sink that fails in mid-text. The expected texts are written out by hand.
+use area_changes::{AreaChange, EntryChange};
 use bitflags::Flags;
 use byte_ports::{Failed, MemorySink};
-use maps_printer::{write_call, write_log, write_maps, write_summary, write_touched};
+use maps_printer::{
+    write_call, write_changes, write_log, write_maps, write_summary, write_touched,
+};
 use page_types::{Access, Call, Field, Kind, MapFlags, Prot, Reply, Short, Span, Why};
 use space_model::{Area, Entry, Under};
 use std::alloc::{AllocError, Global};
@@ -71,6 +74,40 @@ fn maps_have_a_line_for_each_area(rt: HostRuntime) -> Result<(), Fail> {
     let expected = b"00010000-00012000 rw-p 00000000 00:00 0\n\
         00012000-00013000 --xs 00000000 00:00 0\n\
         7fffffffd000-7ffffffff000 r--p 00000000 00:00 0\n";
+    assert_eq!(rt; out.written(), expected.as_slice());
+    Ok(())
+}
+
+#[test]
+fn changes_have_a_line_for_each_span(rt: HostRuntime) -> Result<(), Fail> {
+    let mut out = sink(rt.alloc(), 200, &[])?;
+    let sealed = Kind {
+        sealed: true,
+        ..private(1)
+    };
+    let changes = [
+        EntryChange {
+            number: 0,
+            change: AreaChange {
+                lo: 0x10,
+                hi: 0x12,
+                before: None,
+                after: Some(private(3)),
+            },
+        },
+        EntryChange {
+            number: u64::MAX,
+            change: AreaChange {
+                lo: 0x7fffffffd,
+                hi: 0x7ffffffff,
+                before: Some(private(1)),
+                after: Some(sealed),
+            },
+        },
+    ];
+    assert_eq!(rt; write_changes(&mut out, &changes), Ok(()));
+    let expected = b"0 00010000-00012000 none rw-p\n\
+        18446744073709551615 7fffffffd000-7ffffffff000 r--p r--p sealed\n";
     assert_eq!(rt; out.written(), expected.as_slice());
     Ok(())
 }

@@ -1,7 +1,7 @@
 -- Replies are compared one by one, each with what its line recorded. The lines' numbers rise, so a number is that of
 -- one line at most, which is found by halving.
 use Rattle.std.proofs.Common.{◌≡◌, ◌↔◌, Bool, true, false, ℕ, zero, suc, ◌+◌, ◌<◌, ◌≤◌, inl, inr, List, [], ◌∷◌, ◌++◌, length, get_or, drop, drop-cons, Result}
-use Rattle.std.proofs.Common.{Ok, Err, IfOk, IfErr, refl, sym, ap, subst, ◌∙◌, arith, add-one, add-zero}
+use Rattle.std.proofs.Common.{Ok, Err, IfOk, IfErr, refl, sym, ap, subst, ◌∙◌, arith, add-one, add-zero, append_assoc, append-nil}
 use Rattle.std.specs.Prelude.{All}
 use Rattle.std.proofs.Math.ListN.{drop_of_length-le}
 use Rattle.std.specs.Bool.{IsTrue}
@@ -17,7 +17,7 @@ use Rattle.strace_reader.specs.declared.joiner.Fed.{Fed}
 use Rattle.strace_reader.specs.declared.joiner.Fed.TheVariants.{Played}
 use Rattle.strace_reader.specs.Playing.{Differs}
 use Rattle.trace_driver.specs.declared.trace.Line.{Line}
-use Rattle.trace_driver.specs.Report.{Differing, DiffersFromLine, LinesRise, IsPlaceOf, HasNoLine}
+use Rattle.trace_driver.specs.Report.{AreDiffering, with_kept, Differing, DiffersFromLine, LinesRise, IsPlaceOf, HasNoLine}
 use Rattle.trace_driver.specs.Script.{TracePosition, Reads, lines_by, taken}
 use Rattle.trace_driver.specs.TraceReader.{index_among}
 use Rattle.trace_driver.specs.Script.Reads.{nothing, line}
@@ -50,6 +50,52 @@ completed lines entries i count above so_far =
     let b : drop i entries ≡ [] = drop_of_length-le entries above in
     let none : Differing lines (drop i entries) 0 = rw b refl in rw (add-zero) at (so_far 0 none)
 
+-- where a test of a claim says no, the claim doesn't hold
+pub agrees : (is : Bool) (claim : Type 0) → is ≡ false → (claim → IsTrue is) → ¬ claim
+agrees true claim h tells holds = cc
+agrees false claim h tells holds = absurd (let e : false ≡ true = tells holds in cc)
+
+-- ---- the list
+
+-- with those that are left from a place on, the list is that of all
+abbrev pub ListsSoFar : List Line → List Entry → ℕ → List Entry → Type 0
+ListsSoFar lines entries i list = (more : List Entry) → AreDiffering lines (drop i entries) more → AreDiffering lines entries (list ++ more)
+
+opened_list : (lines : List Line) (entries more : List Entry) (i : ℕ) (e : Entry) → i < length entries
+    → AreDiffering lines (get_or entries i e ∷ drop (i + 1) entries) more → AreDiffering lines (drop i entries) more
+opened_list lines entries more i e among h =
+    let b : drop i entries ≡ get_or entries i e ∷ drop (i + 1) entries = rw (drop-cons entries i e, add-one) refl in rw b h
+
+-- an entry that differs from its line is listed, and the list is as before
+pub lists_yes : (lines : List Line) (entries list : List Entry) (i : ℕ) (e : Entry) → i < length entries → ListsSoFar lines entries i list
+    → DiffersFromLine lines (get_or entries i e) → ListsSoFar lines entries (i + 1) (list ++ get_or entries i e ∷ [])
+lists_yes lines entries list i e among so_far differs more h =
+    let first = get_or entries i e in
+    subst (AreDiffering lines entries) (sym (append_assoc list (first ∷ []) more))
+    (so_far (first ∷ more) (opened_list lines entries (first ∷ more) i e among (inl (differs, (more, h, refl)))))
+
+-- an entry that doesn't is passed over, and the list is as before
+pub lists_no : (lines : List Line) (entries list : List Entry) (i : ℕ) (e : Entry) → i < length entries → ListsSoFar lines entries i list
+    → ¬ DiffersFromLine lines (get_or entries i e) → ListsSoFar lines entries (i + 1) list
+lists_no lines entries list i e among so_far agrees more h = so_far more (opened_list lines entries more i e among (inr (agrees, h)))
+
+-- so with one entry more, whether it differs or not
+pub lists_next : (kept : Bool) (lines : List Line) (entries list new : List Entry) (i : ℕ) (e : Entry) → i < length entries → e ≡ get_or entries i e
+    → IsTrue kept ↔ DiffersFromLine lines e → new ≡ with_kept kept list e → ListsSoFar lines entries i list → ListsSoFar lines entries (i + 1) new
+lists_next true lines entries list new i e among is tells made so_far =
+    let differs = subst (λ (x : Entry). DiffersFromLine lines x) is (tells.0 refl) in
+    let more = lists_yes lines entries list i e among so_far differs in
+    subst (ListsSoFar lines entries (i + 1)) (sym made) (subst (λ (x : Entry). ListsSoFar lines entries (i + 1) (list ++ x ∷ [])) (sym is) more)
+lists_next false lines entries list new i e among is tells made so_far =
+    let same = subst (λ (x : Entry). ¬ DiffersFromLine lines x) is (agrees false (DiffersFromLine lines e) refl tells.1) in
+    subst (ListsSoFar lines entries (i + 1)) (sym made) (lists_no lines entries list i e among so_far same)
+
+-- when none is left the list is that of all
+pub listed : (lines : List Line) (entries list : List Entry) (i : ℕ) → length entries ≤ i → ListsSoFar lines entries i list → AreDiffering lines entries list
+listed lines entries list i above so_far =
+    let b : drop i entries ≡ [] = drop_of_length-le entries above in
+    let none : AreDiffering lines (drop i entries) [] = rw b refl in subst (AreDiffering lines entries) (append-nil list) (so_far [] none)
+
 -- ---- the line of an entry
 
 -- two lines of one number are one
@@ -75,11 +121,6 @@ tells_at is lines entry place d rise low number tells = (
 -- an entry without a line doesn't
 pub tells_nowhere : (lines : List Line) (entry : Entry) → HasNoLine lines entry.line → IsTrue false ↔ DiffersFromLine lines entry
 tells_nowhere lines entry none = ((λ yes. absurd cc), (λ differs. absurd (none differs.0 differs.1 differs.2)))
-
--- where a test of a claim says no, the claim doesn't hold
-pub agrees : (is : Bool) (claim : Type 0) → is ≡ false → (claim → IsTrue is) → ¬ claim
-agrees true claim h tells holds = cc
-agrees false claim h tells holds = absurd (let e : false ≡ true = tells holds in cc)
 
 -- ---- the search
 

@@ -17,3 +17,4 @@ pub mod JudgeLemmas
 pub mod Printed
 pub mod OneReport
 pub mod TouchedPages
+pub mod Reported

@@ -21,7 +21,10 @@ use Rattle.line_parts.specs.Lines.{lines_of}
 use Rattle.strace_reader.specs.Joining.{CountsKept}
 use Rattle.strace_reader.proofs.KeptCounts.{few_kept}
 use Rattle.history_check.proofs.Fitting.{fits_tells}
-use Rattle.maps_printer.specs.Lines.{maps_text, summary_text, touched_text}
+use Rattle.area_changes.specs.declared.changes.EntryChange.{EntryChange}
+use Rattle.area_changes.specs.Changes.{Make}
+use Rattle.area_changes.proofs.OneList.{make_one}
+use Rattle.maps_printer.specs.Lines.{changes_text, log_text, maps_text, summary_text, touched_text}
 use Rattle.area_rows.specs.Callers.{ClosedView}
 use Rattle.trace_threads.specs.declared.worker.Line.{Line as Turn}
 use Rattle.trace_threads.specs.Workers.{AreEntriesOf}
@@ -36,7 +39,7 @@ use Rattle.load_lines.specs.Calls.{drawn_lines}
 use Rattle.trace_driver.specs.Dealt.{worker_lines}
 use Rattle.trace_driver.specs.Play.{line_of, IsHistoryOf}
 use Rattle.trace_driver.specs.Laws.{AreOneReport, AskForOneWorker, OneWorkerHasOneReport}
-use Rattle.trace_driver.specs.Report.{CountsTouched, Differing, asked_log, asked_touched, refused_count, report_text}
+use Rattle.trace_driver.specs.Report.{AreDiffering, CountsTouched, Differing, asked_changes, asked_log, asked_touched, refused_count, report_text}
 use Rattle.trace_driver.specs.Run.{Heard, IsReport, Loaded, Reports}
 use Rattle.strace_reader.specs.Playing.{skipped_by}
 use Rattle.trace_driver.specs.Script.{IsScript, Reads, TracePosition, after, lines_by, start_at, taken}
@@ -180,22 +183,33 @@ differing_one lines (e ∷ es) n m (inl a) (inr b) = absurd (b.0 a.0)
 differing_one lines (e ∷ es) n m (inr a) (inl b) = absurd (a.0 b.0)
 differing_one lines (e ∷ es) n m (inr a) (inr b) = differing_one lines es n m a.1 b.1
 
+-- and they are one list
+differing_list : (lines : List Line) (entries xs ys : List Entry) → AreDiffering lines entries xs → AreDiffering lines entries ys → xs ≡ ys
+differing_list lines [] xs ys a b = a ∙ sym b
+differing_list lines (e ∷ es) xs ys (inl a) (inl b) = a.1.2 ∙ ap (λ l. e ∷ l) (differing_list lines es a.1.0 b.1.0 a.1.1 b.1.1) ∙ sym b.1.2
+differing_list lines (e ∷ es) xs ys (inl a) (inr b) = absurd (b.0 a.0)
+differing_list lines (e ∷ es) xs ys (inr a) (inl b) = absurd (a.0 b.0)
+differing_list lines (e ∷ es) xs ys (inr a) (inr b) = differing_list lines es xs ys a.1 b.1
+
 -- so are the pages that were touched
 touched_one : (entries : List Entry) (n m : ℕ) → CountsTouched entries n → CountsTouched entries m → n ≡ m
 touched_one entries n m a b =
     let one = rising_one a.pages b.pages a.rising b.rising (λ z h. (b.all z).1 ((a.all z).0 h)) (λ z h. (a.all z).1 ((b.all z).0 h)) in
     a.counted ∙ ap length one ∙ sym b.counted
 
-where_asked : (asked : Bool) (n m : ℕ) → (asked ≡ true → n ≡ m) → (if asked then touched_text n else []) ≡ (if asked then touched_text m else [])
-where_asked true n m same = ap touched_text (same refl)
-where_asked false n m same = refl
+-- what is written only where it is asked for is one text
+where_asked : {X : Type 0} (text : X → List ℕ) (other : List ℕ) (asked : Bool) (x y : X) → (asked ≡ true → x ≡ y)
+    → (if asked then text x else other) ≡ (if asked then text y else other)
+where_asked text other true x y same = ap text (same refl)
+where_asked text other false x y same = refl
 
 -- the same parts make the same text
-text_one : (options : Options) (last end : List Area) (entries others : List Entry) (c d : Counts) → last ≡ end → entries ≡ others
+text_one : (options : Options) (last end : List Area) (entries others xs ys : List Entry) (some other : List EntryChange) (c d : Counts) → last ≡ end
+    → entries ≡ others → asked_log options entries xs ≡ asked_log options others ys → asked_changes options some ≡ asked_changes options other
     → c.skipped ≡ d.skipped → c.refused ≡ d.refused → c.differ ≡ d.differ → asked_touched options c.touched ≡ asked_touched options d.touched
-    → report_text options last entries c ≡ report_text options end others d
-text_one options last end entries others c d areas same skipped refused differ touched =
-    λ i. asked_log options (same i) ++ (maps_text (areas i) ++ (summary_text (length (same i)) (skipped i) (refused i) (differ i) ++ touched i))
+    → report_text options last entries xs some c ≡ report_text options end others ys other d
+text_one options last end entries others xs ys some other c d areas same log changed skipped refused differ touched =
+    λ i. log i ++ (changed i ++ (maps_text (areas i) ++ (summary_text (length (same i)) (skipped i) (refused i) (differ i) ++ touched i)))
 
 -- two reports of one input by one worker are one
 report_one : (options : Options) (bytes : List ℕ) (one other : ClosedView) (first second : List ℕ) → length bytes ≤ 67108864
@@ -206,11 +220,21 @@ report_one options bytes one other first second few a b =
     let same = played_one a.start a.lines one.entries other.entries one.areas other.areas a.script.kinds.areas a.played played in
     let differs : Differing a.lines one.entries b.differ = rw (script.lines, sym same.0) at b.differs in
     let differ : a.differ ≡ b.differ = differing_one a.lines one.entries a.differ b.differ a.differs differs in
-    let touched = where_asked options.touched a.touched b.touched
+    let listed = where_asked log_text (if options.log then log_text other.entries else []) options.differ a.differing b.differing
+    (λ is.
+    let theirs : AreDiffering a.lines one.entries b.differing = rw (script.lines, sym same.0) at (b.differing_are is) in
+    differing_list a.lines one.entries a.differing b.differing (a.differing_are is) theirs) in
+    let log : asked_log options one.entries a.differing ≡ asked_log options other.entries b.differing =
+    ap (λ es. asked_log options es a.differing) same.0 ∙ listed in
+    let changed = where_asked changes_text [] options.changes a.changes b.changes
+    (λ is.
+    let theirs : Make a.start one.entries b.changes = rw (script.start, sym same.0) at (b.changes_are is) in
+    make_one a.start one.entries a.changes b.changes (a.changes_are is) theirs) in
+    let touched = where_asked touched_text [] options.touched a.touched b.touched
     (λ is. touched_one one.entries a.touched b.touched (a.touches is) (subst (λ es. CountsTouched es b.touched) (sym same.0) (b.touches is))) in
-    let text = text_one options one.areas other.areas one.entries other.entries
+    let text = text_one options one.areas other.areas one.entries other.entries a.differing b.differing a.changes b.changes
     (record { skipped = a.skipped; refused = refused_count one.entries; differ = a.differ; touched = a.touched })
-    (record { skipped = b.skipped; refused = refused_count other.entries; differ = b.differ; touched = b.touched }) same.1 same.0
+    (record { skipped = b.skipped; refused = refused_count other.entries; differ = b.differ; touched = b.touched }) same.1 same.0 log changed
     (sym script.skipped) (ap refused_count same.0) differ touched in record { entries = same.0; areas = same.1; bytes = a.text ∙ text ∙ sym b.text }
 
 -- two reports of one load by one worker are one

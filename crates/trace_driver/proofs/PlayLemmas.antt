@@ -21,11 +21,12 @@ use Rattle.page_types.specs.declared.calls.Reply.{Reply}
 use Rattle.page_types.specs.Pages.{page_of}
 use Rattle.page_types.specs.PlainReply.{plain_reply}
 use Rattle.space_model.specs.Held.{FitsByState, FitsUnder, HoldsSomeArea, IsSimple, IsSimpleIn, ReadsPage}
-use Rattle.space_model.specs.History.{Chains, FitsAndReplies, HasRightReply, StateAfter}
+use Rattle.space_model.specs.History.{Chains, FitsAndReplies, HasNamedCalls, HasRightReply, Runs, StateAfter}
 use Rattle.space_model.proofs.Histories.{chains_weaker, one_state, replied_state}
 use Rattle.area_rows.specs.History.{entries_of}
 use Rattle.area_rows.proofs.Storing.{all_legal}
 use Rattle.trace_threads.specs.declared.worker.Line.{Line as Turn}
+use Rattle.round_trip.specs.Logs.{IsNamedEntry}
 use Rattle.strace_reader.specs.Playing.{as_played}
 use Rattle.trace_threads.specs.Workers.{AreEntriesOf}
 use Rattle.trace_threads.specs.Collected.{AllHeld, HeldAndReplies, IsOnlyWorker, IsPlayed as WerePlayed}
@@ -51,6 +52,14 @@ none_from n (e ∷ es) all k above = elim (eqb_tells e.worker k) [
   | inl h ↦ absurd (let low = All-head (λ (x : Entry). x.worker < n) e es all in omega (arith, low, h.1, above))
   | inr h ↦ ap (λ b. cond b (e ∷ entries_of k es) (entries_of k es)) h.0 ∙ none_from n es (All-tail (λ (x : Entry). x.worker < n) e es all) k above
 ]
+
+-- what fits what was held and has the right reply has the right reply
+pub right_replies : (A B : List Area) (entries : List Entry) → Runs 0 A entries B → Chains HasRightReply A entries B
+right_replies A B entries runs = chains_weaker FitsAndReplies HasRightReply (λ X e Y h. h.1) A entries B runs.1
+
+-- the calls of entries with named bits alone have such bits
+pub named_calls : (entries : List Entry) → All IsNamedEntry entries → HasNamedCalls entries
+named_calls entries all k d low = (all k d low).0
 
 -- the entry is that of the line: it has its number, and its call as it is played
 abbrev pub IsEntryOfLine : Line → Entry → Type 0

@@ -1,6 +1,6 @@
 -- What a run printed with its log is good: its entries have workers below 16, the lines of each worker rise as those of
 -- the input do, and they run from the opening areas to the areas whose maps follow.
-use Rattle.std.proofs.Common.{◌≡◌, ◌≢◌, ◌⊎◌, ℕ, zero, suc, ◌+◌, ◌<◌, ◌≤◌, Bool, true, false, cond, List, [], ◌∷◌, ◌++◌, length, map, get_or}
+use Rattle.std.proofs.Common.{◌≡◌, ◌≢◌, ◌⊎◌, ℕ, suc, ◌<◌, ◌≤◌, Bool, true, false, cond, List, [], ◌∷◌, ◌++◌, length, map, get_or}
 use Rattle.std.proofs.Common.{Option, Some, refl, sym, ap, subst, ◌∙◌, inl, inr, arith, append_assoc, not, codes, decimal}
 use Rattle.std.specs.Prelude.{All, ◌==◌, if◌then◌else◌}
 use Rattle.std.specs.List.{AllPairs, filter}
@@ -17,7 +17,7 @@ use Rattle.area_rows.proofs.Storing.{all_legal}
 use Rattle.area_rows.specs.Callers.{ClosedView}
 use Rattle.area_rows.specs.History.{entries_of}
 use Rattle.line_parts.specs.Lines.{lines_of}
-use Rattle.maps_printer.specs.Lines.{log_text, maps_text, summary_text, touched_text}
+use Rattle.maps_printer.specs.Lines.{changes_text, log_text, maps_text, summary_text, touched_text}
 use Rattle.line_parts.specs.Leaves.{worth}
 use Rattle.round_trip.proofs.LogsRead.{lacks, decimal_lacks}
 use Rattle.history_check.specs.Laws.{PrintedLogIsGood, IsTouchedLine}
@@ -32,14 +32,13 @@ use Rattle.command_words.specs.declared.commands.Options.{Options}
 use Rattle.command_words.specs.Commands.{AskFor, AskForOne, HasRanges}
 use Rattle.command_words.proofs.CommandLemmas.{has_ranges}
 use Rattle.trace_driver.specs.declared.status.Status.{Status}
-use Rattle.trace_driver.specs.declared.status.Status.TheVariants.{Done}
 use Rattle.trace_driver.specs.declared.trace.Line.{Line}
 use Rattle.std.specs.Io.KnownBytes.{Appends}
 use Rattle.trace_driver.specs.Checking.{HasRead}
 use Rattle.trace_driver.specs.Dealt.{worker_of, own_lines, worker_lines, played_line}
 use Rattle.trace_driver.specs.Play.{IsHistoryOf}
 use Rattle.trace_driver.specs.Laws.{LogsAreGood, HasGoodLog, LegalFrom}
-use Rattle.trace_driver.specs.Report.{LinesRise, asked_log, asked_touched, refused_count, CountsTouched}
+use Rattle.trace_driver.specs.Report.{LinesRise, asked_changes, asked_log, asked_touched, refused_count, CountsTouched}
 use Rattle.trace_driver.specs.Run.{IsReport, Reports, Wrote}
 use Rattle.trace_driver.proofs.Differences.{reads_rise}
 use Rattle.trace_driver.proofs.PlayLemmas.{AreOwn, none_from, of_worker}
@@ -166,17 +165,25 @@ touched_if true entries count counts =
       append_assoc (codes "touched ") (decimal count) (codes "\n"),
     )
 
+-- the options ask for the whole log, and for no changes
+record AskForLog (options : Options) : Type 0 where
+  log : options.log ≡ true
+  all : options.differ ≡ false
+  alone : options.changes ≡ false
+
 -- the text of a report with its log
-log_first_text : (options : Options) (bytes : List ℕ) (threads : ℕ) (closed : ClosedView) (report : List ℕ) → options.log ≡ true
+log_first_text : (options : Options) (bytes : List ℕ) (threads : ℕ) (closed : ClosedView) (report : List ℕ) → AskForLog options
     → (h : IsReport options threads bytes closed report) → log_text closed.entries ++ (maps_text closed.areas
     ++ (summary_text (length closed.entries) h.skipped (refused_count closed.entries) h.differ ++ asked_touched options h.touched)) ≡ report
 log_first_text options bytes threads closed report log h =
-    let asked : asked_log options closed.entries ≡ log_text closed.entries = ap (λ (b : Bool). if b then log_text closed.entries else []) log in
+    let asked : asked_log options closed.entries h.differing ≡ log_text closed.entries =
+    (λ i. if (log.all i) then log_text h.differing else if (log.log i) then log_text closed.entries else []) in
+    let none : asked_changes options h.changes ≡ [] = ap (λ (b : Bool). if b then changes_text h.changes else []) log.alone in
     let summary = summary_text (length closed.entries) h.skipped (refused_count closed.entries) h.differ in
-    ap (λ (x : List ℕ). x ++ (maps_text closed.areas ++ (summary ++ asked_touched options h.touched))) (sym asked) ∙ sym h.text
+    (λ i. sym asked i ++ (sym none i ++ (maps_text closed.areas ++ (summary ++ asked_touched options h.touched)))) ∙ sym h.text
 
 -- the report of a run with its log is a good log of its entries
-report_is_good : (options : Options) (threads : ℕ) (bytes : List ℕ) (closed : ClosedView) (report : List ℕ) → threads ≤ 16 → options.log ≡ true
+report_is_good : (options : Options) (threads : ℕ) (bytes : List ℕ) (closed : ClosedView) (report : List ℕ) → threads ≤ 16 → AskForLog options
     → (h : IsReport options threads bytes closed report) → PrintedLogIsGood closed.entries → IsGoodLog h.start (lines_of report) closed.entries
 report_is_good options threads bytes closed report few log h law =
     let low = h.played.no_other in
@@ -190,7 +197,7 @@ report_is_good options threads bytes closed report few log h law =
 -- ---- the clause
 
 -- a report with its log is checked as legal, from the areas that its input opens with
-legal_report : (options : Options) (threads : ℕ) (bytes : List ℕ) (closed : ClosedView) (text report : List ℕ) → threads ≤ 16 → options.log ≡ true
+legal_report : (options : Options) (threads : ℕ) (bytes : List ℕ) (closed : ClosedView) (text report : List ℕ) → threads ≤ 16 → AskForLog options
     → IsReport options threads bytes closed text → report ≡ text → PrintedLogIsGood closed.entries
     → LegalFrom options.opening bytes (lines_of report) (length closed.entries)
 legal_report options threads bytes closed text report few log h same law = record {
@@ -207,7 +214,7 @@ ranges_of words command h = has_ranges h.name h.rest h.asked h.options command h
 
 -- the report of a run whose words ask for its log is such a one
 of_reports : (words : List (List ℕ)) (input_old input_new : Option (List ℕ)) (options : Options) (threads : ℕ) (closed : ClosedView) (text report : List ℕ)
-    → AskForOne words → AskFor words (Play options threads) → options.log ≡ true → Reports words input_old input_new closed text → report ≡ text
+    → AskForOne words → AskFor words (Play options threads) → AskForLog options → Reports words input_old input_new closed text → report ≡ text
     → PrintedLogIsGood closed.entries → HasRead input_old input_new (λ bytes. LegalFrom options.opening bytes (lines_of report) (length closed.entries))
 of_reports words a b options threads closed text report one spells log (inl h) same law =
     let command : Play h.options h.threads ≡ Play options threads = one (Play h.options h.threads) (Play options threads) h.accepted spells in
@@ -216,7 +223,7 @@ of_reports words a b options threads closed text report one spells log (inl h) s
       h.bytes,
       h.input,
       subst (λ o. LegalFrom o.opening h.bytes (lines_of report) (length closed.entries)) these
-          (legal_report h.options h.threads h.bytes closed text report few.1 (ap (λ o. o.log) these ∙ log) h.holds same law),
+          (legal_report h.options h.threads h.bytes closed text report few.1 (subst AskForLog (sym these) log) h.holds same law),
     )
 of_reports words a b options threads closed text report one spells log (inr h) same law =
     let other : Load h.seed h.threads h.calls ≡ Play options threads = one (Load h.seed h.threads h.calls) (Play options threads) h.accepted spells in absurd cc
@@ -224,8 +231,9 @@ of_reports words a b options threads closed text report one spells log (inr h) s
 -- the log that a run printed is good, by the law on its entries
 pub logs_good : (words : List (List ℕ)) (input_old input_new out_old out_new : Option (List ℕ)) (status : Status) → AskForOne words
     → Wrote words input_old input_new out_old out_new status → HasGoodLog status → LogsAreGood words input_old input_new out_old out_new status
-logs_good words a b out_old out_new status one wrote law closed options threads old report is spells log told_old told_new =
+logs_good words a b out_old out_new status one wrote law closed options threads old report is spells log all alone told_old told_new =
     let at = subst (λ s. Wrote words a b out_old out_new s) is wrote in
     let before = subst (λ known. Appends known out_new at.0) told_old at.2 in
     let after : old ++ report ≡ old ++ at.0 = subst (λ known. Appends (Some old) known at.0) told_new before in
-    of_reports words a b options threads closed at.0 report one spells log at.1 (append_cancel_left old report at.0 after) (law closed is)
+    let asked : AskForLog options = record { log = log; all = all; alone = alone } in
+    of_reports words a b options threads closed at.0 report one spells asked at.1 (append_cancel_left old report at.0 after) (law closed is)

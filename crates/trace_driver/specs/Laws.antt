@@ -1,6 +1,6 @@
 -- What follows for a run: by one worker nothing is left to the threads, and words and input have one report; and a log
 -- that was printed is one that a check of it finds legal.
-use Rattle.std.specs.Prelude.{◌≡◌, ◌⊎◌, ℕ, Bool, true, List, ◌++◌, Option, Some, length, map}
+use Rattle.std.specs.Prelude.{◌≡◌, ◌⊎◌, ℕ, Bool, true, false, List, ◌++◌, Option, Some, length, map}
 use Rattle.space_model.specs.Areas.{HasKinds, kind_at}
 use Rattle.area_rows.specs.Callers.{ClosedView}
 use Rattle.line_parts.specs.Lines.{lines_of}
@@ -65,12 +65,14 @@ pub record LegalFrom (opening : Bool) (bytes : List ℕ) (lines : List (List ℕ
   pub kinds : HasKinds (kind_at head.areas) start
   pub verdict_is : IsVerdict start lines (Legal entries)
 
--- Where a run that is done was asked for its log, and its output tells its bytes, the lines of what was written are a
--- good log of its entries. So a check of them behind the same maps lines finds as many entries, within its limits.
+-- Where a run that is done was asked for its whole log and for no changes, and its output tells its bytes, the lines of
+-- what was written are a good log of its entries. So a check of them behind the same maps lines finds as many entries,
+-- within its limits.
 abbrev pub LogsAreGood : List (List ℕ) → Option (List ℕ) → Option (List ℕ) → Option (List ℕ) → Option (List ℕ) → Status → Type 0
 LogsAreGood words input_old input_new out_old out_new status =
     (closed : ClosedView) (options : Options) (threads : ℕ) (old report : List ℕ) → status ≡ Done (Some closed)
-    → AskFor words (Play options threads) → options.log ≡ true → out_old ≡ Some old → out_new ≡ Some (old ++ report)
+    → AskFor words (Play options threads) → options.log ≡ true → options.differ ≡ false → options.changes ≡ false
+    → out_old ≡ Some old → out_new ≡ Some (old ++ report)
     → HasRead input_old input_new (λ bytes. LegalFrom options.opening bytes (lines_of report) (length closed.entries))
 
 -- whatever is printed of the history that a status carries is a good log

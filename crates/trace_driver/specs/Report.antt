@@ -1,5 +1,6 @@
--- The report of a run, as one text: the log where it is asked for, the maps of the last areas, the summary, and how
--- many pages were touched where that is asked for. The texts of its parts are the printer's. The order of the parts and
+-- The report of a run, as one text: the log where it is asked for, or its lines whose reply differs alone, the changes
+-- of each call where they are asked for, the maps of the last areas, the summary, and how many pages were touched where
+-- that is asked for. The texts of its parts are the printer's. The order of the parts and
 -- what is counted are this project's own profile.
 use Rattle.std.specs.Prelude.{◌≡◌, ◌≢◌, ◌⊎◌, ◌↔◌, ℕ, ◌+◌, ◌^◌, ◌<◌, ◌∷◌, Bool, true, false, List, [], ◌++◌, length, count_by, slice_index_or, if◌then◌else◌}
 use Rattle.std.specs.List.{AllPairs, Contains}
@@ -11,7 +12,8 @@ use Rattle.page_types.specs.declared.sets.Access.{Access}
 use Rattle.page_types.specs.Pages.{page_of}
 use Rattle.space_model.specs.declared.areas.Area.{Area}
 use Rattle.space_model.specs.declared.entries.Entry.{Entry}
-use Rattle.maps_printer.specs.Lines.{log_text, maps_text, summary_text, touched_text}
+use Rattle.area_changes.specs.declared.changes.EntryChange.{EntryChange}
+use Rattle.maps_printer.specs.Lines.{changes_text, log_text, maps_text, summary_text, touched_text}
 use Rattle.strace_reader.specs.Playing.{Differs}
 use Rattle.trace_driver.specs.declared.report.Counts.{Counts}
 use Rattle.trace_driver.specs.declared.trace.Line.{Line}
@@ -51,9 +53,24 @@ Differing lines (entry ∷ entries) count =
     (DiffersFromLine lines entry × ((rest : ℕ) × Differing lines entries rest × (count ≡ 1 + rest)))
     ⊎ ((¬ DiffersFromLine lines entry) × Differing lines entries count)
 
--- the log, where it is asked for
-abbrev pub asked_log : Options → List Entry → List ℕ
-asked_log options entries = if options.log then log_text entries else []
+-- these are the entries whose reply differs from the recorded result of their line, in their order
+abbrev pub AreDiffering : List Line → List Entry → List Entry → Type 0
+AreDiffering lines [] list = list ≡ []
+AreDiffering lines (entry ∷ entries) list =
+    (DiffersFromLine lines entry × ((rest : List Entry) × AreDiffering lines entries rest × (list ≡ entry ∷ rest)))
+    ⊎ ((¬ DiffersFromLine lines entry) × AreDiffering lines entries list)
+
+-- the entries with one more at their end, where it is kept
+abbrev pub with_kept : Bool → List Entry → Entry → List Entry
+with_kept kept list entry = if kept then list ++ entry ∷ [] else list
+
+-- the log, where it is asked for: of the entries that differ where they are asked for, and otherwise of all
+abbrev pub asked_log : Options → List Entry → List Entry → List ℕ
+asked_log options entries differing = if options.differ then log_text differing else if options.log then log_text entries else []
+
+-- the changes, where they are asked for
+abbrev pub asked_changes : Options → List EntryChange → List ℕ
+asked_changes options changes = if options.changes then changes_text changes else []
 
 -- so many pages were touched: these are the pages of the faults among the entries that were granted, each counted once
 pub record CountsTouched (entries : List Entry) (count : ℕ) : Type 0 where
@@ -69,8 +86,9 @@ abbrev pub asked_touched : Options → ℕ → List ℕ
 asked_touched options count = if options.touched then touched_text count else []
 
 -- the whole report
-abbrev pub report_text : Options → List Area → List Entry → Counts → List ℕ
-report_text options last entries counts =
-    (if options.log then log_text entries else []) ++ (maps_text last
+abbrev pub report_text : Options → List Area → List Entry → List Entry → List EntryChange → Counts → List ℕ
+report_text options last entries differing changes counts =
+    (if options.differ then log_text differing else if options.log then log_text entries else [])
+    ++ ((if options.changes then changes_text changes else []) ++ (maps_text last
     ++ (summary_text (length entries) counts.skipped counts.refused counts.differ
-    ++ (if options.touched then touched_text counts.touched else [])))
+    ++ (if options.touched then touched_text counts.touched else []))))

@@ -6,6 +6,9 @@ use Rattle.std.specs.Io.KnownBytes.{Appends, Keeps}
 use Rattle.byte_ports.specs.Bytes.{AppendsPrefix}
 use Rattle.byte_ports.specs.Counts.{Rose}
 use Rattle.space_model.specs.declared.areas.Area.{Area}
+use Rattle.space_model.specs.declared.entries.Entry.{Entry}
+use Rattle.area_changes.specs.declared.changes.EntryChange.{EntryChange}
+use Rattle.area_changes.specs.Changes.{Make}
 use Rattle.area_rows.specs.Callers.{ClosedView}
 use Rattle.maps_printer.specs.Lines.{summary_text}
 use Rattle.load_lines.specs.Calls.{drawn_lines}
@@ -25,7 +28,7 @@ use Rattle.trace_driver.specs.ErrorLine.{error_line}
 use Rattle.trace_driver.specs.Script.{IsInput, IsScript}
 use Rattle.trace_driver.specs.Endings.{IsTooLong, EndsInput}
 use Rattle.trace_driver.specs.Play.{line_of, IsHistoryOf}
-use Rattle.trace_driver.specs.Report.{report_text, refused_count, CountsTouched, Differing}
+use Rattle.trace_driver.specs.Report.{report_text, refused_count, CountsTouched, AreDiffering, Differing}
 use Rattle.trace_driver.specs.Status.{status_of, ending}
 
 -- the report of an input with these options, by a space that was closed: the input's lines, played by so many workers
@@ -40,7 +43,11 @@ pub record IsReport (options : Options) (threads : ℕ) (bytes : List ℕ) (clos
   pub differs : Differing lines closed.entries differ
   pub touched : ℕ
   pub touches : options.touched ≡ true → CountsTouched closed.entries touched
-  pub text : report ≡ report_text options closed.areas closed.entries
+  pub differing : List Entry
+  pub differing_are : options.differ ≡ true → AreDiffering lines closed.entries differing
+  pub changes : List EntryChange
+  pub changes_are : options.changes ≡ true → Make start closed.entries changes
+  pub text : report ≡ report_text options closed.areas closed.entries differing changes
       (record { skipped = skipped; refused = refused_count closed.entries; differ = differ; touched = touched })
 
 -- with words that ask for an input to be played the whole input was read, within its limit, and this holds of its bytes

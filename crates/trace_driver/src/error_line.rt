@@ -14,7 +14,7 @@ use strace_reader::What;
 
 /// The line for wrong words, with its newline.
 const USAGE: &[u8] =
-    b"usage: play [--threads N] [--opening] [--log] [--touched] or load --seed N --threads N --calls N or check [--opening]\n";
+    b"usage: play [--threads N] [--opening] [--log] [--touched] [--changes] [--differ] or load --seed N --threads N --calls N or check [--opening]\n";
 
 /// Writes the line for a status. For `Done` it makes no call of the sink.
 ///

@@ -17,6 +17,7 @@ mod processes;
 mod report;
 pub mod run;
 mod script;
+mod shown;
 mod status;
 mod trace;
 

@@ -1,18 +1,19 @@
-//! The report of a run: the log where it is asked for, the maps that are left, the summary, and the count of touched
-//! pages where that is asked for. The texts of the parts
-//! are those of the crate `maps_printer`. A reader may rely on the output being the whole report, or a first part of it
+//! The report of a run: the log and the changes of the calls where they are asked for, the maps that are left, the
+//! summary, and the count of touched pages where that is asked for. The texts of the parts are those of the crate
+//! `maps_printer`. A reader may rely on the output being the whole report, or a first part of it
 //! where the sink failed.
 ghost use Rattle.std.specs.Prelude.{◌≡◌, ◌≤◌, ◌^◌, ◌<◌, ◌↔◌, length, IfSome, IsNone, IsTrue, OnOk, OnErr};
 ghost use Rattle.std.specs.Io.KnownBytes.{Appends};
 ghost use Rattle.byte_ports.specs.Bytes.{AppendsPrefix};
 ghost use Rattle.byte_ports.specs.Counts.{Rose};
-ghost use Rattle.trace_driver.specs.Report.{report_text, asked_log, asked_touched, is_refused, refused_count};
+ghost use Rattle.trace_driver.specs.Report.{report_text, asked_changes, asked_log, asked_touched, is_refused, refused_count};
 ghost use Rattle.trace_driver.specs.Report.{Differing, DiffersFromLine, HasNoLine, IsPlaceOf, LinesRise};
 
 use crate::trace::Line;
+use area_changes::EntryChange;
 use byte_ports::{Failed, Sink};
 use command_words::Options;
-use maps_printer::{write_log, write_maps, write_summary, write_touched};
+use maps_printer::{write_changes, write_log, write_maps, write_summary, write_touched};
 use page_types::Reply;
 use space_model::{Area, Entry};
 use strace_reader::differs;
@@ -30,8 +31,8 @@ pub struct Counts {
     pub touched: u32,
 }
 
-/// Writes the report of what was played: the log is that of `entries`, at most 2^32 - 1 of them, and the maps are those
-/// of `areas`.
+/// Writes the report of what was played: the log is that of `entries`, at most 2^32 - 1 of them, or of those that are
+/// shown, as the changes are, and the maps are those of `areas`.
 ///
 /// `Failed`: the sink failed in this call; some first part of the report was appended.
 pub fn write_report<K: Sink>(
@@ -39,16 +40,19 @@ pub fn write_report<K: Sink>(
     options: Options,
     entries: &[Entry],
     areas: &[Area],
+    differing: &[Entry],
+    changes: &[EntryChange],
     counts: Counts,
 ) -> Result<(), Failed>
     requires { length entries.now < 2 ^ 32 }
     ensures all { OnOk result (Appends (K.contents out.old) (K.contents out.new)
-        (report_text options areas.now entries.now counts)) }
+        (report_text options areas.now entries.now differing.now changes.now counts)) }
     ensures failed_prefix { OnErr result (AppendsPrefix (K.contents out.old) (K.contents out.new)
-        (report_text options areas.now entries.now counts)) }
+        (report_text options areas.now entries.now differing.now changes.now counts)) }
     ensures failed_rose { OnErr result (Rose (K.fault_count out.old) (K.fault_count out.new)) }
 {
-    write_asked_log(out, options, entries)?;
+    write_asked_log(out, options, entries, differing)?;
+    write_asked_changes(out, options, changes)?;
     write_maps(out, areas)?;
     let played = entries.len() as u32;
     write_summary(out, played, counts.skipped, counts.refused, counts.differ)?;
@@ -71,16 +75,43 @@ fn write_asked_touched<K: Sink>(out: &mut K, options: Options, count: u32) -> Re
     }
 }
 
-/// Writes the log where the options ask for it.
-fn write_asked_log<K: Sink>(out: &mut K, options: Options, entries: &[Entry]) -> Result<(), Failed>
+/// Writes the changes where the options ask for them.
+fn write_asked_changes<K: Sink>(
+    out: &mut K,
+    options: Options,
+    changes: &[EntryChange],
+) -> Result<(), Failed>
     ensures all { OnOk result
-        (Appends (K.contents out.old) (K.contents out.new) (asked_log options entries.now)) }
+        (Appends (K.contents out.old) (K.contents out.new) (asked_changes options changes.now)) }
     ensures failed_prefix { OnErr result
-        (AppendsPrefix (K.contents out.old) (K.contents out.new) (asked_log options entries.now)) }
+        (AppendsPrefix (K.contents out.old) (K.contents out.new) (asked_changes options changes.now)) }
     ensures failed_rose { OnErr result (Rose (K.fault_count out.old) (K.fault_count out.new)) }
     ensures never_falls { K.fault_count out.old ≤ K.fault_count out.new }
 {
-    if options.log {
+    if options.changes {
+        write_changes(out, changes)
+    } else {
+        Ok(())
+    }
+}
+
+/// Writes the log where the options ask for it, or that of the entries that differ where they ask for these.
+fn write_asked_log<K: Sink>(
+    out: &mut K,
+    options: Options,
+    entries: &[Entry],
+    differing: &[Entry],
+) -> Result<(), Failed>
+    ensures all { OnOk result
+        (Appends (K.contents out.old) (K.contents out.new) (asked_log options entries.now differing.now)) }
+    ensures failed_prefix { OnErr result
+        (AppendsPrefix (K.contents out.old) (K.contents out.new) (asked_log options entries.now differing.now)) }
+    ensures failed_rose { OnErr result (Rose (K.fault_count out.old) (K.fault_count out.new)) }
+    ensures never_falls { K.fault_count out.old ≤ K.fault_count out.new }
+{
+    if options.differ {
+        write_log(out, differing)
+    } else if options.log {
         write_log(out, entries)
     } else {
         Ok(())
@@ -125,7 +156,7 @@ pub fn differ_count(lines: &[Line], entries: &[Entry]) -> u32
 
 /// Whether an entry's reply differs from the recorded result of its line, which is looked for at one place first; and
 /// where to look first for the line of the next entry.
-fn differs_from_line(lines: &[Line], entry: &Entry, near: usize) -> (bool, usize)
+pub(crate) fn differs_from_line(lines: &[Line], entry: &Entry, near: usize) -> (bool, usize)
     requires { LinesRise lines.now }
     ensures { IsTrue result.0 ↔ DiffersFromLine lines.now entry.now }
 {

@@ -19,6 +19,7 @@ use crate::load::play_made;
 use crate::play::play_asked;
 use crate::report::{Counts, differ_count, refused_count, write_report};
 use crate::script::read_script;
+use crate::shown::shown_of;
 use crate::status::Status;
 use byte_ports::{Sink, Source};
 use command_words::{Command, Options, command_of};
@@ -168,13 +169,30 @@ fn play_input<R: Threads + Wait + Sync, S: Source, K: Sink, G: Gate>(
     ) else {
         return Status::Memory;
     };
+    let Ok(shown) = shown_of(
+        alloc,
+        options,
+        &script.opening,
+        &script.lines,
+        closed.entries(),
+    ) else {
+        return Status::Memory;
+    };
     let counts = Counts {
         skipped: script.skipped,
         refused: refused_count(closed.entries()),
         differ: differ_count(&script.lines, closed.entries()),
         touched,
     };
-    match write_report(out, options, closed.entries(), closed.areas(), counts) {
+    match write_report(
+        out,
+        options,
+        closed.entries(),
+        closed.areas(),
+        shown.differing.as_slice(),
+        shown.changes.as_slice(),
+        counts,
+    ) {
         Ok(()) => Status::Done(Some(closed)),
         Err(_) => Status::WriteFault(Some(closed)),
     }

@@ -16,7 +16,8 @@ loop-change-preserved g c = (
 -- where the sink failed while room was made, a first part of the text was written
 pub returns-in_err-make_room-clause-failed_prefix : goal.returns-in_err-make_room-clause-failed_prefix
 returns-in_err-make_room-clause-failed_prefix g c = on_err _
-    (lines_stop change_line _ _ _ _ _ _ _ _ c.loop-change-test.true c.loop-change.invariant.0 c.push_change.ensures.text c.in_err-make_room.ensures.failed_prefix)
+    (lines_stop change_line _ _ _ _ _ _ _ _ c.loop-change-test.true c.loop-change.invariant.0 c.push_change.ensures.text
+    c.in_err-make_room.ensures.failed_prefix)
 
 -- where it failed at the last flush, a first part of the text was written
 pub returns-clause-failed_prefix : goal.returns-clause-failed_prefix
