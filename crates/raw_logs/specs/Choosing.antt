@@ -56,11 +56,11 @@ hides (Ends child) = false
 hides Execs = false
 hides Nothing = false
 
--- a line of the space, before these
+-- a line of the space, before these; one that is too long to be written still tells of execve
 abbrev pub with_own : Form → Numbered → Making → Picked → Picked
 with_own Blank line making p = p
 with_own Unknown line making p = record p { counts = one_more_of OfUnknown p.counts; unknown = Some line.number }
-with_own Long line making p = record p { counts = one_more_of OfLong p.counts }
+with_own Long line making p = record p { counts = one_more_of OfLong p.counts; ended = execs making }
 with_own TooLong line making p = record p { too_long = Some line.number }
 with_own Whole line making p =
     record p { lines = line ∷ p.lines; counts = if hides making then one_more_of Untold p.counts else p.counts; ended = execs making }
@@ -87,7 +87,7 @@ picked here place (line ∷ lines) (told ∷ tolds) = with_line (here place told
 
 -- what is picked, with how many numbers were made that have no line, and how many others have
 abbrev pub with_numbers : ℕ → ℕ → Picked → Picked
-with_numbers m n p = record p { counts = record (p.counts) { silent = m; foreign = foreign m n } }
+with_numbers m n p = record p { counts = record (p.counts) { silent = m; foreign = foreign n } }
 
 -- what is picked of a log
 abbrev pub picked_of : Option ℕ → List Numbered → List Told → Picked

@@ -110,7 +110,6 @@ abbrev pub unmade : List Made → List Told → ℕ
 unmade made [] = 0
 unmade made (told ∷ tolds) = if is_known told.pid made tolds then unmade made tolds else unmade made tolds + 1
 
--- One of these is the program's own. Where numbers that were made have no line, the others may be the same processes in
--- another numbering.
-abbrev pub foreign : ℕ → ℕ → ℕ
-foreign silent unmade = if silent == 0 then 0 else unmade - 1
+-- One of these is the program's own. The others may be its threads, or other programs: no line tells.
+abbrev pub foreign : ℕ → ℕ
+foreign unmade = unmade - 1

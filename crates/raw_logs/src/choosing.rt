@@ -68,7 +68,10 @@ impl Picker {
                 self.counts.add(Sort::Unknown);
                 self.unknown = Some(number);
             }
-            Form::Long => self.counts.add(Sort::Long),
+            Form::Long => {
+                self.counts.add(Sort::Long);
+                self.ended = execs(told.making);
+            }
             Form::TooLong => self.too_long = Some(number),
             Form::Whole => {
                 if hides(told.making) {
@@ -132,7 +135,7 @@ pub(crate) fn with_numbers(picker: Picker, silent: u32, unmade: u32) -> Picker
 {
     let mut picker = picker;
     picker.counts.silent = silent;
-    picker.counts.foreign = foreign(silent, unmade);
+    picker.counts.foreign = foreign(unmade);
     picker
 }
 

@@ -34,6 +34,12 @@ pub enum Sort {
     Unread,
     /// Calls that change an address space in a form that the profile hasn't.
     Forms,
+    /// Calls whose result strace made up, so that the kernel didn't do them.
+    Injected,
+    /// Calls that failed for a reason outside the address space.
+    Outside,
+    /// Calls whose result isn't told.
+    Unanswered,
 }
 
 /// How many lines of each sort there were.
@@ -59,7 +65,7 @@ pub struct Counts {
     pub untold: u32,
     /// Numbers that calls made and that have no line.
     pub silent: u32,
-    /// Numbers that have a line and that no call made, but for one, where there are silent ones.
+    /// Numbers that have a line and that no call made, but for one.
     pub foreign: u32,
     /// Calls in two halves.
     pub joined: u32,
@@ -71,6 +77,12 @@ pub struct Counts {
     pub unread: u32,
     /// Calls that change an address space in a form that the profile hasn't.
     pub forms: u32,
+    /// Calls whose result strace made up.
+    pub injected: u32,
+    /// Calls that failed for a reason outside the address space.
+    pub outside: u32,
+    /// Calls whose result isn't told.
+    pub unanswered: u32,
 }
 
 /// A count with one line more; it stays at 2^32 - 1.
@@ -104,6 +116,9 @@ impl Counts {
             unreturned: 0,
             unread: 0,
             forms: 0,
+            injected: 0,
+            outside: 0,
+            unanswered: 0,
         }
     }
 
@@ -126,6 +141,9 @@ impl Counts {
             Sort::Unreturned => self.unreturned = one_more(self.unreturned),
             Sort::Unread => self.unread = one_more(self.unread),
             Sort::Forms => self.forms = one_more(self.forms),
+            Sort::Injected => self.injected = one_more(self.injected),
+            Sort::Outside => self.outside = one_more(self.outside),
+            Sort::Unanswered => self.unanswered = one_more(self.unanswered),
         }
     }
 
@@ -150,6 +168,9 @@ impl Counts {
             unreturned: self.unreturned.saturating_add(other.unreturned),
             unread: self.unread.saturating_add(other.unread),
             forms: self.forms.saturating_add(other.forms),
+            injected: self.injected.saturating_add(other.injected),
+            outside: self.outside.saturating_add(other.outside),
+            unanswered: self.unanswered.saturating_add(other.unanswered),
         }
     }
 }

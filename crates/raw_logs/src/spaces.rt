@@ -361,13 +361,10 @@ pub(crate) fn unmade(alloc: Global, lines: &Lines, made: &[Made]) -> Result<u32,
     Ok(count)
 }
 
-/// How many numbers may be of another numbering.
-pub(crate) fn foreign(silent: u32, unmade: u32) -> u32
-    ensures { result ≡ foreign silent unmade }
+/// Of so many numbers that no link made, how many may be of other programs.
+pub(crate) fn foreign(unmade: u32) -> u32
+    ensures { result ≡ foreign unmade }
 {
-    if silent == 0 {
-        return 0;
-    }
     unmade.saturating_sub(1)
 }
 
