@@ -101,6 +101,11 @@ abbrev pub is_made : ℕ → List Made → Bool
 is_made pid [] = false
 is_made pid (link ∷ earlier) = if link.child == pid then true else is_made pid earlier
 
+-- how many links made a number that an earlier one made
+abbrev pub twice : List Made → ℕ
+twice [] = 0
+twice (link ∷ earlier) = if is_made link.child earlier then twice earlier + 1 else twice earlier
+
 -- the number is no new one beside these lines: 0 stands where a line has none, and others speak there or were made
 abbrev pub is_known : ℕ → List Made → List Told → Bool
 is_known pid made tolds = if 0 == pid then true else if speaks pid tolds then true else is_made pid made

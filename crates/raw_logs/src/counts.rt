@@ -67,6 +67,8 @@ pub struct Counts {
     pub silent: u32,
     /// Numbers that have a line and that no call made, but for one.
     pub foreign: u32,
+    /// Calls that made a number which an earlier call had made: two threads or processes have lines of that number.
+    pub twice: u32,
     /// Calls in two halves.
     pub joined: u32,
     /// Calls that were mended.
@@ -111,6 +113,7 @@ impl Counts {
             untold: 0,
             silent: 0,
             foreign: 0,
+            twice: 0,
             joined: 0,
             mended: 0,
             unreturned: 0,
@@ -163,6 +166,7 @@ impl Counts {
             untold: self.untold.saturating_add(other.untold),
             silent: self.silent.saturating_add(other.silent),
             foreign: self.foreign.saturating_add(other.foreign),
+            twice: self.twice.saturating_add(other.twice),
             joined: self.joined.saturating_add(other.joined),
             mended: self.mended.saturating_add(other.mended),
             unreturned: self.unreturned.saturating_add(other.unreturned),

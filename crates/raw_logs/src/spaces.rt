@@ -9,10 +9,10 @@ ghost use Rattle.std.specs.Ordering.{nat_cmp};
 ghost use Rattle.std.specs.Prelude.{◌≢◌, ◌<◌, ◌^◌, ◌==◌, Some, None, true, if◌then◌else◌};
 ghost use Rattle.raw_logs.specs.declared.spaces.Made.{Made as MadeOf};
 ghost use Rattle.raw_logs.specs.declared.told.Told.{Told as ToldOf};
-ghost use Rattle.raw_logs.specs.Spaces.{links, made_from, led, has_line, speaks, silent, unmade, foreign};
+ghost use Rattle.raw_logs.specs.Spaces.{links, made_from, led, has_line, speaks, silent, twice, unmade, foreign};
 ghost use Rattle.raw_logs.specs.Counting.{within_32_bits};
 ghost use Rattle.raw_logs.specs.Told.{AreTold};
-ghost use Rattle.raw_logs.specs.Stages.{HasMade, space_in, HasSpaces, IsPast, IsChooser, or_else, HasSpeakers, HasKnown};
+ghost use Rattle.raw_logs.specs.Stages.{HasMade, space_in, HasSpaces, IsPast, IsChooser, or_else, HasSpeakers, HasNumbers, HasKnown};
 
 use crate::lines::Lines;
 use crate::told::{Told, told_of};
@@ -331,6 +331,35 @@ fn made_numbers(alloc: Global, made: &[Made]) -> Result<BTreeSet<u32>, AllocErro
         left = later;
     }
     Ok(found)
+}
+
+/// Counts a link whose number was made before; the count stays at 2^32 - 1.
+fn count_again(found: &mut BTreeSet<u32>, link: Made, count: u32) -> Result<u32, AllocError>
+    ensures found { OnOk result ((done : List MadeOf) → HasNumbers found.old done → HasNumbers found.new (link ∷ done)) }
+    ensures count { IfOk result (λ next. (done : List MadeOf) → HasNumbers found.old done
+        → count ≡ within_32_bits (twice done) → next ≡ within_32_bits (twice (link ∷ done))) }
+{
+    if found.contains(&link.child) {
+        put_number(found, link.child)?;
+        return Ok(count.saturating_add(1));
+    }
+    put_number(found, link.child)?;
+    Ok(count)
+}
+
+/// How many links made a number that an earlier one made; the count stays at 2^32 - 1.
+pub(crate) fn twice(alloc: Global, made: &[Made]) -> Result<u32, AllocError>
+    ensures { IfOk result (λ count. count ≡ within_32_bits (twice made.now)) }
+{
+    let mut found = BTreeSet::new(alloc);
+    let mut count: u32 = 0;
+    let mut left = made;
+    'links: while let Some((link, later)) = left.split_last() {
+        let next = count_again(&mut found, *link, count)?;
+        count = next;
+        left = later;
+    }
+    Ok(count)
 }
 
 /// Counts the number of a line, where it isn't known yet; the count stays at 2^32 - 1.

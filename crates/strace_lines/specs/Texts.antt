@@ -45,6 +45,7 @@ named_counts t c =
     (codes "lines that don't tell what was made", c.untold) ∷
     (codes "numbers that were made and have no line", c.silent) ∷
     (codes "numbers that have lines and weren't made", c.foreign) ∷
+    (codes "numbers that were made twice", c.twice) ∷
     (codes "calls that show another program", t.programs) ∷
     (codes "calls that map or free pages of the heap", t.remapped) ∷
     (codes "calls joined", c.joined) ∷

@@ -62,7 +62,7 @@ fn write_counts<K: Sink>(err: &mut K, counts: &[(&[u8], u32)]) -> Result<(), Fai
 }
 
 /// What each count counts, in the order in which they are written.
-fn named_counts(calls: Tally, counts: &Counts) -> [(&'static [u8], u32); 21]
+fn named_counts(calls: Tally, counts: &Counts) -> [(&'static [u8], u32); 22]
     ensures { map named_count result ≡ named_counts calls counts.now }
 {
     [
@@ -77,6 +77,7 @@ fn named_counts(calls: Tally, counts: &Counts) -> [(&'static [u8], u32); 21]
         (b"lines that don't tell what was made", counts.untold),
         (b"numbers that were made and have no line", counts.silent),
         (b"numbers that have lines and weren't made", counts.foreign),
+        (b"numbers that were made twice", counts.twice),
         (b"calls that show another program", calls.programs),
         (b"calls that map or free pages of the heap", calls.remapped),
         (b"calls joined", counts.joined),

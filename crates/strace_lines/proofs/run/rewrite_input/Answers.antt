@@ -64,6 +64,15 @@ returns-in-Ok-write_all-clause-complete g c words asked one bytes known =
     inl (done_complete words _ _ c.args.process c.args.strict bytes c.as_slice.result.now c.in-Ok-rewrite.found drained within
     c.in-Ok-rewrite.ensures.is c.in-Ok-rewrite.ensures.only c.in-Ok-rewrite.ensures.cut c.in-Ok-rewrite.ensures.complete asked one known)
 
+-- what was written is the rewriting
+pub returns-in-Ok-write_all-clause-out : goal.returns-in-Ok-write_all-clause-out
+returns-in-Ok-write_all-clause-out g c words asked =
+    let k = (goal.at.returns-in-Ok-write_all-clause-out g c).After-as_slice in
+    let found = c.in-Ok-rewrite.found in
+    let is = subst (λ (x : List ℕ). IsRewriting c.args.process c.as_slice.result.now x found.counts found.calls) (sym c.as_slice-2.ensures.value)
+    c.in-Ok-rewrite.ensures.is in
+    (c.as_slice-2.result.now, c.in-Ok-write_all.ensures.all, heard g k words _ asked (is, c.in-Ok-rewrite.ensures.cut))
+
 -- where the output failed it has a first part of the lines
 pub returns-clause-out : goal.returns-clause-out
 returns-clause-out g c words asked =
