@@ -12,7 +12,8 @@ returns-clause-picked c = λ speak.
     let here = has_line c.args.process c.as_slice.result.now c.len-count.result in
     let picked = c.in_ok-picked.ensures.picked c.args.process _ _ m.0 c.in_ok-chooser.ensures m.1 in
     let kept = c.in_ok-kept.ensures.kept c.args.process _ _ m.0 c.in_ok-chooser.ensures m.1 in
-    pick_is c.args.process c.args.lines _ _ c.silent.result c.in_ok-others.others c.in_ok-again.again _ (seen c.in_ok-kept.kept c.with_numbers-picker.result) m.0 m.1
+    pick_is c.args.process c.args.lines _ _ c.silent.result c.in_ok-others.others c.in_ok-again.again _
+    (seen c.in_ok-kept.kept c.with_numbers-picker.result) m.0 m.1
     (c.as_slice.ensures.value ∙ m.2) c.len-count.ensures picked.is
     (c.silent.ensures m.0 (speak m.0 m.1) ∙ ap (λ x. within_32_bits (silent x m.0)) (c.as_slice-4.ensures.value ∙ sym c.as_slice.ensures.value))
     (c.in_ok-others.ensures m.0 m.1 ∙ ap (λ x. within_32_bits (unmade x m.0)) (c.as_slice-2.ensures.value ∙ sym c.as_slice.ensures.value))
