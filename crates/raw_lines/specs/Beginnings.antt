@@ -50,7 +50,11 @@ IsForeignHead body = BeginsWith (codes "pkey_mprotect(") body ⊎ (BeginsWith (c
 unfoldable pub IsRareHead : List ℕ → Type 0
 IsRareHead body = BeginsWith (codes "remap_file_pages(") body ⊎ BeginsWith (codes "syscall_0x") body
 
+-- the same: every mapping of a 32-bit program, the ring of io_setup(2), and a shadow stack
+unfoldable pub IsMapLikeHead : List ℕ → Type 0
+IsMapLikeHead body = BeginsWith (codes "mmap2(") body ⊎ (BeginsWith (codes "io_setup(") body ⊎ BeginsWith (codes "map_shadow_stack(") body)
+
 -- the body names a call that changes an address space; one that the reader of lines passes over has another form than
 -- those of the profile
 abbrev pub ChangesSpace : List ℕ → Type 0
-ChangesSpace body = IsMapHead body ⊎ (IsOtherHead body ⊎ (IsForeignHead body ⊎ IsRareHead body))
+ChangesSpace body = IsMapHead body ⊎ (IsOtherHead body ⊎ (IsForeignHead body ⊎ (IsRareHead body ⊎ IsMapLikeHead body)))

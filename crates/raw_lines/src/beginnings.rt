@@ -5,7 +5,7 @@ ghost use Rattle.std.specs.Prelude.{◌≡◌};
 ghost use Rattle.std.specs.Bool.{Decides};
 ghost use Rattle.line_parts.specs.Reading.{taken};
 ghost use Rattle.raw_lines.specs.Beginnings.{is_name_byte, names_call, IsKnown, IsOfProfile, ChangesSpace};
-ghost use Rattle.raw_lines.specs.Beginnings.{IsMapHead, IsOtherHead, IsMapEnd, IsOtherEnd, IsForeignHead, IsRareHead};
+ghost use Rattle.raw_lines.specs.Beginnings.{IsMapHead, IsOtherHead, IsMapEnd, IsOtherEnd, IsForeignHead, IsRareHead, IsMapLikeHead};
 
 use line_parts::begins;
 use strace_reader::begins_with;
@@ -103,6 +103,15 @@ fn is_rare_head(body: &[u8]) -> bool
     begins_with(body, b"remap_file_pages(") || begins_with(body, b"syscall_0x")
 }
 
+#[tactic(auto, unfolding(crate::specs::Beginnings::IsMapLikeHead))]
+fn is_map_like_head(body: &[u8]) -> bool
+    ensures { Decides result (IsMapLikeHead body.now) }
+{
+    begins_with(body, b"mmap2(")
+        || begins_with(body, b"io_setup(")
+        || begins_with(body, b"map_shadow_stack(")
+}
+
 /// Whether the body of a line is of a call of the profile, or of the second half of one.
 pub fn is_of_profile(body: &[u8]) -> bool
     ensures { Decides result (IsOfProfile body.now) }
@@ -115,5 +124,9 @@ pub fn is_of_profile(body: &[u8]) -> bool
 pub fn changes_space(body: &[u8]) -> bool
     ensures { Decides result (ChangesSpace body.now) }
 {
-    is_map_head(body) || is_other_head(body) || is_foreign_head(body) || is_rare_head(body)
+    is_map_head(body)
+        || is_other_head(body)
+        || is_foreign_head(body)
+        || is_rare_head(body)
+        || is_map_like_head(body)
 }

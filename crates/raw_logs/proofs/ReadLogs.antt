@@ -21,7 +21,7 @@ use Rattle.raw_logs.specs.Log.{Numbered, texts_of, IsLog, IsKind, Each, Healed, 
 use Rattle.raw_logs.specs.Numbering.{IsNumbering, IsRenumbered}
 use Rattle.raw_logs.specs.Reading.{IsNumberedLog, IsRead, EndsCut}
 use Rattle.raw_logs.specs.Stages.{part_of, Takes, seen, HasSpeakers}
-use Rattle.raw_logs.specs.Spaces.{made_from, has_line, speaks, silent, unmade}
+use Rattle.raw_logs.specs.Spaces.{made_from, has_line, speaks, silent, twice, unmade}
 use Rattle.raw_logs.specs.Told.{AreTold}
 use Rattle.raw_logs.proofs.MadeLines.{each_one, printed_plain}
 use Rattle.raw_logs.proofs.OneLog.{kind_one, stripped_one}
@@ -116,18 +116,21 @@ read_by process bytes lines kept before picker speakers alone fault n all pick s
     }
 
 -- what is picked by who made whom is what is picked of a log
-pub pick_is : (process : Option ℕ) (lines : List Numbered) (made : List Made) (count without others : ℕ) (old new : Picked) (tolds : List Told)
+pub pick_is : (process : Option ℕ) (lines : List Numbered) (made : List Made) (count without others again : ℕ) (old new : Picked) (tolds : List Told)
     → AreTold lines tolds → made ≡ made_from 0 tolds → count ≡ length lines
     → old ≡ picked (has_line process made count) 0 lines tolds → without ≡ within_32_bits (silent made tolds)
-    → others ≡ within_32_bits (unmade made tolds) → new ≡ with_numbers without others old
+    → others ≡ within_32_bits (unmade made tolds) → again ≡ within_32_bits (twice made) → new ≡ with_numbers without others again old
     → (x : List Told) × AreTold lines x × (new ≡ picked_of process lines x)
-pick_is process lines made count without others old new tolds t m n h k u e = (
+pick_is process lines made count without others again old new tolds t m n h k u w e = (
   tolds,
   t,
-  e ∙ ap (λ (x : ℕ). with_numbers x others old) (k ∙ ap (λ (x : List Made). within_32_bits (silent x tolds)) m)
-      ∙ ap (λ (x : ℕ). with_numbers (within_32_bits (silent (made_from 0 tolds) tolds)) x old)
+  e ∙ ap (λ (x : ℕ). with_numbers x others again old) (k ∙ ap (λ (x : List Made). within_32_bits (silent x tolds)) m)
+      ∙ ap (λ (x : ℕ). with_numbers (within_32_bits (silent (made_from 0 tolds) tolds)) x again old)
       (u ∙ ap (λ (x : List Made). within_32_bits (unmade x tolds)) m)
-      ∙ ap (with_numbers (within_32_bits (silent (made_from 0 tolds) tolds)) (within_32_bits (unmade (made_from 0 tolds) tolds)))
+      ∙ ap (λ (x : ℕ). with_numbers (within_32_bits (silent (made_from 0 tolds) tolds)) (within_32_bits (unmade (made_from 0 tolds) tolds)) x old)
+      (w ∙ ap (λ (x : List Made). within_32_bits (twice x)) m)
+      ∙ ap (with_numbers (within_32_bits (silent (made_from 0 tolds) tolds)) (within_32_bits (unmade (made_from 0 tolds) tolds))
+      (within_32_bits (twice (made_from 0 tolds))))
       (h ∙ ap (λ (x : List Made). picked (has_line process x count) 0 lines tolds) m
       ∙ ap (λ (x : ℕ). picked (has_line process (made_from 0 tolds) x) 0 lines tolds)
       (n ∙ sym (told_length lines tolds t))),

@@ -16,8 +16,8 @@ use Rattle.raw_logs.specs.declared.spaces.Makers.{Makers}
 use Rattle.raw_logs.specs.declared.spaces.Space.{Space}
 use Rattle.raw_logs.specs.declared.told.Told.{Told}
 use Rattle.raw_logs.specs.Log.{Numbered}
-use Rattle.raw_logs.specs.Spaces.{ends, ended_by, link_of, led, space_of, before_by, before_in, speaks, silent, is_made, unmade}
-use Rattle.raw_logs.specs.Stages.{HasMade, space_or, space_in, HasSpaces, IsPast, or_else, HasSpeakers, HasKnown}
+use Rattle.raw_logs.specs.Spaces.{ends, ended_by, link_of, led, space_of, before_by, before_in, speaks, silent, twice, is_made, unmade}
+use Rattle.raw_logs.specs.Stages.{HasMade, space_or, space_in, HasSpaces, IsPast, or_else, HasSpeakers, HasNumbers, HasKnown}
 use Rattle.raw_logs.specs.Told.{Tells, AreTold, all_told, line_told}
 use Rattle.raw_logs.proofs.ToldFacts.{tells_one}
 
@@ -172,6 +172,29 @@ pub speakers_more : (old new : BTreeSet ℕ) (line : Numbered) (done : List Numb
 speakers_more old new line done told tells h put ts (line_told {told = t} {tolds = us} tell more) q =
     put q ∙ ap (λ (b : Bool). if told.pid == q then true else b) (h us more q)
     ∙ ap (λ (x : Told). if x.pid == q then true else speaks q us) (tells_one line.text told t tells tell)
+
+-- ---- numbers that were made twice
+
+-- a link more
+pub numbers_made : (old new : BTreeSet ℕ) (link : Made) (done : List Made) → HasNumbers old done
+    → ((q : ℕ) → contains nat_cmp new q ≡ (if link.child == q then true else contains nat_cmp old q)) → HasNumbers new (link ∷ done)
+numbers_made old new link done h put q = put q ∙ ap (λ (b : Bool). if link.child == q then true else b) (h q)
+
+-- whose number is new
+pub twice_same : (old : BTreeSet ℕ) (link : Made) (done : List Made) (count : ℕ) → HasNumbers old done → count ≡ within_32_bits (twice done)
+    → contains nat_cmp old link.child ≡ false → count ≡ within_32_bits (twice (link ∷ done))
+twice_same old link done count k h e =
+    h ∙ sym (ap (λ (b : Bool). within_32_bits (if b then twice done + 1 else twice done)) (sym (k link.child) ∙ e))
+
+-- or was made before
+pub twice_more : (old : BTreeSet ℕ) (link : Made) (done : List Made) (count new : ℕ) → HasNumbers old done → count ≡ within_32_bits (twice done)
+    → new ≡ within_32_bits (count + 1) → contains nat_cmp old link.child ≡ true → new ≡ within_32_bits (twice (link ∷ done))
+twice_more old link done count new k h n e =
+    n ∙ ap (λ (x : ℕ). within_32_bits (x + 1)) h ∙ still (twice done)
+    ∙ sym (ap (λ (b : Bool). within_32_bits (if b then twice done + 1 else twice done)) (sym (k link.child) ∙ e))
+  where
+    still : (a : ℕ) → within_32_bits (within_32_bits a + 1) ≡ within_32_bits (a + 1)
+    still a = omega arith
 
 -- ---- numbers that no link made
 

@@ -15,7 +15,7 @@ use Rattle.raw_logs.specs.declared.told.Form.TheVariants.{Blank, Unknown, Long, 
 use Rattle.raw_logs.specs.declared.told.Told.{Told}
 use Rattle.raw_logs.specs.Counting.{within_32_bits, no_counts, one_more_of}
 use Rattle.raw_logs.specs.Log.{Numbered}
-use Rattle.raw_logs.specs.Spaces.{made_from, has_line, speaks, silent, unmade, foreign}
+use Rattle.raw_logs.specs.Spaces.{made_from, has_line, speaks, silent, twice, unmade, foreign}
 
 -- what is picked of lines
 pub record Picked : Type 0 where
@@ -56,11 +56,11 @@ hides (Ends child) = false
 hides Execs = false
 hides Nothing = false
 
--- a line of the space, before these
+-- a line of the space, before these; one that is too long to be written still tells of execve
 abbrev pub with_own : Form → Numbered → Making → Picked → Picked
 with_own Blank line making p = p
 with_own Unknown line making p = record p { counts = one_more_of OfUnknown p.counts; unknown = Some line.number }
-with_own Long line making p = record p { counts = one_more_of OfLong p.counts }
+with_own Long line making p = record p { counts = one_more_of OfLong p.counts; ended = execs making }
 with_own TooLong line making p = record p { too_long = Some line.number }
 with_own Whole line making p =
     record p { lines = line ∷ p.lines; counts = if hides making then one_more_of Untold p.counts else p.counts; ended = execs making }
@@ -85,15 +85,16 @@ picked here place [] tolds = nothing_picked
 picked here place (line ∷ lines) [] = nothing_picked
 picked here place (line ∷ lines) (told ∷ tolds) = with_line (here place told) line told (picked here (place + 1) lines tolds)
 
--- what is picked, with how many numbers were made that have no line, and how many others have
-abbrev pub with_numbers : ℕ → ℕ → Picked → Picked
-with_numbers m n p = record p { counts = record (p.counts) { silent = m; foreign = foreign m n } }
+-- what is picked, with how many numbers were made that have no line, how many others have, and how many were made
+-- twice
+abbrev pub with_numbers : ℕ → ℕ → ℕ → Picked → Picked
+with_numbers m n again p = record p { counts = record (p.counts) { silent = m; foreign = foreign n; twice = again } }
 
 -- what is picked of a log
 abbrev pub picked_of : Option ℕ → List Numbered → List Told → Picked
 picked_of process lines tolds =
     with_numbers (within_32_bits (silent (made_from 0 tolds) tolds)) (within_32_bits (unmade (made_from 0 tolds) tolds))
-    (picked (has_line process (made_from 0 tolds) (length tolds)) 0 lines tolds)
+    (within_32_bits (twice (made_from 0 tolds))) (picked (has_line process (made_from 0 tolds) (length tolds)) 0 lines tolds)
 
 -- a line is too long
 abbrev pub long_fault : Option ℕ → Option LogFault

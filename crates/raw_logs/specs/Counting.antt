@@ -5,7 +5,7 @@ use Rattle.std.specs.Prelude.{ℕ, ◌+◌, ◌-◌, ◌^◌, min}
 use Rattle.raw_logs.specs.declared.counts.Counts.{Counts}
 use Rattle.raw_logs.specs.declared.counts.Sort.{Sort}
 use Rattle.raw_logs.specs.declared.counts.Sort.TheVariants.{Messages, Stack, Stripped, Numbered, Elsewhere, Earlier, Unknown, Long, Untold, Joined, Mended}
-use Rattle.raw_logs.specs.declared.counts.Sort.TheVariants.{Unreturned, Unread, Forms}
+use Rattle.raw_logs.specs.declared.counts.Sort.TheVariants.{Unreturned, Unread, Forms, Injected, Outside, Unanswered}
 
 -- a number that stays at the end of 32 bits
 abbrev pub within_32_bits : ℕ → ℕ
@@ -25,11 +25,15 @@ no_counts = record {
   untold = 0;
   silent = 0;
   foreign = 0;
+  twice = 0;
   joined = 0;
   mended = 0;
   unreturned = 0;
   unread = 0;
   forms = 0;
+  injected = 0;
+  outside = 0;
+  unanswered = 0;
 }
 
 -- one line more of this sort
@@ -48,6 +52,9 @@ one_more_of Mended c = record c { mended = within_32_bits (c.mended + 1) }
 one_more_of Unreturned c = record c { unreturned = within_32_bits (c.unreturned + 1) }
 one_more_of Unread c = record c { unread = within_32_bits (c.unread + 1) }
 one_more_of Forms c = record c { forms = within_32_bits (c.forms + 1) }
+one_more_of Injected c = record c { injected = within_32_bits (c.injected + 1) }
+one_more_of Outside c = record c { outside = within_32_bits (c.outside + 1) }
+one_more_of Unanswered c = record c { unanswered = within_32_bits (c.unanswered + 1) }
 
 -- the sums of two counts
 abbrev pub both : Counts → Counts → Counts
@@ -63,9 +70,13 @@ both a b = record {
   untold = within_32_bits (a.untold + b.untold);
   silent = within_32_bits (a.silent + b.silent);
   foreign = within_32_bits (a.foreign + b.foreign);
+  twice = within_32_bits (a.twice + b.twice);
   joined = within_32_bits (a.joined + b.joined);
   mended = within_32_bits (a.mended + b.mended);
   unreturned = within_32_bits (a.unreturned + b.unreturned);
   unread = within_32_bits (a.unread + b.unread);
   forms = within_32_bits (a.forms + b.forms);
+  injected = within_32_bits (a.injected + b.injected);
+  outside = within_32_bits (a.outside + b.outside);
+  unanswered = within_32_bits (a.unanswered + b.unanswered);
 }

@@ -101,6 +101,11 @@ abbrev pub is_made : ℕ → List Made → Bool
 is_made pid [] = false
 is_made pid (link ∷ earlier) = if link.child == pid then true else is_made pid earlier
 
+-- how many links made a number that an earlier one made
+abbrev pub twice : List Made → ℕ
+twice [] = 0
+twice (link ∷ earlier) = if is_made link.child earlier then twice earlier + 1 else twice earlier
+
 -- the number is no new one beside these lines: 0 stands where a line has none, and others speak there or were made
 abbrev pub is_known : ℕ → List Made → List Told → Bool
 is_known pid made tolds = if 0 == pid then true else if speaks pid tolds then true else is_made pid made
@@ -110,7 +115,6 @@ abbrev pub unmade : List Made → List Told → ℕ
 unmade made [] = 0
 unmade made (told ∷ tolds) = if is_known told.pid made tolds then unmade made tolds else unmade made tolds + 1
 
--- One of these is the program's own. Where numbers that were made have no line, the others may be the same processes in
--- another numbering.
-abbrev pub foreign : ℕ → ℕ → ℕ
-foreign silent unmade = if silent == 0 then 0 else unmade - 1
+-- One of these is the program's own. The others may be its threads, or other programs: no line tells.
+abbrev pub foreign : ℕ → ℕ
+foreign unmade = unmade - 1

@@ -24,7 +24,7 @@ use Rattle.raw_logs.specs.declared.told.Told.{Told}
 use Rattle.raw_logs.specs.Choosing.{Picked, picked}
 use Rattle.raw_logs.specs.Log.{Numbered, line_of, LineKind, IsKind, Each, healed, changed, count_changes, IsStripped}
 use Rattle.raw_logs.specs.Numbering.{IsRenumbered}
-use Rattle.raw_logs.specs.Spaces.{made_from, ended_by, space_of, before_in, speaks, is_known}
+use Rattle.raw_logs.specs.Spaces.{made_from, ended_by, space_of, before_in, speaks, is_made, is_known}
 use Rattle.raw_logs.specs.Told.{AreTold}
 
 -- no text is longer than a line may be
@@ -117,6 +117,10 @@ IsPastOf (Some asked) made count (Some past) = IsPast past made asked count
 pub record IsChooser (process : Option ℕ) (made : List Made) (count : ℕ) (chooser : Chooser) : Type 0 where
   pub spaces : HasSpaces chooser.spaces made
   pub past : IsPastOf process made count chooser.past
+
+-- the set has the numbers that links made
+abbrev pub HasNumbers : BTreeSet ℕ → List Made → Type 0
+HasNumbers found made = (q : ℕ) → contains nat_cmp found q ≡ is_made q made
 
 -- the set has 0, the numbers that links made, and those that have a line
 abbrev pub HasKnown : BTreeSet ℕ → List Made → List Told → Type 0

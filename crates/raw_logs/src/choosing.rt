@@ -68,7 +68,10 @@ impl Picker {
                 self.counts.add(Sort::Unknown);
                 self.unknown = Some(number);
             }
-            Form::Long => self.counts.add(Sort::Long),
+            Form::Long => {
+                self.counts.add(Sort::Long);
+                self.ended = execs(told.making);
+            }
             Form::TooLong => self.too_long = Some(number),
             Form::Whole => {
                 if hides(told.making) {
@@ -125,14 +128,16 @@ impl Picker {
     }
 }
 
-/// What was picked, with how many numbers were made that have no line, and how many others have.
-pub(crate) fn with_numbers(picker: Picker, silent: u32, unmade: u32) -> Picker
-    ensures seen { (lines : List Numbered) → seen lines result ≡ with_numbers silent unmade (seen lines picker) }
+/// What was picked, with how many numbers were made that have no line, how many others have, and how many were made
+/// twice.
+pub(crate) fn with_numbers(picker: Picker, silent: u32, unmade: u32, twice: u32) -> Picker
+    ensures seen { (lines : List Numbered) → seen lines result ≡ with_numbers silent unmade twice (seen lines picker) }
     ensures start { result.start ≡ picker.start }
 {
     let mut picker = picker;
     picker.counts.silent = silent;
-    picker.counts.foreign = foreign(silent, unmade);
+    picker.counts.foreign = foreign(unmade);
+    picker.counts.twice = twice;
     picker
 }
 

@@ -34,6 +34,12 @@ pub enum Sort {
     Unread,
     /// Calls that change an address space in a form that the profile hasn't.
     Forms,
+    /// Calls whose result strace made up, so that the kernel didn't do them.
+    Injected,
+    /// Calls that failed for a reason outside the address space.
+    Outside,
+    /// Calls whose result isn't told.
+    Unanswered,
 }
 
 /// How many lines of each sort there were.
@@ -59,8 +65,10 @@ pub struct Counts {
     pub untold: u32,
     /// Numbers that calls made and that have no line.
     pub silent: u32,
-    /// Numbers that have a line and that no call made, but for one, where there are silent ones.
+    /// Numbers that have a line and that no call made, but for one.
     pub foreign: u32,
+    /// Calls that made a number which an earlier call had made: two threads or processes have lines of that number.
+    pub twice: u32,
     /// Calls in two halves.
     pub joined: u32,
     /// Calls that were mended.
@@ -71,6 +79,12 @@ pub struct Counts {
     pub unread: u32,
     /// Calls that change an address space in a form that the profile hasn't.
     pub forms: u32,
+    /// Calls whose result strace made up.
+    pub injected: u32,
+    /// Calls that failed for a reason outside the address space.
+    pub outside: u32,
+    /// Calls whose result isn't told.
+    pub unanswered: u32,
 }
 
 /// A count with one line more; it stays at 2^32 - 1.
@@ -99,11 +113,15 @@ impl Counts {
             untold: 0,
             silent: 0,
             foreign: 0,
+            twice: 0,
             joined: 0,
             mended: 0,
             unreturned: 0,
             unread: 0,
             forms: 0,
+            injected: 0,
+            outside: 0,
+            unanswered: 0,
         }
     }
 
@@ -126,6 +144,9 @@ impl Counts {
             Sort::Unreturned => self.unreturned = one_more(self.unreturned),
             Sort::Unread => self.unread = one_more(self.unread),
             Sort::Forms => self.forms = one_more(self.forms),
+            Sort::Injected => self.injected = one_more(self.injected),
+            Sort::Outside => self.outside = one_more(self.outside),
+            Sort::Unanswered => self.unanswered = one_more(self.unanswered),
         }
     }
 
@@ -145,11 +166,15 @@ impl Counts {
             untold: self.untold.saturating_add(other.untold),
             silent: self.silent.saturating_add(other.silent),
             foreign: self.foreign.saturating_add(other.foreign),
+            twice: self.twice.saturating_add(other.twice),
             joined: self.joined.saturating_add(other.joined),
             mended: self.mended.saturating_add(other.mended),
             unreturned: self.unreturned.saturating_add(other.unreturned),
             unread: self.unread.saturating_add(other.unread),
             forms: self.forms.saturating_add(other.forms),
+            injected: self.injected.saturating_add(other.injected),
+            outside: self.outside.saturating_add(other.outside),
+            unanswered: self.unanswered.saturating_add(other.unanswered),
         }
     }
 }

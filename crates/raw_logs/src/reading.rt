@@ -18,7 +18,7 @@ use crate::counts::Counts;
 use crate::fault::LogFault;
 use crate::healing::{Changed, Part, heal_numbered, split_log};
 use crate::lines::Lines;
-use crate::spaces::{all_made, chooser_of, silent, speakers, unmade};
+use crate::spaces::{all_made, chooser_of, silent, speakers, twice, unmade};
 use std::alloc::{AllocError, Global};
 use std::collections::BTreeSet;
 
@@ -95,8 +95,9 @@ fn pick_lines(
     let made = all_made(alloc, &lines)?;
     let chooser = chooser_of(alloc, made.as_slice(), process, count)?;
     let others = unmade(alloc, &lines, made.as_slice())?;
+    let again = twice(alloc, made.as_slice())?;
     let picked = pick(alloc, &lines, &chooser)?;
-    let picker = with_numbers(picked, silent(made.as_slice(), speakers), others);
+    let picker = with_numbers(picked, silent(made.as_slice(), speakers), others, again);
     let kept = chosen(alloc, lines, &chooser, picker.start)?;
     Ok((picker, kept))
 }

@@ -9,10 +9,10 @@ ghost use Rattle.std.specs.Ordering.{nat_cmp};
 ghost use Rattle.std.specs.Prelude.{◌≢◌, ◌<◌, ◌^◌, ◌==◌, Some, None, true, if◌then◌else◌};
 ghost use Rattle.raw_logs.specs.declared.spaces.Made.{Made as MadeOf};
 ghost use Rattle.raw_logs.specs.declared.told.Told.{Told as ToldOf};
-ghost use Rattle.raw_logs.specs.Spaces.{links, made_from, led, has_line, speaks, silent, unmade, foreign};
+ghost use Rattle.raw_logs.specs.Spaces.{links, made_from, led, has_line, speaks, silent, twice, unmade, foreign};
 ghost use Rattle.raw_logs.specs.Counting.{within_32_bits};
 ghost use Rattle.raw_logs.specs.Told.{AreTold};
-ghost use Rattle.raw_logs.specs.Stages.{HasMade, space_in, HasSpaces, IsPast, IsChooser, or_else, HasSpeakers, HasKnown};
+ghost use Rattle.raw_logs.specs.Stages.{HasMade, space_in, HasSpaces, IsPast, IsChooser, or_else, HasSpeakers, HasNumbers, HasKnown};
 
 use crate::lines::Lines;
 use crate::told::{Told, told_of};
@@ -333,6 +333,35 @@ fn made_numbers(alloc: Global, made: &[Made]) -> Result<BTreeSet<u32>, AllocErro
     Ok(found)
 }
 
+/// Counts a link whose number was made before; the count stays at 2^32 - 1.
+fn count_again(found: &mut BTreeSet<u32>, link: Made, count: u32) -> Result<u32, AllocError>
+    ensures found { OnOk result ((done : List MadeOf) → HasNumbers found.old done → HasNumbers found.new (link ∷ done)) }
+    ensures count { IfOk result (λ next. (done : List MadeOf) → HasNumbers found.old done
+        → count ≡ within_32_bits (twice done) → next ≡ within_32_bits (twice (link ∷ done))) }
+{
+    if found.contains(&link.child) {
+        put_number(found, link.child)?;
+        return Ok(count.saturating_add(1));
+    }
+    put_number(found, link.child)?;
+    Ok(count)
+}
+
+/// How many links made a number that an earlier one made; the count stays at 2^32 - 1.
+pub(crate) fn twice(alloc: Global, made: &[Made]) -> Result<u32, AllocError>
+    ensures { IfOk result (λ count. count ≡ within_32_bits (twice made.now)) }
+{
+    let mut found = BTreeSet::new(alloc);
+    let mut count: u32 = 0;
+    let mut left = made;
+    'links: while let Some((link, later)) = left.split_last() {
+        let next = count_again(&mut found, *link, count)?;
+        count = next;
+        left = later;
+    }
+    Ok(count)
+}
+
 /// Counts the number of a line, where it isn't known yet; the count stays at 2^32 - 1.
 fn count_new(known: &mut BTreeSet<u32>, told: Told, count: u32) -> Result<u32, AllocError>
     ensures known { OnOk result ((made : List MadeOf) (tolds : List ToldOf) → HasKnown known.old made tolds → HasKnown known.new made (told ∷ tolds)) }
@@ -361,13 +390,10 @@ pub(crate) fn unmade(alloc: Global, lines: &Lines, made: &[Made]) -> Result<u32,
     Ok(count)
 }
 
-/// How many numbers may be of another numbering.
-pub(crate) fn foreign(silent: u32, unmade: u32) -> u32
-    ensures { result ≡ foreign silent unmade }
+/// Of so many numbers that no link made, how many may be of other programs.
+pub(crate) fn foreign(unmade: u32) -> u32
+    ensures { result ≡ foreign unmade }
 {
-    if silent == 0 {
-        return 0;
-    }
     unmade.saturating_sub(1)
 }
 

@@ -10,7 +10,7 @@ use Rattle.raw_lines.proofs.MarkFacts.{each_by}
 use Rattle.raw_logs.specs.Log.{Numbered, texts_of, Each}
 use Rattle.raw_logs.proofs.CleanLogs.{IsClean, EachLine, line_back}
 use Rattle.raw_trace.specs.declared.settling.Ending.{Ending}
-use Rattle.raw_trace.specs.Places.{ReadText, IsReadText, Part, Front, Becomes, becomes_itself, becomes_mended, becomes_unreturned, becomes_unread}
+use Rattle.raw_trace.specs.Places.{ReadText, IsReadText, Part, Front, Becomes, becomes_itself, becomes_mended, becomes_unreturned, becomes_undone, becomes_unread}
 use Rattle.raw_trace.specs.Rewriting.{text_of}
 use Rattle.raw_trace.proofs.EachEntries.{line_in}
 use Rattle.raw_trace.proofs.ReadTexts.{HasPart, near_each}
@@ -54,7 +54,8 @@ pub becomes_clean : (line written : List ℕ) (ending : Ending) → IsClean line
 becomes_clean line written ending h (becomes_itself g) = h
 becomes_clean line written ending h (becomes_mended bad r short m g) = all_mends_clean 3 line written h m.0
 becomes_clean line written ending h (becomes_unreturned g) = each_whole (isnt 10) line (codes ") = ?") h (each_by (isnt 10) (codes ") = ?") refl)
-becomes_clean line written ending h (becomes_unread never half none) = each_whole (isnt 10) unread_mark line (each_by (isnt 10) unread_mark refl) h
+becomes_clean line written ending h (becomes_undone l) = each_whole (isnt 10) unread_mark line (each_by (isnt 10) unread_mark refl) h
+becomes_clean line written ending h (becomes_unread never half left none) = each_whole (isnt 10) unread_mark line (each_by (isnt 10) unread_mark refl) h
 
 -- the line of two halves has none
 pub joined_clean : (first second : List ℕ) (to behind : ℕ) → IsClean first → IsClean second → IsClean (take to first ++ drop behind second)

@@ -9,7 +9,8 @@ use Rattle.raw_trace.specs.declared.order.Ordering.{Ordering}
 use Rattle.raw_trace.specs.Faults.{IsFirstFault}
 use Rattle.raw_trace.specs.Order.{Entry, Step, frees_for, does, order}
 use Rattle.raw_trace.specs.Places.{ReadText, IsReadText, IsStep, AreSteps}
-use Rattle.raw_trace.specs.Rewriting.{text_of, lines_as, counted_all, calls_after}
+use Rattle.raw_trace.specs.declared.tally.Tally.{Tally}
+use Rattle.raw_trace.specs.Rewriting.{text_of, lines_as, counted_all, no_calls, calls_after}
 use Rattle.raw_trace.specs.Stages.{entries, fed_by, EachEntry, MayBeWritten, WroteDue, EndsDue, WroteAll, EndsAll, DidSome, StandsAt, AreRoles}
 use Rattle.raw_trace.proofs.EachEntries.{each_both}
 use Rattle.raw_trace.proofs.OneFault.{first_more, first_behind}
@@ -29,7 +30,7 @@ steps_more fed xs x later steps step are is = absurd are
 
 -- nothing was done yet
 pub did_none : (strict : Bool) (lines : List Numbered) (roles : List Role) (counts : Counts) (now : Ordering) → AreRoles lines roles → now.waiting.items ≡ []
-    → now.written.out.items ≡ [] → now.written.counts ≡ counts → now.written.calls ≡ 0 → DidSome strict lines 0 counts now
+    → now.written.out.items ≡ [] → now.written.counts ≡ counts → now.written.calls ≡ no_calls → DidSome strict lines 0 counts now
 did_none strict lines roles counts now r w o c n =
     record {
       fed = [];
@@ -79,7 +80,7 @@ did_more strict lines place counts old new d role x step is did =
           ∙ sym (append_assoc d.written found.lines (order frees_for (entries new.waiting.items) more));
       out = did.wrote.out ∙ ap (λ (z : List ℕ). z ++ text_of (lines_as found.lines)) d.out ∙ sym (text_both d.written found.lines);
       sum = did.wrote.counts ∙ ap (λ (z : Counts). counted_all z found.lines) d.sum ∙ sym (counted_both counts d.written found.lines);
-      calls = did.wrote.calls ∙ ap (λ (z : ℕ). calls_after z found.lines) d.calls ∙ sym (calls_both 0 d.written found.lines);
+      calls = did.wrote.calls ∙ ap (λ (z : Tally). calls_after z found.lines) d.calls ∙ sym (calls_both no_calls d.written found.lines);
       may = each_both (MayBeWritten strict) d.written found.lines d.may did.wrote.may;
     }
 
@@ -123,6 +124,6 @@ did_all strict lines place counts now w l = by w.later refl
           are = subst (λ (x : List ReadText). AreSteps [] w.fed x w.steps) e w.are;
           out = w.out ∙ ap (λ (x : List Entry). text_of (lines_as x)) (sym o);
           sum = w.sum ∙ ap (λ (x : List Entry). counted_all counts x) (sym o);
-          calls = w.calls ∙ ap (λ (x : List Entry). calls_after 0 x) (sym o);
+          calls = w.calls ∙ ap (λ (x : List Entry). calls_after no_calls x) (sym o);
           may = subst (EachEntry (MayBeWritten strict)) (sym o) w.may;
         }

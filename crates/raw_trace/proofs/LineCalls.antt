@@ -19,8 +19,9 @@ use Rattle.raw_logs.proofs.CleanLogs.{IsClean, EachLine, texts_clean}
 use Rattle.raw_trace.specs.declared.calls.ReadCall.{ReadCall}
 use Rattle.raw_trace.specs.declared.settling.Ending.{Ending}
 use Rattle.raw_trace.specs.Order.{Entry, Step, frees_for, order}
-use Rattle.raw_trace.specs.Places.{Becomes, becomes_itself, becomes_mended, becomes_unreturned, becomes_unread, IsReadAs, IsEntry, ReadText, part, AreSteps}
+use Rattle.raw_trace.specs.Places.{Becomes, becomes_itself, becomes_mended, becomes_unreturned, becomes_undone, becomes_unread, IsReadAs, IsEntry, ReadText, part, AreSteps}
 use Rattle.raw_logs.specs.declared.counts.Counts.{Counts}
+use Rattle.raw_trace.specs.declared.tally.Tally.{Tally}
 use Rattle.raw_trace.specs.Rewriting.{lines_as, calls_of, IsRewriting}
 use Rattle.raw_trace.specs.Stages.{EachEntry}
 use Rattle.raw_trace.specs.Laws.{ReadsAs, all_read, reads_text, KeepsCalls}
@@ -95,7 +96,8 @@ becomes_whole : (line written : List ℕ) (ending : Ending) → Becomes line wri
 becomes_whole line written ending (becomes_itself g) = g.0
 becomes_whole line written ending (becomes_mended bad r short m g) = g.0
 becomes_whole line written ending (becomes_unreturned h) = h.5.0
-becomes_whole line written ending (becomes_unread never half none) = (Other, unread_passes line, tt)
+becomes_whole line written ending (becomes_undone l) = (Other, unread_passes line, tt)
+becomes_whole line written ending (becomes_unread never half left none) = (Other, unread_passes line, tt)
 
 entry_written : (number : ℕ) (joined : Bool) (line : List ℕ) (entry : Entry) → IsClean line → IsEntry number joined line entry → IsWritten entry
 entry_written number joined line entry c is =
@@ -145,7 +147,7 @@ reads heard (e ∷ entries) w h =
     (reads (e.line ∷ heard) entries ((h.0.item, h.0.spelled, h.0.whole), w) h.1) h.0.item h.0.spelled h.0.whole
 
 -- the lines of what is written are those of its entries
-pub lines_written : (process : Option ℕ) (bytes out : List ℕ) (counts : Counts) (number : ℕ) → (is : IsRewriting process bytes out counts number)
+pub lines_written : (process : Option ℕ) (bytes out : List ℕ) (counts : Counts) (number : Tally) → (is : IsRewriting process bytes out counts number)
     → EachEntry IsWritten (order frees_for [] is.steps) × (lines_of out ≡ lines_as (order frees_for [] is.steps))
 lines_written process bytes out counts number is =
     let clean = clean_texts is.chosen is.read is.reads (texts_clean process bytes is.chosen is.before is.texts) in

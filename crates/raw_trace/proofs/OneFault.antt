@@ -1,18 +1,15 @@
 -- A log has one fault at most: the first line in the order that may not be written is one, for one cause.
 use Rattle.std.proofs.Common.{◌≡◌, ℕ, List, [], ◌∷◌, ◌++◌, Bool, Option, Some, None, refl, sym, ap, subst, ◌∙◌, append_assoc, inl, inr, arith}
 use Rattle.std.proofs.lemmas.List.{append-nil}
-use Rattle.raw_logs.specs.declared.fault.LogFault.{LogFault}
 use Rattle.raw_logs.specs.Log.{Numbered, Each}
-use Rattle.raw_logs.specs.Reading.{IsFirstUnknown, IsLogFault}
-use Rattle.raw_logs.proofs.OneLog.{read_one, texts_one, unknown_one, log_fault_one, texts_no_fault}
+use Rattle.raw_logs.proofs.OneLog.{texts_one, unknown_one, log_fault_one, texts_no_fault}
 use Rattle.raw_trace.specs.declared.fault.Cause.{Cause}
-use Rattle.raw_trace.specs.declared.fault.Cause.TheVariants.{Unknown}
 use Rattle.raw_trace.specs.declared.fault.Trouble.{Trouble}
 use Rattle.raw_trace.specs.declared.fault.Fault.{Fault}
 use Rattle.raw_trace.specs.declared.fault.Fault.TheVariants.{Unreadable, LongLine, NoProcess, Memory}
 use Rattle.raw_trace.specs.Order.{Entry, Step, frees_for, does, order}
 use Rattle.raw_trace.specs.Places.{ReadText, IsReadText, IsStep, AreSteps}
-use Rattle.raw_trace.specs.Faults.{of_log, IsEntryFault, IsFirstFault, Stops}
+use Rattle.raw_trace.specs.Faults.{of_log, IsEntryFault, IsFirstFault, Stops, unknown_at, earlier_of, asked_unknown, IsTextsFault}
 use Rattle.raw_trace.specs.Laws.{HasOneFault}
 use Rattle.raw_trace.specs.Stages.{MayBeWritten, EachEntry}
 use Rattle.raw_trace.proofs.OneWay.{steps_one}
@@ -154,25 +151,26 @@ never_stops strict lines texts steps reads are may fault h =
 
 -- ---- the whole
 
--- a log that is read has no fault of its reading
-pub no_unknown : (process : Option ℕ) (bytes : List ℕ) (f : LogFault) (u : Option ℕ) → IsFirstUnknown process bytes u → IsLogFault process bytes f → ⊥
-no_unknown process bytes f u x h = let s = (read_one process bytes x.0 h.0 None (Some f) x.1 h.1).1 in absurd cc
+-- texts that aren't written have one fault
+texts_fault_one : (strict : Bool) (texts : List Numbered) (unknown : Option ℕ) (a b : Fault) → IsTextsFault strict texts unknown a
+    → IsTextsFault strict texts unknown b → a ≡ b
+texts_fault_one strict texts unknown a b (inl h) (inl g) = h.2 ∙ ap (earlier_of unknown) (stops_one strict texts h.0 g.0 h.1 g.1) ∙ sym g.2
+texts_fault_one strict texts unknown a b (inl h) (inr g) = absurd (g.0 h.0 h.1)
+texts_fault_one strict texts unknown a b (inr h) (inl g) = absurd (h.0 g.0 g.1)
+texts_fault_one strict texts unknown a b (inr h) (inr g) =
+    let k : ◌≡◌ {A = Option ℕ} (Some h.1) (Some g.1) = sym h.2 ∙ g.2 in
+    let n : h.1 ≡ g.1 = cc in
+    h.3 ∙ ap unknown_at n ∙ sym g.3
 
 -- a log has one fault
 pub fault_one : HasOneFault
 fault_one process strict bytes a b (inl h) (inl g) = h.2 ∙ ap of_log (log_fault_one process bytes h.0 g.0 h.1 g.1) ∙ sym g.2
-fault_one process strict bytes a b (inl h) (inr (inl g)) = absurd (no_unknown process bytes h.0 (Some g.1) g.2 h.1)
-fault_one process strict bytes a b (inl h) (inr (inr g)) = absurd (texts_no_fault process bytes g.1 g.2 h.0 g.3 h.1)
-fault_one process strict bytes a b (inr (inl h)) (inl g) = absurd (no_unknown process bytes g.0 (Some h.1) h.2 g.1)
-fault_one process strict bytes a b (inr (inl h)) (inr (inl g)) =
-    let k : ◌≡◌ {A = Option ℕ} (Some h.1) (Some g.1) = unknown_one process bytes (Some h.1) (Some g.1) h.2 g.2 in
-    let n : h.1 ≡ g.1 = cc in
-    h.3 ∙ ap (λ (x : ℕ). Unreadable x 1 Unknown) n ∙ sym g.3
-fault_one process strict bytes a b (inr (inl h)) (inr (inr g)) =
-    let k : ◌≡◌ {A = Option ℕ} (Some h.1) None = unknown_one process bytes (Some h.1) None h.2 (g.0 h.0) in absurd cc
-fault_one process strict bytes a b (inr (inr h)) (inl g) = absurd (texts_no_fault process bytes h.1 h.2 g.0 h.3 g.1)
-fault_one process strict bytes a b (inr (inr h)) (inr (inl g)) =
-    let k : ◌≡◌ {A = Option ℕ} (Some g.1) None = unknown_one process bytes (Some g.1) None g.2 (h.0 g.0) in absurd cc
-fault_one process strict bytes a b (inr (inr h)) (inr (inr g)) =
-    let s = texts_one process bytes h.1 g.1 h.2 g.2 h.3 g.3 in
-    stops_one strict g.1 a b (subst (λ (x : List Numbered). Stops strict x a) s.0 h.4) g.4
+fault_one process strict bytes a b (inl h) (inr g) = absurd (texts_no_fault process bytes g.0 g.1 h.0 g.3 h.1)
+fault_one process strict bytes a b (inr h) (inl g) = absurd (texts_no_fault process bytes h.0 h.1 g.0 h.3 g.1)
+fault_one process strict bytes a b (inr h) (inr g) =
+    let s = (texts_one process bytes h.0 g.0 h.1 g.1 h.3 g.3).0 in
+    let u = unknown_one process bytes h.2 g.2 h.4 g.4 in
+    let there : IsTextsFault strict g.0 (asked_unknown strict g.2) a =
+    subst (λ (x : List Numbered). IsTextsFault strict x (asked_unknown strict g.2) a) s
+    (subst (λ (x : Option ℕ). IsTextsFault strict h.0 (asked_unknown strict x) a) u h.5) in
+    texts_fault_one strict g.0 (asked_unknown strict g.2) a b there g.5

@@ -16,12 +16,12 @@ use Rattle.raw_trace.specs.declared.fault.Cause.TheVariants.{Form, Alone, Unclea
 use Rattle.raw_trace.specs.declared.fault.Trouble.{Trouble}
 use Rattle.raw_trace.specs.declared.settling.Ending.{Ending}
 use Rattle.raw_trace.specs.Order.{Entry, Step, Begins, Ends, Comes, frees_for, order}
-use Rattle.raw_trace.specs.Places.{Becomes, becomes_itself, becomes_mended, becomes_unreturned, becomes_unread}
+use Rattle.raw_trace.specs.Places.{Becomes, IsUndone, becomes_itself, becomes_mended, becomes_unreturned, becomes_undone, becomes_unread}
 use Rattle.raw_trace.specs.Places.{ReadText, IsReadText, Part, Whole, Front, Back, part, IsReadAs, IsCauseAt, IsTrouble, IsEntry, IsDone, AreSteps}
-use Rattle.raw_trace.specs.Rewriting.{text_of, lines_as, counted_all, calls_after}
+use Rattle.raw_trace.specs.Rewriting.{text_of, lines_as, counted_all, no_calls, calls_after}
 use Rattle.raw_trace.specs.Laws.{HasOneRewriting}
 use Rattle.raw_trace.proofs.ReadTexts.{reads_one}
-use Rattle.raw_trace.proofs.GoodLines.{half_not_good, refused_not_good, refused_no_half}
+use Rattle.raw_trace.proofs.GoodLines.{half_not_good, refused_not_good, refused_no_half, good_stays, refused_stays, half_stays, shown_one, undone_one}
 
 -- ---- what a line becomes
 
@@ -34,19 +34,31 @@ pub becomes_one : (line a b : List ℕ) (e f : Ending) → Becomes line a e → 
 becomes_one line a b e f (becomes_itself h) (becomes_itself g) = (refl, refl)
 becomes_one line a b e f (becomes_itself h) (becomes_mended bad r short m g) = absurd (refused_not_good line bad r h)
 becomes_one line a b e f (becomes_itself h) (becomes_unreturned g) = absurd (half_not_good line g h)
-becomes_one line a b e f (becomes_itself h) (becomes_unread never half none) = absurd (never h)
+becomes_one line a b e f (becomes_itself h) (becomes_undone l) = absurd (good_stays line h f l)
+becomes_one line a b e f (becomes_itself h) (becomes_unread never half left none) = absurd (never h)
 becomes_one line a b e f (becomes_mended bad r short m g) (becomes_itself h) = absurd (refused_not_good line bad r h)
 becomes_one line a b e f (becomes_mended bad r short m g) (becomes_mended worse q small n h) = (all_mends_same 3 line a b m.0 n.0, refl)
 becomes_one line a b e f (becomes_mended bad r short m g) (becomes_unreturned h) = absurd (refused_no_half line bad r h)
-becomes_one line a b e f (becomes_mended bad r short m g) (becomes_unread never half none) = absurd (none bad a r short m g)
+becomes_one line a b e f (becomes_mended bad r short m g) (becomes_undone l) =
+    absurd (refused_stays line bad r (λ other n why u. g.1.1 why (subst (λ (x : List ℕ). IsUndone x why) (all_mends_same 3 line other a n.0 m.0) u)) f l)
+becomes_one line a b e f (becomes_mended bad r short m g) (becomes_unread never half left none) = absurd (none bad a r short m g)
 becomes_one line a b e f (becomes_unreturned h) (becomes_itself g) = absurd (half_not_good line h g)
 becomes_one line a b e f (becomes_unreturned h) (becomes_mended bad r short m g) = absurd (refused_no_half line bad r h)
 becomes_one line a b e f (becomes_unreturned h) (becomes_unreturned g) = (refl, refl)
-becomes_one line a b e f (becomes_unreturned h) (becomes_unread never half none) = absurd (half h)
-becomes_one line a b e f (becomes_unread never half none) (becomes_itself g) = absurd (never g)
-becomes_one line a b e f (becomes_unread never half none) (becomes_mended bad r short m g) = absurd (none bad b r short m g)
-becomes_one line a b e f (becomes_unread never half none) (becomes_unreturned g) = absurd (half g)
-becomes_one line a b e f (becomes_unread never half none) (becomes_unread not alone nothing) = (refl, refl)
+becomes_one line a b e f (becomes_unreturned h) (becomes_undone l) = absurd (half_stays line h f l)
+becomes_one line a b e f (becomes_unreturned h) (becomes_unread never half left none) = absurd (half h)
+becomes_one line a b e f (becomes_undone l) (becomes_itself h) = absurd (good_stays line h e l)
+becomes_one line a b e f (becomes_undone l) (becomes_mended bad r short m g) =
+    absurd (refused_stays line bad r (λ other n why u. g.1.1 why (subst (λ (x : List ℕ). IsUndone x why) (all_mends_same 3 line other b n.0 m.0) u)) e l)
+becomes_one line a b e f (becomes_undone l) (becomes_unreturned h) = absurd (half_stays line h e l)
+becomes_one line a b e f (becomes_undone l) (becomes_undone k) =
+    (refl, undone_one k.0 e f (subst (λ (x : List ℕ). IsUndone x e) (shown_one line l.0 k.0 e f l.1 l.2 k.1 k.2) l.2) k.2)
+becomes_one line a b e f (becomes_undone l) (becomes_unread never half left none) = absurd (left e l)
+becomes_one line a b e f (becomes_unread never half left none) (becomes_itself g) = absurd (never g)
+becomes_one line a b e f (becomes_unread never half left none) (becomes_mended bad r short m g) = absurd (none bad b r short m g)
+becomes_one line a b e f (becomes_unread never half left none) (becomes_unreturned g) = absurd (half g)
+becomes_one line a b e f (becomes_unread never half left none) (becomes_undone l) = absurd (left f l)
+becomes_one line a b e f (becomes_unread never half left none) (becomes_unread not alone out nothing) = (refl, refl)
 
 -- a line is read as one call at most
 pub read_one : (line : List ℕ) (a b : Option ReadCall) → IsReadAs line a → IsReadAs line b → a ≡ b
@@ -147,5 +159,5 @@ rewriting_one process bytes out other m n c d h g =
     let o = ap (λ (x : List Step). order frees_for [] x) r in (
       h.bytes_of ∙ ap (λ (x : List Entry). text_of (lines_as x)) o ∙ sym g.bytes_of,
       h.sum ∙ ap (λ (x : Counts). counted_all x (order frees_for [] h.steps)) s.1 ∙ ap (λ (x : List Entry). counted_all g.before x) o ∙ sym g.sum,
-      h.number ∙ ap (λ (x : List Entry). calls_after 0 x) o ∙ sym g.number,
+      h.number ∙ ap (λ (x : List Entry). calls_after no_calls x) o ∙ sym g.number,
     )

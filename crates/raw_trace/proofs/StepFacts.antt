@@ -16,7 +16,7 @@ use Rattle.raw_logs.specs.Log.{Numbered, Each}
 use Rattle.raw_trace.specs.declared.calls.ReadCall.{ReadCall}
 use Rattle.raw_trace.specs.declared.settling.Ending.{Ending}
 use Rattle.raw_trace.specs.Order.{Entry, Step, Begins, Ends, Comes}
-use Rattle.raw_trace.specs.Places.{HasReading, ReadText, IsReadText, is_of, cut_call, Part, Whole, Front, Back, part, Becomes, becomes_itself, becomes_mended, becomes_unreturned, becomes_unread}
+use Rattle.raw_trace.specs.Places.{HasReading, ReadText, IsReadText, is_of, cut_call, Part, Whole, Front, Back, part, Becomes, becomes_itself, becomes_mended, becomes_unreturned, becomes_undone, becomes_unread}
 use Rattle.raw_trace.specs.Places.{IsReadAs, IsEntry, IsDone, AreSteps}
 use Rattle.raw_trace.specs.Laws.{KeepsOrders}
 use Rattle.raw_trace.proofs.JoinedLines.{joined_cut}
@@ -58,7 +58,9 @@ quiet_own p number t r e h f is = elim (eqb_tells e.process p) [
     read same line ending (becomes_unreturned k) c s =
         let f = half_first t k.0 k.1 k.2 k.3 k.4 in
         quiet (Ok (Unfinished k.0 k.1 k.2 k.3)) k.4 (eq-eqb k.0 p ((cut_same t k.0 e.process f.0 is.body f.2 is.process_is).0 ∙ same))
-    read same line ending (becomes_unread never half not) c s =
+    read same line ending (becomes_undone l) c s =
+        let k = (one_outcome (unread_text t)).item (Played c.pid c.call c.recorded) Other s (unread_passes t) in absurd cc
+    read same line ending (becomes_unread never half left not) c s =
         let k = (one_outcome (unread_text t)).item (Played c.pid c.call c.recorded) Other s (unread_passes t) in absurd cc
 
     none : e.process ≡ p → (call : Option ReadCall) → IsReadAs e.line call → option_to_list call ≡ []

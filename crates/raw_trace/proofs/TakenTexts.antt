@@ -21,7 +21,9 @@ use Rattle.raw_trace.specs.declared.settling.Ending.{Ending}
 use Rattle.raw_trace.specs.declared.settling.Ending.TheVariants.{AsUnread}
 use Rattle.raw_trace.specs.declared.writing.Written.{Written}
 use Rattle.raw_trace.specs.Order.{Entry, Begins, Ends, Comes, frees_for, write_entry, does}
-use Rattle.raw_trace.specs.Places.{Becomes, becomes_itself, becomes_mended, becomes_unreturned, becomes_unread, IsReadAs, Changes, IsOtherForm, IsCause, IsTrouble, other_form, IsEntry}
+use Rattle.strace_reader.specs.declared.item.Recorded.{Recorded}
+use Rattle.page_types.specs.declared.calls.Call.{Call}
+use Rattle.raw_trace.specs.Places.{Becomes, becomes_itself, becomes_mended, becomes_unreturned, becomes_undone, becomes_unread, IsReadAs, Changes, IsOtherForm, doubles, IsCause, IsTrouble, other_form, IsEntry}
 use Rattle.raw_trace.specs.Places.{HasReading, ReadText, Part, Whole, Back, part, IsDone, IsStep}
 use Rattle.raw_trace.specs.Stages.{entry, entries, fed_by, IsRole, AreRoles, WroteLines, WroteDue, EndsDue, DidSome, EndsAll}
 use Rattle.raw_trace.proofs.FoundHalves.{fed_length}
@@ -35,7 +37,9 @@ use Rattle.raw_trace.proofs.Turns.{wrote_none}
 
 -- a line that is left unread is no call
 pub unread_none : (from line : List ℕ) (ending : Ending) → Becomes from line ending → ending ≡ AsUnread → IsReadAs line None
-unread_none from line ending (becomes_unread never half none) e = λ pid done recorded s.
+unread_none from line ending (becomes_undone l) e = λ pid done recorded s.
+    let k = (one_outcome (unread_text from)).item (Played pid done recorded) Other s (unread_passes from) in absurd cc
+unread_none from line ending (becomes_unread never half left none) e = λ pid done recorded s.
     let k = (one_outcome (unread_text from)).item (Played pid done recorded) Other s (unread_passes from) in absurd cc
 unread_none from line ending becomes e = absurd cc
 
@@ -44,7 +48,8 @@ pub read_short : (from line : List ℕ) (ending : Ending) → Becomes from line 
 read_short from line ending (becomes_itself g) n = g.2
 read_short from line ending (becomes_mended bad r short m g) n = g.2
 read_short from line ending (becomes_unreturned h) n = h.5.2
-read_short from line ending (becomes_unread never half none) n = absurd (n refl)
+read_short from line ending (becomes_undone l) n = l.3.2
+read_short from line ending (becomes_unread never half left none) n = absurd (n refl)
 
 -- why a line that is left unread is
 pub trouble_unread : (line written : List ℕ) (ending : Ending) (o : Option Trouble) → ending ≡ AsUnread
@@ -70,8 +75,26 @@ false_true e = cc
 pub ended_unchanged : (line : List ℕ) → EndsWith (codes "= ?") line → Decides false (Changes line)
 ended_unchanged line e = (λ t. absurd (false_true t), λ g. absurd (g.0 e))
 
+-- a line that is passed over has another form where it changes the space
 pub other_changes : (b : Bool) (line : List ℕ) → Spells line Other → Decides b (Changes line) → Decides b (IsOtherForm line)
-other_changes b line s d = (λ t. (s, d.0 t), λ g. d.1 g.1)
+other_changes b line s d = (λ t. inl (s, d.0 t), is)
+  where
+    is : IsOtherForm line → b ≡ true
+    is (inl g) = d.1 g.1
+    is (inr g) = let e = (one_outcome line).item Other (Played g.0 g.1 g.2) s g.3 in absurd cc
+
+-- a call has where it doubles pages
+pub call_doubles : (b : Bool) (line : List ℕ) (pid : ℕ) (call : Call) (recorded : Option Recorded) → Spells line (Played pid call recorded)
+    → b ≡ doubles call recorded → Decides b (IsOtherForm line)
+call_doubles b line pid call recorded s e = (λ t. inr (pid, call, recorded, s, sym e ∙ t), is)
+  where
+    is : IsOtherForm line → b ≡ true
+    is (inl g) = let k = (one_outcome line).item Other (Played pid call recorded) g.0 s in absurd cc
+    is (inr g) =
+        let k = (one_outcome line).item (Played pid call recorded) (Played g.0 g.1 g.2) s g.3 in
+        let c : call ≡ g.1 = cc in
+        let r : recorded ≡ g.2 = cc in
+        e ∙ (λ i. doubles (c i) (r i)) ∙ g.4
 
 -- the entry of a piece
 pub entry_of : (number : ℕ) (joined : Bool) (line body : List ℕ) (piece : Piece) → piece.number ≡ number → piece.joined ≡ joined

@@ -12,6 +12,7 @@ use Rattle.raw_trace.specs.declared.order.Piece.{Piece}
 use Rattle.raw_trace.specs.declared.writing.Written.{Written}
 use Rattle.raw_trace.specs.Order.{Entry, Picked, Written as WrittenOf, frees_for, pick, turns, write_due, write_entry}
 use Rattle.raw_trace.specs.Faults.{IsFirstFault}
+use Rattle.raw_trace.specs.declared.tally.Tally.{Tally}
 use Rattle.raw_trace.specs.Rewriting.{text_of, lines_as, counted_entry, counted_call, counted_all, calls_after}
 use Rattle.raw_trace.specs.Stages.{entry, entries, due_of, IsPicked, MayBeWritten, WroteLines, WroteDue, EndsDue, TookTurn, wrote_one, made_due, EndsTurn, DueSome}
 use Rattle.raw_trace.proofs.EachEntries.{each_both}
@@ -113,7 +114,7 @@ pub counted_both : (c : Counts) (a b : List Entry) → counted_all c (a ++ b) �
 counted_both c [] b = refl
 counted_both c (x ∷ a) b = counted_both (counted_entry x c) a b
 
-pub calls_both : (n : ℕ) (a b : List Entry) → calls_after n (a ++ b) ≡ calls_after (calls_after n a) b
+pub calls_both : (n : Tally) (a b : List Entry) → calls_after n (a ++ b) ≡ calls_after (calls_after n a) b
 calls_both n [] b = refl
 calls_both n (x ∷ a) b = calls_both (counted_call x.call n) a b
 
@@ -123,7 +124,7 @@ wrote_both strict x y z a b h g =
       out = g.out ∙ ap (λ (w : List ℕ). w ++ text_of (lines_as b)) h.out ∙ append_assoc x.out.items (text_of (lines_as a)) (text_of (lines_as b))
           ∙ ap (λ (w : List ℕ). x.out.items ++ w) (sym (text_both a b));
       counts = g.counts ∙ ap (λ (w : Counts). counted_all w b) h.counts ∙ sym (counted_both x.counts a b);
-      calls = g.calls ∙ ap (λ (w : ℕ). calls_after w b) h.calls ∙ sym (calls_both x.calls a b);
+      calls = g.calls ∙ ap (λ (w : Tally). calls_after w b) h.calls ∙ sym (calls_both x.calls a b);
       may = each_both (MayBeWritten strict) a b h.may g.may;
     }
 

@@ -8,7 +8,7 @@ use Rattle.raw_logs.specs.declared.fault.LogFault.{LogFault}
 use Rattle.raw_logs.specs.declared.fault.LogFault.TheVariants.{Memory as LogMemory}
 use Rattle.raw_logs.specs.Counting.{one_more_of}
 use Rattle.raw_logs.specs.declared.counts.Sort.{Sort}
-use Rattle.raw_logs.specs.declared.counts.Sort.TheVariants.{Joined, Forms}
+use Rattle.raw_logs.specs.declared.counts.Sort.TheVariants.{Joined, Forms, Unanswered}
 use Rattle.raw_logs.specs.Log.{Numbered}
 use Rattle.raw_logs.specs.Reading.{AreTexts, IsFirstUnknown, IsLogFault}
 use Rattle.raw_logs.proofs.OneLog.{texts_one, unknown_one, texts_no_fault}
@@ -22,9 +22,10 @@ use Rattle.raw_trace.specs.declared.settling.Ending.{Ending}
 use Rattle.raw_trace.specs.declared.settling.Ending.TheVariants.{AsUnread}
 use Rattle.raw_trace.specs.declared.writing.Written.{Written}
 use Rattle.raw_trace.specs.Order.{Entry, Step, frees_for, order}
-use Rattle.raw_trace.specs.Places.{Becomes, becomes_unread, IsTrouble, IsEntry, ReadText, part, AreSteps}
-use Rattle.raw_trace.specs.Rewriting.{lines_as, is_form, counted, counted_entry, counted_all, IsRewriting}
-use Rattle.raw_trace.specs.Faults.{of_log, Stops, IsCausedFault, IsFault}
+use Rattle.raw_trace.specs.Places.{Becomes, becomes_undone, becomes_unread, IsTrouble, IsEntry, ReadText, part, AreSteps}
+use Rattle.raw_trace.specs.declared.tally.Tally.{Tally}
+use Rattle.raw_trace.specs.Rewriting.{lines_as, is_form, is_unanswered, counted, counted_entry, counted_all, IsRewriting}
+use Rattle.raw_trace.specs.Faults.{of_log, Stops, asked_unknown, earlier_of, unknown_at, IsTextsFault, IsCausedFault, IsFault}
 use Rattle.raw_trace.specs.Laws.{HasShortLines, HasOneRewriting, HasOneFault}
 use Rattle.raw_trace.specs.Stages.{EachEntry, MayBeWritten, WroteAll, EndsAll}
 use Rattle.raw_trace.proofs.LineCalls.{lines_written}
@@ -77,7 +78,8 @@ abbrev IsTold : Entry → Type 0
 IsTold e = e.ending ≡ AsUnread → e.trouble ≡ None → 65535 < length e.line
 
 unread_long : (line written : List ℕ) (ending : Ending) → Becomes line written ending → ending ≡ AsUnread → 65535 < length line → 65535 < length written
-unread_long line written ending (becomes_unread never half none) e l = omega (arith, l)
+unread_long line written ending (becomes_undone k) e l = omega (arith, l)
+unread_long line written ending (becomes_unread never half left none) e l = omega (arith, l)
 unread_long line written ending becomes e l = absurd cc
 
 entry_told : (number : ℕ) (joined : Bool) (line : List ℕ) (e : Entry) → IsEntry number joined line e → IsTold e
@@ -114,9 +116,10 @@ all_unread : (entries : List Entry) (c : Counts) → EachEntry (MayBeWritten tru
 all_unread [] c may told = refl
 all_unread (e ∷ entries) c may told =
     let j = if e.joined then one_more_of Joined c else c in
+    let k = if is_form e.trouble then one_more_of Forms j else j in
     all_unread entries (counted_entry e c) may.1 told.1
-    ∙ counted_unread e.ending (if is_form e.trouble then one_more_of Forms j else j) (may_not_unread e may.0 told.0)
-    ∙ more_unread (is_form e.trouble) Forms j refl ∙ more_unread e.joined Joined c refl
+    ∙ counted_unread e.ending (if is_unanswered e.call then one_more_of Unanswered k else k) (may_not_unread e may.0 told.0)
+    ∙ more_unread (is_unanswered e.call) Unanswered k refl ∙ more_unread (is_form e.trouble) Forms j refl ∙ more_unread e.joined Joined c refl
 
 -- no line is left unread
 pub none_unread : (process : Option ℕ) (strict : Bool) (bytes : List ℕ) (texts : List Numbered) (before : Counts) (found : Written)
@@ -130,17 +133,26 @@ none_unread process strict bytes texts before found are w s =
 
 -- ---- faults
 
+-- the writing that was done ends nowhere
+wrote_never : (strict : Bool) (texts : List Numbered) (before : Counts) (found : Written) → WroteAll strict texts before found
+    → (fault : Fault) → ¬ Stops strict texts fault
+wrote_never strict texts before found w fault = never_stops strict texts w.texts w.steps w.reads w.are w.may fault
+
 -- where each line may be written and every beginning is known, nothing is a fault
 pub no_cause : (process : Option ℕ) (strict : Bool) (bytes : List ℕ) (texts : List Numbered) (before : Counts) (unknown : Option ℕ) (found : Written)
-    → AreTexts process bytes texts before → IsFirstUnknown process bytes unknown → (strict ≡ true → unknown ≡ None) → WroteAll strict texts before found
+    → AreTexts process bytes texts before → IsFirstUnknown process bytes unknown → asked_unknown strict unknown ≡ None → WroteAll strict texts before found
     → (fault : Fault) → ¬ IsCausedFault process strict bytes fault
 no_cause process strict bytes texts before unknown found are u k w fault (inl h) = texts_no_fault process bytes texts before h.0 are h.1
-no_cause process strict bytes texts before unknown found are u k w fault (inr (inl h)) =
-    let e = unknown_one process bytes unknown (Some h.1) u h.2 in
-    let n : ◌≡◌ {A = Option ℕ} None (Some h.1) = sym (k h.0) ∙ e in cc
-no_cause process strict bytes texts before unknown found are u k w fault (inr (inr h)) =
-    let same = texts_one process bytes texts h.1 before h.2 are h.3 in
-    never_stops strict texts w.texts w.steps w.reads w.are w.may fault (subst (λ (x : List Numbered). Stops strict x fault) (sym same.0) h.4)
+no_cause process strict bytes texts before unknown found are u k w fault (inr h) = by h.5
+  where
+    same : texts ≡ h.0
+    same = (texts_one process bytes texts h.0 before h.1 are h.3).0
+
+    by : IsTextsFault strict h.0 (asked_unknown strict h.2) fault → ⊥
+    by (inl s) = wrote_never strict texts before found w s.0 (subst (λ (x : List Numbered). Stops strict x s.0) (sym same) s.1)
+    by (inr s) =
+        let e : asked_unknown strict unknown ≡ asked_unknown strict h.2 = ap (asked_unknown strict) (unknown_one process bytes unknown h.2 u h.4) in
+        let n : ◌≡◌ {A = Option ℕ} None (Some s.1) = sym k ∙ (e ∙ s.2) in cc
 
 -- a fault of the reading
 pub log_fault : (process : Option ℕ) (strict : Bool) (bytes : List ℕ) (why : LogFault) (fault : Fault) → IsLogFault process bytes why → fault ≡ of_log why
@@ -154,30 +166,44 @@ pub read_fault : (process : Option ℕ) (strict : Bool) (bytes : List ℕ) (why 
 read_fault process strict bytes why fault e (inl m) = subst (IsFault process strict bytes) (sym (e ∙ ap of_log m)) tt
 read_fault process strict bytes why fault e (inr h) = log_fault process strict bytes why fault h e
 
--- a line whose beginning isn't known
-pub unknown_fault : (process : Option ℕ) (strict : Bool) (bytes : List ℕ) (unknown : Option ℕ) (fault : Fault) → IsFirstUnknown process bytes unknown
-    → (strict ≡ true) × (number : ℕ) × (unknown ≡ Some number) × (fault ≡ Unreadable number 1 Unknown) → IsFault process strict bytes fault
-unknown_fault process strict bytes unknown fault u h =
-    subst (IsFault process strict bytes) (sym h.3) (inr (inl (h.0, h.1, subst (IsFirstUnknown process bytes) h.2 u, refl)))
-
--- a fault of the writing
-pub written_fault : (process : Option ℕ) (strict : Bool) (bytes : List ℕ) (texts : List Numbered) (before : Counts) (unknown : Option ℕ) (fault : Fault)
-    → AreTexts process bytes texts before → IsFirstUnknown process bytes unknown → (strict ≡ true → unknown ≡ None) → EndsAll strict texts fault
+-- a caused fault is one
+caused_is : (process : Option ℕ) (strict : Bool) (bytes : List ℕ) (fault : Fault) → IsCausedFault process strict bytes fault
     → IsFault process strict bytes fault
-written_fault process strict bytes texts before unknown fault are u k (inl m) = subst (IsFault process strict bytes) (sym m) tt
-written_fault process strict bytes texts before unknown fault are u k (inr stops) =
-    by fault (inr (inr ((λ s. subst (IsFirstUnknown process bytes) (k s) u), texts, before, are, stops)))
+caused_is process strict bytes Memory h = tt
+caused_is process strict bytes fault h = h
+
+-- want of memory comes before any line
+memory_earlier : (unknown : Option ℕ) → earlier_of unknown Memory ≡ Memory
+memory_earlier None = refl
+memory_earlier (Some number) = refl
+
+-- a fault of the writing, or of a line whose beginning isn't known
+pub written_fault : (process : Option ℕ) (strict : Bool) (bytes : List ℕ) (texts : List Numbered) (before : Counts) (unknown asked : Option ℕ)
+    (r : Result Written Fault) (fault : Fault) → AreTexts process bytes texts before → IsFirstUnknown process bytes unknown
+    → asked ≡ asked_unknown strict unknown
+    → IfOk r (WroteAll strict texts before) → IfErr r (EndsAll strict texts)
+    → ((found : Fault) × (r ≡ Err found) × (fault ≡ earlier_of asked found))
+    ⊎ ((found : Written) × (r ≡ Ok found) × (number : ℕ) × (asked ≡ Some number) × (fault ≡ unknown_at number))
+    → IsFault process strict bytes fault
+written_fault process strict bytes texts before unknown asked r fault are u same wrote ends (inl h) =
+    by (subst (λ (x : Result Written Fault). IfErr x (EndsAll strict texts)) h.1 ends)
   where
-    by : (fault : Fault) → IsCausedFault process strict bytes fault → IsFault process strict bytes fault
-    by Memory h = tt
-    by fault h = h
+    by : EndsAll strict texts h.0 → IsFault process strict bytes fault
+    by (inl m) = subst (IsFault process strict bytes)
+        (sym (h.2 ∙ ap (earlier_of asked) m ∙ memory_earlier asked)) tt
+    by (inr stops) =
+        caused_is process strict bytes fault
+        (inr (texts, before, unknown, are, u, inl (h.0, stops, h.2 ∙ ap (λ (x : Option ℕ). earlier_of x h.0) same)))
+written_fault process strict bytes texts before unknown asked r fault are u same wrote ends (inr h) =
+    let w = subst (λ (x : Result Written Fault). IfOk x (WroteAll strict texts before)) h.1 wrote in
+    caused_is process strict bytes fault (inr (texts, before, unknown, are, u, inr (wrote_never strict texts before h.0 w, h.2, sym same ∙ h.3, h.4)))
 
 -- ---- what a run comes to
 
 -- what was found is what any rewriting is
 pub only_rewriting : (process : Option ℕ) (bytes : List ℕ) (r : Result Rewriting Fault) → HasOneRewriting
     → IfOk r (λ found. IsRewriting process bytes found.out.items found.counts found.calls)
-    → (out : List ℕ) (counts : Counts) (calls : ℕ) → IsRewriting process bytes out counts calls
+    → (out : List ℕ) (counts : Counts) (calls : Tally) → IsRewriting process bytes out counts calls
     → IfOk r (λ found. (found.out.items ≡ out) × (found.counts ≡ counts) × (found.calls ≡ calls))
 only_rewriting process bytes (Ok found) one h out counts calls g = one process bytes found.out.items out found.counts counts found.calls calls h g
 only_rewriting process bytes (Err fault) one h out counts calls g = tt

@@ -12,6 +12,7 @@ use Rattle.raw_logs.specs.Reading.{AreTexts}
 use Rattle.raw_trace.specs.declared.calls.ReadCall.{ReadCall}
 use Rattle.raw_trace.specs.declared.fault.Fault.{Fault}
 use Rattle.raw_trace.specs.declared.settling.Ending.TheVariants.{AsItIs}
+use Rattle.raw_trace.specs.declared.tally.Tally.{Tally}
 use Rattle.raw_trace.specs.Faults.{IsCausedFault}
 use Rattle.raw_trace.specs.Order.{Entry, Step, Comes, frees_for, order}
 use Rattle.raw_trace.specs.Places.{ReadText, IsReadText, IsGood, IsStep, AreSteps}
@@ -38,7 +39,7 @@ pub data ReadsAs : List (List ℕ) → List (List ℕ) → List ReadCall → Typ
 -- log, in the order of the rule: each that was cut in two at its second half, or before the first that takes what it
 -- frees.
 abbrev pub KeepsCalls : Type 0
-KeepsCalls = (process : Option ℕ) (bytes out : List ℕ) (counts : Counts) (number : ℕ) → (is : IsRewriting process bytes out counts number)
+KeepsCalls = (process : Option ℕ) (bytes out : List ℕ) (counts : Counts) (number : Tally) → (is : IsRewriting process bytes out counts number)
     → ReadsAs [] (lines_of out) (calls_of (order frees_for [] is.steps))
 
 -- the calls of the lines of one process
@@ -59,8 +60,8 @@ KeepsGoodLines = (fed later : List ReadText) (line : Numbered) (text : ReadText)
 
 -- A log whose texts are all good lines is written as these, byte for byte.
 abbrev pub KeepsGoodTexts : Type 0
-KeepsGoodTexts = (process : Option ℕ) (bytes out : List ℕ) (texts : List Numbered) (before counts : Counts) (number : ℕ) → AreTexts process bytes texts before
-    → All IsGood (texts_of texts) → IsRewriting process bytes out counts number → out ≡ text_of (texts_of texts)
+KeepsGoodTexts = (process : Option ℕ) (bytes out : List ℕ) (texts : List Numbered) (before counts : Counts) (number : Tally)
+    → AreTexts process bytes texts before → All IsGood (texts_of texts) → IsRewriting process bytes out counts number → out ≡ text_of (texts_of texts)
 
 -- each line of a text is no longer than a line may be
 abbrev pub HasShortLines : List ℕ → Type 0
@@ -68,7 +69,7 @@ HasShortLines text = All (λ line. length line ≤ 65535) (lines_of text)
 
 -- A log is rewritten in one way.
 abbrev pub HasOneRewriting : Type 0
-HasOneRewriting = (process : Option ℕ) (bytes out other : List ℕ) (counts more : Counts) (calls many : ℕ) → IsRewriting process bytes out counts calls
+HasOneRewriting = (process : Option ℕ) (bytes out other : List ℕ) (counts more : Counts) (calls many : Tally) → IsRewriting process bytes out counts calls
     → IsRewriting process bytes other more many → (out ≡ other) × (counts ≡ more) × (calls ≡ many)
 
 -- A log has one fault at most, but for want of memory.

@@ -9,7 +9,10 @@ use Rattle.strace_reader.specs.declared.item.Item.TheVariants.{Played, Unfinishe
 use Rattle.strace_reader.specs.declared.item.Name.{Name}
 use Rattle.strace_reader.specs.declared.item.Name.TheVariants.{Mmap, Munmap, Mprotect, Fault, Mseal, Brk, Mremap}
 use Rattle.strace_reader.specs.declared.item.Recorded.{Recorded}
+use Rattle.strace_reader.specs.declared.item.Recorded.TheVariants.{Value, Failed}
+use Rattle.strace_reader.specs.declared.item.Errno.TheVariants.{Einval, Enomem, Eexist, Eperm, Efault}
 use Rattle.page_types.specs.declared.calls.Call.{Call}
+use Rattle.page_types.specs.declared.calls.Call.TheVariants.{Map, Unmap, Brk, Remap}
 use Rattle.strace_reader.specs.Grammar.{EndsWith, IsCut, Spells, Refuses}
 use Rattle.raw_lines.specs.Beginnings.{ChangesSpace}
 use Rattle.raw_lines.specs.Marks.{unread_text}
@@ -21,7 +24,7 @@ use Rattle.raw_trace.specs.declared.fault.Cause.{Cause}
 use Rattle.raw_trace.specs.declared.fault.Cause.TheVariants.{Form, Alone, Unclear, OtherForm, Unknown}
 use Rattle.raw_trace.specs.declared.fault.Trouble.{Trouble}
 use Rattle.raw_trace.specs.declared.settling.Ending.{Ending}
-use Rattle.raw_trace.specs.declared.settling.Ending.TheVariants.{AsItIs, ByMends, AsUnreturned, AsUnread}
+use Rattle.raw_trace.specs.declared.settling.Ending.TheVariants.{AsItIs, ByMends, AsUnreturned, AsUnread, AsInjected, AsOutside}
 use Rattle.raw_logs.specs.Log.{Numbered}
 
 -- ---- the halves of a call
@@ -79,21 +82,68 @@ cut_call process fed later =
 
 -- ---- what a line becomes
 
--- the line is read as a whole, stays so wherever it is read again, and is no longer than a line may be
+-- the call failed for a reason outside the address space: no rule of the profile gives its error, so it changed
+-- nothing. An mprotect that failed may have changed pages before the fault, so it is none of these.
+abbrev pub fails_outside : Call → Option Recorded → Bool
+fails_outside (Map addr len prot flags) (Some (Failed Einval)) = false
+fails_outside (Map addr len prot flags) (Some (Failed Enomem)) = false
+fails_outside (Map addr len prot flags) (Some (Failed Eexist)) = false
+fails_outside (Map addr len prot flags) (Some (Failed Eperm)) = false
+fails_outside (Map addr len prot flags) (Some (Failed errno)) = true
+fails_outside (Unmap addr len) (Some (Failed Einval)) = false
+fails_outside (Unmap addr len) (Some (Failed Enomem)) = false
+fails_outside (Unmap addr len) (Some (Failed Eperm)) = false
+fails_outside (Unmap addr len) (Some (Failed errno)) = true
+fails_outside (Remap addr old_len new_len may_move hint) (Some (Failed Einval)) = false
+fails_outside (Remap addr old_len new_len may_move hint) (Some (Failed Enomem)) = false
+fails_outside (Remap addr old_len new_len may_move hint) (Some (Failed Efault)) = false
+fails_outside (Remap addr old_len new_len may_move hint) (Some (Failed Eperm)) = false
+fails_outside (Remap addr old_len new_len may_move hint) (Some (Failed errno)) = true
+fails_outside (Brk base addr) (Some (Failed errno)) = true
+fails_outside call recorded = false
+
+-- strace(1) made the result up, as it says behind it: the kernel didn't do the call
+abbrev pub IsInjected : List ℕ → Type 0
+IsInjected line = EndsWith (codes " (INJECTED)") line ⊎ EndsWith (codes " (INJECTED) (DELAYED)") line
+
+-- the line is a call that changed nothing, and isn't played: its result was made up, or it failed for a reason outside
+-- the address space
+abbrev pub IsUndone : List ℕ → Ending → Type 0
+IsUndone line AsInjected = (length line ≤ 65535) × IsInjected line
+    × (pid : ℕ) × (call : Call) × (recorded : Option Recorded) × Spells line (Played pid call recorded)
+IsUndone line AsOutside = (length line ≤ 65535) × (¬ IsInjected line)
+    × (pid : ℕ) × (call : Call) × (recorded : Option Recorded) × Spells line (Played pid call recorded) × (fails_outside call recorded ≡ true)
+IsUndone line ending = ⊥
+
+-- the line stays as it is wherever it is read again, and isn't a call that changed nothing
+abbrev pub IsStillPlayed : List ℕ → Type 0
+IsStillPlayed line = IsStill line × ((why : Ending) → ¬ IsUndone line why)
+
+-- the line is read as a whole, stays so wherever it is read again, isn't a call that changed nothing, and is no longer
+-- than a line may be
 abbrev pub IsGood : List ℕ → Type 0
-IsGood line = ((item : Item) × Spells line item × IsWhole item) × IsStill line × (length line ≤ 65535)
+IsGood line = ((item : Item) × Spells line item × IsWhole item) × IsStillPlayed line × (length line ≤ 65535)
+
+-- the line is this one, or is mended into it
+abbrev pub Shows : List ℕ → List ℕ → Type 0
+Shows line shown = (shown ≡ line) ⊎ ((bad : BadCall) × Refuses line bad × (length line ≤ 65535) × IsMended line shown)
+
+-- the line shows a call that changed nothing, and with the mark of an unread line it is good
+abbrev pub IsLeftOut : List ℕ → Ending → Type 0
+IsLeftOut line why = (shown : List ℕ) × Shows line shown × IsUndone shown why × IsGood (unread_text line)
 
 -- the line is a first half, and as a call that never returned it is good
 abbrev pub IsHalfAlone : List ℕ → Type 0
 IsHalfAlone line = (process : ℕ) × (name : Name) × (from to : ℕ) × Spells line (Unfinished process name from to) × IsGood (unreturned_text line)
 
--- What a line becomes that no other half belongs to: it is as it is, or it is mended, or it never returned. Where none
--- of these is good the line bears the mark of an unread line.
+-- What a line becomes that no other half belongs to: it is as it is, or it is mended, or it never returned, or it isn't
+-- played since it changed nothing. Where none of these is good the line bears the mark of an unread line.
 pub data Becomes (line : List ℕ) : List ℕ → Ending → Type 0 where
   becomes_itself : IsGood line → Becomes line line AsItIs
   becomes_mended : {other : List ℕ} → (bad : BadCall) → Refuses line bad → length line ≤ 65535 → IsMended line other → IsGood other → Becomes line other ByMends
   becomes_unreturned : IsHalfAlone line → Becomes line (unreturned_text line) AsUnreturned
-  becomes_unread : (¬ IsGood line) → (¬ IsHalfAlone line)
+  becomes_undone : {why : Ending} → IsLeftOut line why → Becomes line (unread_text line) why
+  becomes_unread : (¬ IsGood line) → (¬ IsHalfAlone line) → ((why : Ending) → ¬ IsLeftOut line why)
       → ((bad : BadCall) (other : List ℕ) → Refuses line bad → length line ≤ 65535 → IsMended line other → ¬ IsGood other)
       → Becomes line (unread_text line) AsUnread
 
@@ -106,9 +156,15 @@ IsReadAs line None = (pid : ℕ) (call : Call) (recorded : Option Recorded) → 
 abbrev pub Changes : List ℕ → Type 0
 Changes line = (¬ EndsWith (codes "= ?") line) × (pid : ℕ) × (body : List ℕ) × IsCut line pid body × ChangesSpace body
 
--- the line is passed over, though it changes an address space: its form isn't one of the profile
+-- the call gives pages a second mapping, which the profile hasn't: an mremap of no bytes that gave an address
+abbrev pub doubles : Call → Option Recorded → Bool
+doubles (Remap addr old_len new_len may_move hint) (Some (Value at)) = old_len == 0
+doubles call recorded = false
+
+-- the line changes an address space, and its form isn't one of the profile: it is passed over, or it doubles pages
 abbrev pub IsOtherForm : List ℕ → Type 0
-IsOtherForm line = Spells line Other × Changes line
+IsOtherForm line = (Spells line Other × Changes line)
+    ⊎ ((pid : ℕ) × (call : Call) × (recorded : Option Recorded) × Spells line (Played pid call recorded) × (doubles call recorded ≡ true))
 
 -- why a line can't be read, at this column
 abbrev pub IsCauseAt : List ℕ → ℕ → Cause → Type 0

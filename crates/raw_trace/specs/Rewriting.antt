@@ -1,18 +1,24 @@
 -- The whole: from the bytes of a raw log to the bytes that are written. `AreTexts` of `raw_logs` has its texts; each
 -- does a step (Places.antt), and the steps give the lines in their order (Order.antt). A log has one rewriting.
-use Rattle.std.specs.Prelude.{◌≡◌, ℕ, ◌+◌, List, [], ◌∷◌, ◌++◌, map, Bool, true, false, if◌then◌else◌, Option, Some, None, option_to_list}
+use Rattle.std.specs.Prelude.{◌≡◌, ℕ, ◌+◌, ◌-◌, List, [], ◌∷◌, ◌++◌, map, Bool, true, false, not, ◌==◌, if◌then◌else◌, Option, Some, None, option_to_list, is_none, option_map, unwrap_or}
 use Rattle.raw_logs.specs.declared.counts.Counts.{Counts}
-use Rattle.raw_logs.specs.declared.counts.Sort.TheVariants.{Joined, Mended, Unreturned, Unread, Forms}
+use Rattle.raw_logs.specs.declared.counts.Sort.TheVariants.{Joined, Mended, Unreturned, Unread, Forms, Injected, Outside, Unanswered}
 use Rattle.raw_logs.specs.Counting.{one_more_of, within_32_bits}
 use Rattle.raw_logs.specs.Log.{Numbered, Each}
 use Rattle.raw_logs.specs.Reading.{AreTexts}
+use Rattle.page_types.specs.declared.calls.Call.{Call}
+use Rattle.page_types.specs.declared.calls.Call.TheVariants.{Map, Brk}
+use Rattle.strace_reader.specs.declared.item.Recorded.{Recorded}
+use Rattle.strace_reader.specs.declared.item.Recorded.TheVariants.{Value}
 use Rattle.raw_trace.specs.declared.calls.ReadCall.{ReadCall}
+use Rattle.raw_trace.specs.declared.tally.Tally.{Tally}
 use Rattle.raw_trace.specs.declared.fault.Cause.{Cause}
 use Rattle.raw_trace.specs.declared.fault.Cause.TheVariants.{Form, Alone, Unclear, OtherForm, Unknown}
 use Rattle.raw_trace.specs.declared.fault.Trouble.{Trouble}
 use Rattle.raw_trace.specs.declared.settling.Ending.{Ending}
-use Rattle.raw_trace.specs.declared.settling.Ending.TheVariants.{AsItIs, ByMends, AsUnreturned, AsUnread}
-use Rattle.raw_trace.specs.Order.{Entry, Step, frees_for, order}
+use Rattle.raw_trace.specs.declared.settling.Ending.TheVariants.{AsItIs, ByMends, AsUnreturned, AsUnread, AsInjected, AsOutside}
+use Rattle.raw_trace.specs.declared.calls.Pages.{Pages}
+use Rattle.raw_trace.specs.Order.{Entry, Step, no_pages, pages_at, freed_by, meet, frees_for, order}
 use Rattle.raw_trace.specs.Places.{ReadText, IsReadText, AreSteps}
 
 -- lines as a text: each with its newline
@@ -35,6 +41,8 @@ counted AsItIs = λ counts. counts
 counted ByMends = one_more_of Mended
 counted AsUnreturned = one_more_of Unreturned
 counted AsUnread = one_more_of Unread
+counted AsInjected = one_more_of Injected
+counted AsOutside = one_more_of Outside
 
 -- the cause is the form of a call
 abbrev pub is_form_cause : Cause → Bool
@@ -49,28 +57,72 @@ abbrev pub is_form : Option Trouble → Bool
 is_form None = false
 is_form (Some t) = is_form_cause t.cause
 
+-- the call's result isn't told: it never returned, or the line ends before it
+abbrev pub is_unanswered : Option ReadCall → Bool
+is_unanswered None = false
+is_unanswered (Some call) = is_none call.recorded
+
 abbrev pub counted_entry : Entry → Counts → Counts
 counted_entry entry counts =
     let joined = if entry.joined then one_more_of Joined counts else counts in
-    counted entry.ending (if is_form entry.trouble then one_more_of Forms joined else joined)
+    let formed = if is_form entry.trouble then one_more_of Forms joined else joined in
+    counted entry.ending (if is_unanswered entry.call then one_more_of Unanswered formed else formed)
 
 -- the counts, with those of these lines
 abbrev pub counted_all : Counts → List Entry → Counts
 counted_all counts [] = counts
 counted_all counts (entry ∷ entries) = counted_all (counted_entry entry counts) entries
 
--- one call more, where it is one
-abbrev pub counted_call : Option ReadCall → ℕ → ℕ
-counted_call None n = n
-counted_call (Some call) n = within_32_bits (n + 1)
+-- no call
+abbrev pub no_calls : Tally
+no_calls = record { calls = 0; start = None; heap = None; programs = 0; remapped = 0 }
 
--- the number of calls among lines, behind so many
-abbrev pub calls_after : ℕ → List Entry → ℕ
-calls_after n [] = n
-calls_after n (entry ∷ entries) = calls_after (counted_call entry.call n) entries
+-- where the heap ends behind a call, as it was recorded
+abbrev pub heap_end : Call → Option Recorded → Option ℕ → Option ℕ
+heap_end (Brk base addr) (Some (Value at)) heap = Some at
+heap_end call recorded heap = heap
+
+-- the call only asks where the heap ends, and is told another end than the last one
+abbrev pub is_moved : Call → Option Recorded → Option ℕ → Bool
+is_moved (Brk base addr) (Some (Value at)) (Some end) = if addr == 0 then not (at == end) else false
+is_moved call recorded heap = false
+
+-- where the heap begins: where it ended as it was first told, by each program
+abbrev pub heap_start : Bool → Call → Option Recorded → Option ℕ → Option ℕ
+heap_start moved (Brk base addr) (Some (Value at)) None = Some at
+heap_start moved (Brk base addr) (Some (Value at)) (Some start) = if moved then Some at else Some start
+heap_start moved call recorded start = start
+
+-- the pages of the heap, as far as they were told
+abbrev pub heap_pages : Option ℕ → Option ℕ → Pages
+heap_pages (Some start) (Some end) = pages_at start (end - start)
+heap_pages start end = no_pages
+
+-- the pages that a call maps, or frees
+abbrev pub changed_pages : Call → Option Recorded → Pages
+changed_pages (Map addr len prot flags) (Some (Value at)) = pages_at at len
+changed_pages call recorded = unwrap_or (option_map (freed_by call) recorded) no_pages
+
+-- one call more, where it is one: one that is told another end of the heap shows that another program began, and one
+-- that maps or frees pages of the heap may leave it otherwise than brk says
+abbrev pub counted_call : Option ReadCall → Tally → Tally
+counted_call None t = t
+counted_call (Some read) t =
+    let moved = is_moved read.call read.recorded t.heap in record {
+      calls = within_32_bits (t.calls + 1);
+      start = heap_start moved read.call read.recorded t.start;
+      heap = heap_end read.call read.recorded t.heap;
+      programs = if moved then within_32_bits (t.programs + 1) else t.programs;
+      remapped = if meet (changed_pages read.call read.recorded) (heap_pages t.start t.heap) then within_32_bits (t.remapped + 1) else t.remapped;
+    }
+
+-- the calls among lines, behind these
+abbrev pub calls_after : Tally → List Entry → Tally
+calls_after t [] = t
+calls_after t (entry ∷ entries) = calls_after (counted_call entry.call t) entries
 
 -- the log is rewritten so
-pub record IsRewriting (process : Option ℕ) (bytes out : List ℕ) (counts : Counts) (calls : ℕ) : Type 0 where
+pub record IsRewriting (process : Option ℕ) (bytes out : List ℕ) (counts : Counts) (calls : Tally) : Type 0 where
   pub chosen : List Numbered
   pub before : Counts
   pub texts : AreTexts process bytes chosen before
@@ -80,4 +132,4 @@ pub record IsRewriting (process : Option ℕ) (bytes out : List ℕ) (counts : C
   pub are : AreSteps [] read [] steps
   pub bytes_of : out ≡ text_of (lines_as (order frees_for [] steps))
   pub sum : counts ≡ counted_all before (order frees_for [] steps)
-  pub number : calls ≡ calls_after 0 (order frees_for [] steps)
+  pub number : calls ≡ calls_after no_calls (order frees_for [] steps)

@@ -20,7 +20,7 @@ use Rattle.raw_trace.specs.declared.writing.Written.{Written}
 use Rattle.raw_trace.specs.Faults.{IsEntryFault, IsFirstFault, Stops}
 use Rattle.raw_trace.specs.Order.{Entry, Step, Picked, Written as WrittenOf, frees_for, pick, turns, write_due, order}
 use Rattle.raw_trace.specs.Places.{ReadText, IsReadText, is_of, Whole, Front, Back, part, AreSteps}
-use Rattle.raw_trace.specs.Rewriting.{text_of, lines_as, counted_all, calls_after}
+use Rattle.raw_trace.specs.Rewriting.{text_of, lines_as, counted_all, no_calls, calls_after}
 
 -- ---- halves
 
@@ -154,7 +154,7 @@ pub record WroteAll (strict : Bool) (lines : List Numbered) (counts : Counts) (f
   pub are : AreSteps [] texts [] steps
   pub out : found.out.items ≡ text_of (lines_as (order frees_for [] steps))
   pub sum : found.counts ≡ counted_all counts (order frees_for [] steps)
-  pub calls : found.calls ≡ calls_after 0 (order frees_for [] steps)
+  pub calls : found.calls ≡ calls_after no_calls (order frees_for [] steps)
   pub may : EachEntry (MayBeWritten strict) (order frees_for [] steps)
 
 -- the writing of all the lines ends so
@@ -174,7 +174,7 @@ pub record DidSome (strict : Bool) (lines : List Numbered) (place : ℕ) (counts
   pub follows : (more : List Step) → order frees_for [] (steps ++ more) ≡ written ++ order frees_for (entries now.waiting.items) more
   pub out : now.written.out.items ≡ text_of (lines_as written)
   pub sum : now.written.counts ≡ counted_all counts written
-  pub calls : now.written.calls ≡ calls_after 0 written
+  pub calls : now.written.calls ≡ calls_after no_calls written
   pub may : EachEntry (MayBeWritten strict) written
 
 -- The lines and their roles stand so at a place: of the lines before it all was done, and the first ones, so many, were

@@ -11,6 +11,7 @@ mod order;
 mod rewriting;
 mod roles;
 mod settling;
+mod tally;
 mod writing;
 
 pub use calls::{Pages, ReadCall};
@@ -21,3 +22,4 @@ pub use laws::{
 };
 pub use rewriting::{Rewriting, rewrite};
 pub use settling::Ending;
+pub use tally::Tally;

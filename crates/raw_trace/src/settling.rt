@@ -1,23 +1,25 @@
 //! What a line becomes that no other half belongs to: it stays as it is, it is mended, it is written as a call that
 //! never returned, or it bears the mark of an unread line. `Becomes` in `specs/Places.antt` is what it says.
 
-ghost use Rattle.std.specs.Prelude.{◌≡◌, ◌≤◌, ◌++◌, ℕ, length, IfOk};
+ghost use Rattle.std.specs.Prelude.{◌≡◌, ◌⊎◌, ◌≤◌, ◌++◌, ℕ, List, length, IfOk, IfSome, IsNone};
 ghost use Rattle.std.specs.Bool.{Decides};
 ghost use Rattle.strace_reader.specs.declared.item.Item.{Item as ItemOf};
-ghost use Rattle.strace_reader.specs.declared.item.Item.TheVariants.{Unfinished};
+ghost use Rattle.strace_reader.specs.declared.item.Item.TheVariants.{Played, Unfinished};
 ghost use Rattle.raw_lines.specs.Mends.{IsWhole};
 ghost use Rattle.strace_reader.specs.declared.item.Name.{Name};
 ghost use Rattle.strace_reader.specs.Grammar.{Spells, Refuses};
 ghost use Rattle.raw_lines.specs.Marks.{unread_text};
+ghost use Rattle.raw_trace.specs.declared.settling.Ending.{Ending as EndingOf};
 ghost use Rattle.raw_trace.specs.declared.settling.Ending.TheVariants.{AsItIs, AsUnread};
 ghost use Rattle.raw_trace.specs.Places.{IsCause};
-ghost use Rattle.raw_trace.specs.Places.{IsGood, Becomes};
+ghost use Rattle.raw_trace.specs.Places.{IsGood, Becomes, fails_outside, IsInjected, IsUndone, Shows, IsLeftOut, IsStillPlayed};
 
 use crate::fault::{Cause, Trouble};
+use page_types::Call;
 use raw_lines::{UNREAD_MARK, is_still, mended};
 use raw_logs::LINE_LIMIT;
 use std::alloc::{AllocError, Global};
-use strace_reader::{BadCall, Item, read_line};
+use strace_reader::{BadCall, Errno, Item, Recorded, ends_with, read_line};
 
 /// How a line ends up.
 #[derive(Clone, Copy, PartialEq, Eq, Debug)]
@@ -30,6 +32,10 @@ pub enum Ending {
     AsUnreturned,
     /// With the mark of an unread line.
     AsUnread,
+    /// With that mark, since its result was made up and the kernel didn't do it.
+    AsInjected,
+    /// With that mark, since it failed for a reason outside the address space.
+    AsOutside,
 }
 
 /// What a line becomes.
@@ -41,6 +47,75 @@ pub(crate) struct Settled {
     pub(crate) ending: Ending,
 }
 
+/// Whether a call failed with an error that no rule of the profile gives it, so that it changed nothing.
+fn fails_outside(call: Call, recorded: Option<Recorded>) -> bool
+    ensures { result ≡ fails_outside call recorded }
+{
+    let Some(Recorded::Failed(errno)) = recorded else {
+        return false;
+    };
+    match call {
+        Call::Map { .. } => !matches!(
+            &errno,
+            Errno::Einval | Errno::Enomem | Errno::Eexist | Errno::Eperm
+        ),
+        Call::Unmap { .. } => !matches!(&errno, Errno::Einval | Errno::Enomem | Errno::Eperm),
+        Call::Remap { .. } => !matches!(
+            &errno,
+            Errno::Einval | Errno::Enomem | Errno::Efault | Errno::Eperm
+        ),
+        Call::Brk { .. } => true,
+        _ => false,
+    }
+}
+
+/// Whether strace(1) says that it made the result of a line up.
+fn is_injected(line: &[u8]) -> bool
+    ensures { Decides result (IsInjected line.now) }
+{
+    ends_with(line, b" (INJECTED)") || ends_with(line, b" (INJECTED) (DELAYED)")
+}
+
+/// Why a call that a line is read as changed nothing, so that it isn't played.
+fn why_undone(line: &[u8], call: Call, recorded: Option<Recorded>) -> Option<Ending>
+    requires short { length line.now ≤ 65535 }
+    requires read { (pid : ℕ) × Spells line.now (Played pid call recorded) }
+    ensures some { IfSome result (IsUndone line.now) }
+    ensures none { IsNone result → (why : EndingOf) → ¬ IsUndone line.now why }
+{
+    if is_injected(line) {
+        return Some(Ending::AsInjected);
+    }
+    if fails_outside(call, recorded) {
+        return Some(Ending::AsOutside);
+    }
+    None
+}
+
+/// Why a line isn't played that is a call which changed nothing.
+fn undone(line: &[u8]) -> Option<Ending>
+    ensures some { IfSome result (IsUndone line.now) }
+    ensures none { IsNone result → (why : EndingOf) → ¬ IsUndone line.now why }
+{
+    if line.len() > LINE_LIMIT {
+        return None;
+    }
+    match read_line(line) {
+        Ok(Item::Played { call, recorded, .. }) => why_undone(line, call, recorded),
+        _ => None,
+    }
+}
+
+/// Whether a line stays as it is, and isn't a call that changed nothing.
+fn stays(line: &[u8]) -> bool
+    ensures { Decides result (IsStillPlayed line.now) }
+{
+    if undone(line).is_some() {
+        return false;
+    }
+    is_still(line)
+}
+
 /// Whether the line is read as a whole, stays so, and is short enough.
 fn is_good(line: &[u8]) -> bool
     ensures { Decides result (IsGood line.now) }
@@ -49,9 +124,9 @@ fn is_good(line: &[u8]) -> bool
         return false;
     }
     match read_line(line) {
-        Ok(Item::Played { .. }) => is_still(line),
-        Ok(Item::Other) => is_still(line),
-        Ok(Item::Blank) => is_still(line),
+        Ok(Item::Played { .. }) => stays(line),
+        Ok(Item::Other) => stays(line),
+        Ok(Item::Blank) => stays(line),
         Ok(Item::Unfinished { .. }) => false,
         Ok(Item::Resumed { .. }) => false,
         Err(_) => false,
@@ -75,6 +150,22 @@ fn unread(alloc: Global, line: &[u8]) -> Result<Settled, AllocError>
         line: joined(alloc, UNREAD_MARK, line)?,
         ending: Ending::AsUnread,
     })
+}
+
+/// A line that shows a call which changed nothing: with the mark of an unread line, as what it is where that is good.
+fn left_out(alloc: Global, line: &[u8], why: Ending) -> Result<Settled, AllocError>
+    requires { (shown : List ℕ) × Shows line.now shown × IsUndone shown why }
+    ensures { IfOk result (λ settled. (IsLeftOut line.now why × (settled.line.items ≡ unread_text line.now) × (settled.ending ≡ why))
+        ⊎ ((¬ IsGood (unread_text line.now)) × (settled.line.items ≡ unread_text line.now) × (settled.ending ≡ AsUnread))) }
+{
+    let settled = unread(alloc, line)?;
+    if is_good(settled.line.as_slice()) {
+        return Ok(Settled {
+            line: settled.line,
+            ending: why,
+        });
+    }
+    Ok(settled)
 }
 
 /// A first half as a call that never returned, where that is good.
@@ -101,7 +192,11 @@ fn by_mends(alloc: Global, line: &[u8], bad: BadCall) -> Result<Settled, AllocEr
     let Some(other) = mended(alloc, line, bad)? else {
         return unread(alloc, line);
     };
-    if is_good(other.as_slice()) {
+    let shown = other.as_slice();
+    if let Some(why) = undone(shown) {
+        return left_out(alloc, line, why);
+    }
+    if is_good(shown) {
         return Ok(Settled {
             line: other,
             ending: Ending::ByMends,
@@ -126,6 +221,9 @@ fn as_it_is(alloc: Global, line: &[u8]) -> Result<Settled, AllocError>
     requires whole { (item : ItemOf) × Spells line.now item × IsWhole item }
     ensures { IfOk result (λ settled. Becomes line.now settled.line.items settled.ending) }
 {
+    if let Some(why) = undone(line) {
+        return left_out(alloc, line, why);
+    }
     if is_still(line) {
         return kept(alloc, line);
     }

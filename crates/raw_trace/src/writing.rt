@@ -9,8 +9,8 @@ ghost use Rattle.raw_logs.specs.Log.{Numbered as NumberedOf, line_of};
 ghost use Rattle.raw_trace.specs.declared.fault.Fault.TheVariants.{Memory};
 ghost use Rattle.raw_trace.specs.Faults.{IsEntryFault};
 ghost use Rattle.std.specs.Bool.{Decides};
-ghost use Rattle.raw_trace.specs.Places.{Becomes, IsReadAs, Changes, IsOtherForm, IsCause, IsTrouble, other_form, IsEntry};
-ghost use Rattle.raw_trace.specs.Rewriting.{text_of, is_form, counted, counted_entry, counted_call};
+ghost use Rattle.raw_trace.specs.Places.{Becomes, IsReadAs, Changes, IsOtherForm, doubles, IsCause, IsTrouble, other_form, IsEntry};
+ghost use Rattle.raw_trace.specs.Rewriting.{text_of, is_form, is_unanswered, counted, counted_entry, counted_call};
 ghost use Rattle.raw_trace.specs.Stages.{entry, AreRoles, MayBeWritten, WroteLines, DidSome, StandsAt, WroteAll, EndsAll};
 
 use crate::calls::{ReadCall, call_of};
@@ -19,10 +19,12 @@ use crate::halves::Role;
 use crate::order::{Ordering, Piece};
 use crate::roles::Roles;
 use crate::settling::{Ending, cause_of, joined, settle};
+use crate::tally::Tally;
+use page_types::Call;
 use raw_lines::changes_space;
 use raw_logs::{Counts, LINE_LIMIT, Lines, Sort};
 use std::alloc::{AllocError, Global};
-use strace_reader::{Item, cut, ends_with, read_line};
+use strace_reader::{Item, Recorded, cut, ends_with, read_line};
 
 /// Fewer texts aren't let go.
 const FEW: usize = 1024;
@@ -35,7 +37,7 @@ pub(crate) struct Written {
     /// What was joined, mended, or left unread.
     pub(crate) counts: Counts,
     /// How many of them are calls.
-    pub(crate) calls: u32,
+    pub(crate) calls: Tally,
 }
 
 impl Written {
@@ -50,6 +52,8 @@ impl Written {
             Ending::ByMends => self.counts.add(Sort::Mended),
             Ending::AsUnreturned => self.counts.add(Sort::Unreturned),
             Ending::AsUnread => self.counts.add(Sort::Unread),
+            Ending::AsInjected => self.counts.add(Sort::Injected),
+            Ending::AsOutside => self.counts.add(Sort::Outside),
         }
     }
 
@@ -72,8 +76,9 @@ impl Written {
     {
         self.count_if(piece.joined, Sort::Joined);
         self.count_if(is_form(piece.trouble), Sort::Forms);
+        self.count_if(is_unanswered(piece.call), Sort::Unanswered);
         self.count_ending(piece.ending);
-        self.calls = with_call(piece.call, self.calls);
+        self.calls = self.calls.with(piece.call);
     }
 
     /// Writes a line that may be written, with its newline.
@@ -103,13 +108,13 @@ impl Written {
     }
 }
 
-/// So many calls and this one, where it is one; the count stays at 2^32 - 1.
-fn with_call(call: Option<ReadCall>, calls: u32) -> u32
-    ensures { result ≡ counted_call call calls }
+/// Whether a line is a call whose result isn't told.
+fn is_unanswered(call: Option<ReadCall>) -> bool
+    ensures { result ≡ is_unanswered call }
 {
     match call {
-        None => calls,
-        Some(_) => calls.saturating_add(1),
+        None => false,
+        Some(read) => read.recorded.is_none(),
     }
 }
 
@@ -209,6 +214,16 @@ fn changes(line: &[u8]) -> bool
     changes_space(body)
 }
 
+/// Whether a call gives pages a second mapping.
+fn doubles(call: Call, recorded: Option<Recorded>) -> bool
+    ensures { result ≡ doubles call recorded }
+{
+    match (call, recorded) {
+        (Call::Remap { old_len, .. }, Some(Recorded::Value(_))) => old_len == 0,
+        _ => false,
+    }
+}
+
 /// Whether a line is a call that changes an address space, in a form that the profile hasn't.
 fn is_other_form(line: &[u8]) -> bool
     requires { length line.now ≤ 65535 }
@@ -216,6 +231,7 @@ fn is_other_form(line: &[u8]) -> bool
 {
     match read_line(line) {
         Ok(Item::Other) => changes(line),
+        Ok(Item::Played { call, recorded, .. }) => doubles(call, recorded),
         _ => false,
     }
 }
@@ -353,7 +369,7 @@ pub(crate) fn write_lines(
         written: Written {
             out: Vec::new(alloc),
             counts,
-            calls: 0,
+            calls: Tally::new(),
         },
     };
     let mut rooms = Rooms {

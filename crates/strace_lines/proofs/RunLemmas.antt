@@ -7,6 +7,7 @@ use Rattle.raw_trace.specs.declared.fault.Fault.{Fault}
 use Rattle.raw_trace.specs.declared.fault.Fault.TheVariants.{Unreadable as CantRead, LongLine as TooLong, NoProcess as Silent, Memory as NoMemory}
 use Rattle.raw_trace.specs.declared.rewriting.Rewriting.{Rewriting}
 use Rattle.raw_trace.specs.Faults.{IsFault, IsCausedFault}
+use Rattle.raw_trace.specs.declared.tally.Tally.{Tally}
 use Rattle.raw_trace.specs.Rewriting.{IsRewriting}
 use Rattle.raw_logs.specs.Reading.{EndsCut}
 use Rattle.raw_logs.proofs.OneEnd.{one_end}
@@ -31,7 +32,7 @@ only_outcome : (words : List (List ℕ)) (bytes : List ℕ) (process : Option �
     → AskFor words (Rewrite process strict)
     → (67108864 < length bytes → LongInput ≡ status)
     → (length bytes ≤ 67108864 → (cause : Fault) → IsCausedFault process strict bytes cause → status_of cause ≡ status)
-    → (length bytes ≤ 67108864 → ((cause : Fault) → IsCausedFault process strict bytes cause → ⊥) → (out : List ℕ) (counts : Counts) (calls : ℕ)
+    → (length bytes ≤ 67108864 → ((cause : Fault) → IsCausedFault process strict bytes cause → ⊥) → (out : List ℕ) (counts : Counts) (calls : Tally)
     (ends : Bool) → IsRewriting process bytes out counts calls → EndsCut bytes ends → Done calls counts ends ≡ status)
     → (other : Status) → IsOutcome words bytes other → other ≡ status
 only_outcome words bytes process strict status one asked long fault whole other (usage refused) = absurd (refused (Rewrite process strict) asked)
@@ -115,7 +116,7 @@ fault_complete words bytes log process strict reads writes NoMemory is only = in
 -- ---- the log is rewritten
 
 -- where a rewriting was found, no fault is called for
-no_fault : {T : Type 0} (found : T) (fault : Fault)
+pub no_fault : {T : Type 0} (found : T) (fault : Fault)
     → (◌≡◌ {A = Result T Fault} (Ok found) (Err fault)) ⊎ (◌≡◌ {A = Result T Fault} (Ok found) (Err NoMemory)) → ⊥
 no_fault found fault (inl e) = absurd cc
 no_fault found fault (inr e) = absurd cc
@@ -124,7 +125,7 @@ no_fault found fault (inr e) = absurd cc
 pub done_complete : (words : List (List ℕ)) (input_old input_new : Option (List ℕ)) (process : Option ℕ) (strict : Bool) (known bytes : List ℕ)
     (found : Rewriting) → Drains input_old input_new bytes → length bytes ≤ 67108864
     → IsRewriting process bytes found.out.items found.counts found.calls
-    → ((out : List ℕ) (counts : Counts) (calls : ℕ) → IsRewriting process bytes out counts calls
+    → ((out : List ℕ) (counts : Counts) (calls : Tally) → IsRewriting process bytes out counts calls
     → (found.out.items ≡ out) × (found.counts ≡ counts) × (found.calls ≡ calls))
     → EndsCut bytes found.ends_cut
     → ((fault : Fault) → IsCausedFault process strict bytes fault

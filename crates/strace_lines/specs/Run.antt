@@ -7,6 +7,7 @@ use Rattle.byte_ports.specs.Counts.{Rose}
 use Rattle.byte_ports.specs.Input.{Drains}
 use Rattle.raw_logs.specs.declared.counts.Counts.{Counts}
 use Rattle.raw_trace.specs.declared.fault.Fault.{Fault}
+use Rattle.raw_trace.specs.declared.tally.Tally.{Tally}
 use Rattle.raw_trace.specs.declared.fault.Fault.TheVariants.{Unreadable as CantRead, LongLine as TooLong, NoProcess as Silent, Memory as NoMemory}
 use Rattle.raw_trace.specs.Faults.{IsFault, IsCausedFault}
 use Rattle.raw_trace.specs.Rewriting.{IsRewriting}
@@ -27,10 +28,11 @@ pub record Heard (words : List (List ℕ)) (input_old input_new : Option (List �
   pub within : length bytes ≤ 67108864
   pub holds : P process strict bytes
 
--- these bytes are the lines of a log, with these counts
+-- these bytes are the lines of a log that calls for no fault
 abbrev pub AreLines : List (List ℕ) → Option (List ℕ) → Option (List ℕ) → List ℕ → Type 0
 AreLines words input_old input_new out = Heard words input_old input_new
-    (λ process strict bytes. (counts : Counts) × (calls : ℕ) × IsRewriting process bytes out counts calls)
+    (λ process strict bytes. (counts : Counts) × (calls : Tally) × IsRewriting process bytes out counts calls
+    × ((fault : Fault) → ¬ IsCausedFault process strict bytes fault))
 
 -- What a run wrote: the lines, or the help; a first part of these where the output failed; else nothing.
 abbrev pub Wrote : List (List ℕ) → Option (List ℕ) → Option (List ℕ) → Option (List ℕ) → Option (List ℕ) → Status → Type 0
@@ -95,7 +97,7 @@ pub data IsOutcome (words : List (List ℕ)) (bytes : List ℕ) : Status → Typ
   not_rewritten : {process : Option ℕ} {strict : Bool} {status : Status} → AskFor words (Rewrite process strict) → length bytes ≤ 67108864 →
       (cause : Fault) → IsCausedFault process strict bytes cause → status ≡ status_of cause → IsOutcome words bytes status
   -- it is
-  done : {process : Option ℕ} {strict : Bool} {out : List ℕ} {counts : Counts} {calls : ℕ} {ends_cut : Bool} → AskFor words (Rewrite process strict) →
+  done : {process : Option ℕ} {strict : Bool} {out : List ℕ} {counts : Counts} {calls : Tally} {ends_cut : Bool} → AskFor words (Rewrite process strict) →
       length bytes ≤ 67108864 → ((cause : Fault) → ¬ IsCausedFault process strict bytes cause) → IsRewriting process bytes out counts calls →
       EndsCut bytes ends_cut → IsOutcome words bytes (Done calls counts ends_cut)
 

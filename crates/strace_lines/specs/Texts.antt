@@ -9,6 +9,7 @@ use Rattle.line_parts.specs.declared.refusal.What.{What}
 use Rattle.line_parts.specs.declared.refusal.What.TheVariants.{Number, Wide, Word, Comma, Close, Result as AtResult, Form as MapsForm, Order}
 use Rattle.raw_logs.specs.declared.counts.Counts.{Counts}
 use Rattle.raw_trace.specs.declared.fault.Cause.{Cause}
+use Rattle.raw_trace.specs.declared.tally.Tally.{Tally}
 use Rattle.raw_trace.specs.declared.fault.Cause.TheVariants.{Form, Alone, Unclear, OtherForm, Unknown}
 use Rattle.strace_lines.specs.declared.status.Status.{Status}
 use Rattle.strace_lines.specs.declared.status.Status.TheVariants.{Done, Helped, Usage, Unreadable, NoProcess, ReadFault, WriteFault, Memory, LongInput, LongLine}
@@ -31,8 +32,8 @@ counted_text text n = if n == 0 then [] else count_line text n
 
 -- what is counted, and how often it came: the lines that were changed; those left out that are of the program; those
 -- that are of other spaces or don't tell of which they are; and what became of calls
-abbrev pub named_counts : Counts → List (List ℕ × ℕ)
-named_counts c =
+abbrev pub named_counts : Tally → Counts → List (List ℕ × ℕ)
+named_counts t c =
     (codes "lines without what options add", c.stripped) ∷
     (codes "process numbers changed", c.numbered) ∷
     (codes "messages of strace left out", c.messages) ∷
@@ -44,11 +45,17 @@ named_counts c =
     (codes "lines that don't tell what was made", c.untold) ∷
     (codes "numbers that were made and have no line", c.silent) ∷
     (codes "numbers that have lines and weren't made", c.foreign) ∷
+    (codes "numbers that were made twice", c.twice) ∷
+    (codes "calls that show another program", t.programs) ∷
+    (codes "calls that map or free pages of the heap", t.remapped) ∷
     (codes "calls joined", c.joined) ∷
     (codes "calls mended", c.mended) ∷
     (codes "calls that never returned", c.unreturned) ∷
     (codes "lines left unread", c.unread) ∷
-    (codes "calls of other forms, not played", c.forms) ∷ []
+    (codes "calls of other forms, not played", c.forms) ∷
+    (codes "calls with an injected result, not played", c.injected) ∷
+    (codes "calls that failed for reasons outside, not played", c.outside) ∷
+    (codes "calls whose result isn't told", c.unanswered) ∷ []
 
 -- what a text points to, and the count beside it
 abbrev pub named_count : Bor (List ℕ) × ℕ → List ℕ × ℕ
@@ -62,9 +69,15 @@ counts_text counts = flat_map (λ c. counted_text c.0 c.1) counts
 abbrev pub cut_text : Bool → List ℕ
 cut_text ends_cut = if ends_cut then codes "strace_lines: last line cut, left out\n" else []
 
+-- how many calls were written; where there are none, what to look for
+abbrev pub calls_text : ℕ → List ℕ
+calls_text n = if n == 0
+    then codes "strace_lines: calls written: 0\nstrace_lines: no call was found: is this a log of strace -f, without -Y?\n"
+    else count_line (codes "calls written") n
+
 -- how many calls were written, and what was changed and left out
-abbrev pub done_text : ℕ → Counts → Bool → List ℕ
-done_text calls c ends_cut = count_line (codes "calls written") calls ++ (counts_text (named_counts c) ++ cut_text ends_cut)
+abbrev pub done_text : Tally → Counts → Bool → List ℕ
+done_text t c ends_cut = calls_text t.calls ++ (counts_text (named_counts t c) ++ cut_text ends_cut)
 
 -- what was due in a line that can't be read
 abbrev pub what_text : What → List ℕ

@@ -49,7 +49,7 @@ pub fn run<S: Source, K: Sink>(
     ensures complete { (bytes : List ℕ) → S.remaining input.old ≡ Some bytes → IsOnlyOutcome (map string_bytes words.now) bytes result
         ⊎ IsHindered (S.fault_count input.old, S.fault_count input.new) (K.fault_count out.old, K.fault_count out.new) result }
     ensures usage { RefusesWords (map string_bytes words.now) → result ≡ Status.Usage }
-    ensures nothing_read { result ≡ Status.Usage → input.new ≡ input.old }
+    ensures nothing_read { (result ≡ Status.Usage) ⊎ (result ≡ Status.Helped) → input.new ≡ input.old }
     ensures nothing_written { IsUnwritten result → out.new ≡ out.old }
     ensures says { Says (K.contents err.old) (K.contents err.new) (K.fault_count err.old) (K.fault_count err.new) result }
     // What is written is read by the reader of lines as just the calls of the log, in the order of the rule, and no
@@ -79,7 +79,7 @@ fn answer<S: Source, K: Sink>(alloc: Global, words: &[String], input: &mut S, ou
     ensures complete { (bytes : List ℕ) → S.remaining input.old ≡ Some bytes → IsOnlyOutcome (map string_bytes words.now) bytes result
         ⊎ IsHindered (S.fault_count input.old, S.fault_count input.new) (K.fault_count out.old, K.fault_count out.new) result }
     ensures usage { RefusesWords (map string_bytes words.now) → result ≡ Status.Usage }
-    ensures nothing_read { result ≡ Status.Usage → input.new ≡ input.old }
+    ensures nothing_read { (result ≡ Status.Usage) ⊎ (result ≡ Status.Helped) → input.new ≡ input.old }
     ensures nothing_written { IsUnwritten result → out.new ≡ out.old }
 {
     match asked_of(words) {
@@ -110,6 +110,7 @@ fn rewrite_input<S: Source, K: Sink>(
         → (bytes : List ℕ) → S.remaining input.old ≡ Some bytes → IsOnlyOutcome words bytes result
         ⊎ IsHindered (S.fault_count input.old, S.fault_count input.new) (K.fault_count out.old, K.fault_count out.new) result }
     ensures no_usage { result ≢ Status.Usage }
+    ensures no_help { result ≢ Status.Helped }
     ensures nothing_written { IsUnwritten result → out.new ≡ out.old }
 {
     let bytes = match read_all(alloc, input, INPUT_LIMIT) {

@@ -5,17 +5,22 @@ ghost use Rattle.std.specs.Prelude.{◌≡◌, ◌≤◌, map, OnOk, OnErr};
 ghost use Rattle.std.specs.Io.KnownBytes.{Appends};
 ghost use Rattle.byte_ports.specs.Bytes.{AppendsPrefix};
 ghost use Rattle.byte_ports.specs.Counts.{Rose};
-ghost use Rattle.strace_lines.specs.Texts.{said, count_line, counted_text, counts_text, named_count, named_counts, cut_text, done_text};
+ghost use Rattle.strace_lines.specs.Texts.{said, count_line, counted_text, counts_text, named_count, named_counts, calls_text, cut_text, done_text};
 ghost use Rattle.strace_lines.specs.Texts.{cause_text, what_text, unreadable_text};
 
 use crate::status::Status;
 use byte_ports::{Failed, Sink, write_all, write_numbered};
 use raw_logs::Counts;
-use raw_trace::Cause;
+use raw_trace::{Cause, Tally};
 use strace_reader::What;
 
 /// The line for words that are not accepted.
 const USAGE: &[u8] = b"usage: strace_lines [--strict] [--process N] < raw.log > my.trace\n";
+
+/// The lines for a log without a call.
+const NO_CALL: &[u8] = b"strace_lines: calls written: 0
+strace_lines: no call was found: is this a log of strace -f, without -Y?
+";
 
 /// Writes the line of a count.
 fn write_count_line<K: Sink>(err: &mut K, text: &[u8], count: u32) -> Result<(), Failed>
@@ -57,8 +62,8 @@ fn write_counts<K: Sink>(err: &mut K, counts: &[(&[u8], u32)]) -> Result<(), Fai
 }
 
 /// What each count counts, in the order in which they are written.
-fn named_counts(counts: &Counts) -> [(&'static [u8], u32); 16]
-    ensures { map named_count result ≡ named_counts counts.now }
+fn named_counts(calls: Tally, counts: &Counts) -> [(&'static [u8], u32); 22]
+    ensures { map named_count result ≡ named_counts calls counts.now }
 {
     [
         (b"lines without what options add", counts.stripped),
@@ -72,11 +77,23 @@ fn named_counts(counts: &Counts) -> [(&'static [u8], u32); 16]
         (b"lines that don't tell what was made", counts.untold),
         (b"numbers that were made and have no line", counts.silent),
         (b"numbers that have lines and weren't made", counts.foreign),
+        (b"numbers that were made twice", counts.twice),
+        (b"calls that show another program", calls.programs),
+        (b"calls that map or free pages of the heap", calls.remapped),
         (b"calls joined", counts.joined),
         (b"calls mended", counts.mended),
         (b"calls that never returned", counts.unreturned),
         (b"lines left unread", counts.unread),
         (b"calls of other forms, not played", counts.forms),
+        (
+            b"calls with an injected result, not played",
+            counts.injected,
+        ),
+        (
+            b"calls that failed for reasons outside, not played",
+            counts.outside,
+        ),
+        (b"calls whose result isn't told", counts.unanswered),
     ]
 }
 
@@ -94,10 +111,24 @@ fn write_cut<K: Sink>(err: &mut K, ends_cut: bool) -> Result<(), Failed>
     }
 }
 
+/// Writes how many calls were written; where there are none, what to look for.
+fn write_calls<K: Sink>(err: &mut K, calls: u32) -> Result<(), Failed>
+    ensures all { OnOk result (Appends (K.contents err.old) (K.contents err.new) (calls_text calls)) }
+    ensures failed_prefix { OnErr result (AppendsPrefix (K.contents err.old) (K.contents err.new) (calls_text calls)) }
+    ensures failed_rose { OnErr result (Rose (K.fault_count err.old) (K.fault_count err.new)) }
+    ensures never_falls { K.fault_count err.old ≤ K.fault_count err.new }
+{
+    if calls == 0 {
+        write_all(err, NO_CALL)
+    } else {
+        write_count_line(err, b"calls written", calls)
+    }
+}
+
 /// Writes how many calls were written, and what was changed and left out.
 fn write_done<K: Sink>(
     err: &mut K,
-    calls: u32,
+    calls: Tally,
     counts: &Counts,
     ends_cut: bool,
 ) -> Result<(), Failed>
@@ -106,8 +137,8 @@ fn write_done<K: Sink>(
     ensures failed_rose { OnErr result (Rose (K.fault_count err.old) (K.fault_count err.new)) }
     ensures never_falls { K.fault_count err.old ≤ K.fault_count err.new }
 {
-    write_count_line(err, b"calls written", calls)?;
-    write_counts(err, &named_counts(counts))?;
+    write_calls(err, calls.calls)?;
+    write_counts(err, &named_counts(calls, counts))?;
     write_cut(err, ends_cut)
 }
 

@@ -4,15 +4,15 @@
 ghost use Rattle.std.specs.Prelude.{◌≡◌};
 
 use raw_logs::Counts;
-use raw_trace::Cause;
+use raw_trace::{Cause, Tally};
 
 /// How a run ends.
 #[derive(Clone, Copy, Debug, PartialEq, Eq)]
 pub enum Status {
     /// The lines were written: how many were changed or left out, and whether the log ends within a line.
     Done {
-        /// How many of the lines are calls.
-        calls: u32,
+        /// How many of the lines are calls, and what their heaps show.
+        calls: Tally,
         /// How many lines of each sort.
         counts: Counts,
         /// The log ends within a line, which is left out.

@@ -5,7 +5,7 @@ use Rattle.raw_trace.specs.declared.rewriting.Rewriting.{Rewriting}
 use Rattle.strace_lines.specs.Run.{Heard, IsOnlyOutcome, status_of}
 use Rattle.strace_lines.specs.Words.{AskFor}
 use Rattle.strace_lines.specs.declared.words.Asked.TheVariants.{Rewrite}
-use Rattle.strace_lines.proofs.RunLemmas.{long_complete, fault_cause, fault_complete, caused_only, same_bytes, done_complete}
+use Rattle.strace_lines.proofs.RunLemmas.{long_complete, fault_cause, fault_complete, caused_only, same_bytes, no_fault, done_complete}
 use Rattle.strace_lines.proofs.run.rewrite_input.Given.{Over}
 use Rattle.strace_lines.proofs.run.rewrite_input.Goals as goal
 use Rattle.strace_lines.proofs.run.rewrite_input.Goals.{After-as_slice}
@@ -64,14 +64,27 @@ returns-in-Ok-write_all-clause-complete g c words asked one bytes known =
     inl (done_complete words _ _ c.args.process c.args.strict bytes c.as_slice.result.now c.in-Ok-rewrite.found drained within
     c.in-Ok-rewrite.ensures.is c.in-Ok-rewrite.ensures.only c.in-Ok-rewrite.ensures.cut c.in-Ok-rewrite.ensures.complete asked one known)
 
+-- what was written is the rewriting
+pub returns-in-Ok-write_all-clause-out : goal.returns-in-Ok-write_all-clause-out
+returns-in-Ok-write_all-clause-out g c words asked =
+    let k = (goal.at.returns-in-Ok-write_all-clause-out g c).After-as_slice in
+    let found = c.in-Ok-rewrite.found in
+    let is = subst (λ (x : List ℕ). IsRewriting c.args.process c.as_slice.result.now x found.counts found.calls) (sym c.as_slice-2.ensures.value)
+    c.in-Ok-rewrite.ensures.is in
+    (c.as_slice-2.result.now, c.in-Ok-write_all.ensures.all, heard g k words _ asked (is, c.in-Ok-rewrite.ensures.cut))
+
 -- where the output failed it has a first part of the lines
 pub returns-clause-out : goal.returns-clause-out
 returns-clause-out g c words asked =
     let k = (goal.at.returns-clause-out g c).After-as_slice in
     let found = c.in-Ok-rewrite.found in
     let is = subst (λ (x : List ℕ). IsRewriting c.args.process c.as_slice.result.now x found.counts found.calls) (sym c.as_slice-2.ensures.value)
-    c.in-Ok-rewrite.ensures.is in
-    (c.as_slice-2.result.now, c.in-Err-write_all.ensures.failed_prefix, inl (heard g k words _ asked (found.counts, found.calls, is)))
+    c.in-Ok-rewrite.ensures.is in (
+      c.as_slice-2.result.now,
+      c.in-Err-write_all.ensures.failed_prefix,
+      inl (heard g k words _ asked
+          (found.counts, found.calls, is, λ fault caused. no_fault found fault (c.in-Ok-rewrite.ensures.complete fault caused))),
+    )
 
 -- and that is a hindrance
 pub returns-clause-complete : goal.returns-clause-complete

@@ -1,0 +1,106 @@
+//! How many calls were written, and how many programs their heaps show. brk(2) with the address 0 only asks where the
+//! heap ends; the first call of a program does so, and is told where its own heap begins. `calls_after` in
+//! `specs/Rewriting.antt` says what follows: a reader may take an answer that isn't the last one for another program.
+
+ghost use Rattle.std.specs.Prelude.{◌≡◌, ◌+◌, if◌then◌else◌};
+ghost use Rattle.raw_logs.specs.Counting.{within_32_bits};
+ghost use Rattle.raw_trace.specs.Rewriting.{no_calls, heap_end, heap_start, is_moved, counted_call};
+
+use crate::calls::{ReadCall, changes_heap};
+use page_types::Call;
+use strace_reader::Recorded;
+
+/// What is counted of the calls that were written.
+#[derive(Clone, Copy, PartialEq, Eq, Debug)]
+pub struct Tally {
+    /// How many there are.
+    pub calls: u32,
+    /// Where the heap begins, in bytes: where it ended as it was first told.
+    pub start: Option<u64>,
+    /// Where the heap ends, in bytes, as it was last told.
+    pub heap: Option<u64>,
+    /// How many of them show that another program began: they ask where the heap ends, and it isn't where it was.
+    pub programs: u32,
+    /// How many of them map or free pages of the heap, so that it may not be what brk(2) told.
+    pub remapped: u32,
+}
+
+/// A count with one more, where there is one; it stays at 2^32 - 1.
+fn one_more_if(is: bool, count: u32) -> u32
+    ensures { result ≡ (if is then within_32_bits (count + 1) else count) }
+{
+    if is { count.saturating_add(1) } else { count }
+}
+
+/// Where the heap begins behind a call, which shows another program or not.
+fn heap_start(
+    moved: bool,
+    call: Call,
+    recorded: Option<Recorded>,
+    start: Option<u64>,
+) -> Option<u64>
+    ensures { result ≡ heap_start moved call recorded start }
+{
+    match (call, recorded) {
+        (Call::Brk { .. }, Some(Recorded::Value(at))) => {
+            if moved {
+                return Some(at);
+            }
+            Some(start.unwrap_or(at))
+        }
+        _ => start,
+    }
+}
+
+/// Where the heap ends behind a call.
+fn heap_end(call: Call, recorded: Option<Recorded>, heap: Option<u64>) -> Option<u64>
+    ensures { result ≡ heap_end call recorded heap }
+{
+    match (call, recorded) {
+        (Call::Brk { .. }, Some(Recorded::Value(at))) => Some(at),
+        _ => heap,
+    }
+}
+
+/// Whether a call only asks where the heap ends, and is told another end than the last one.
+fn is_moved(call: Call, recorded: Option<Recorded>, heap: Option<u64>) -> bool
+    ensures { result ≡ is_moved call recorded heap }
+{
+    match (call, recorded, heap) {
+        (Call::Brk { addr, .. }, Some(Recorded::Value(at)), Some(end)) => addr == 0 && at != end,
+        _ => false,
+    }
+}
+
+impl Tally {
+    /// No call.
+    pub(crate) fn new() -> Tally
+        ensures { result ≡ no_calls }
+    {
+        Tally {
+            calls: 0,
+            start: None,
+            heap: None,
+            programs: 0,
+            remapped: 0,
+        }
+    }
+
+    /// With one call more, where it is one; no count rises above 2^32 - 1.
+    pub(crate) fn with(self, call: Option<ReadCall>) -> Tally
+        ensures { result ≡ counted_call call self }
+    {
+        let Some(read) = call else {
+            return self;
+        };
+        let moved = is_moved(read.call, read.recorded, self.heap);
+        let remaps = changes_heap(read, self.start, self.heap);
+        Tally {
+            calls: self.calls.saturating_add(1),
+            start: heap_start(moved, read.call, read.recorded, self.start),
+            heap: heap_end(read.call, read.recorded, self.heap),
+            programs: one_more_if(moved, self.programs),
+            remapped: one_more_if(remaps, self.remapped),
+        }
+    }
+}
