@@ -36,7 +36,8 @@ shown_of-requires-clause-right g c =
 
 -- their calls have named bits alone
 pub shown_of-requires-clause-named : goal.shown_of-requires-clause-named
-shown_of-requires-clause-named g c = subst HasNamedCalls (sym c.entries.ensures) (named_calls c.in-Ok-play_asked.closed.entries c.in-Ok-play_asked.ensures.played.named)
+shown_of-requires-clause-named g c = subst HasNamedCalls (sym c.entries.ensures)
+    (named_calls c.in-Ok-play_asked.closed.entries c.in-Ok-play_asked.ensures.played.named)
 
 -- there are as many entries as lines, so their count has 32 bits
 pub refused_count-requires : goal.refused_count-requires
