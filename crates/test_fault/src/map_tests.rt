@@ -1,20 +1,23 @@
 //! Worked cases of maps, unmaps, heaps and moves over a running space, both sides of the limit on rows, and threads
 //! that map, unmap and fault on shared pages. What a test expects is reckoned by hand or by the one-thread model, never
 //! taken from the program. More worked cases stand in `tests/rows`, which the gate plays on such a space too.
-ghost use Rattle.std.specs.Prelude.{◌≡◌};
+ghost use Rattle.std.specs.Prelude.{true, ◌≡◌, ◌<◌};
+ghost use Rattle.page_types.specs.Named.{IsNamedCall};
+ghost use Rattle.area_rows.specs.Rows.{keeps_by};
 ghost use Rattle.test_crews.specs.Crews.{IsCrew};
 
 use crate::replies::short;
 use area_rows::{Answer, Caller, Closed, Space};
+use list_cuts::Cut;
 use page_fault::TriedFault;
-use page_types::{Call, Field, Kind, LIMIT, LOW, MapFlags, PAGE, Prot, Reply, Short, Why};
+use page_types::{Access, Call, Field, Kind, LIMIT, LOW, MapFlags, PAGE, Prot, Reply, Short, Why};
 use space_model::{Area, PlainSpace, Under, have_named_calls, have_named_kinds, legal};
 use std::alloc::Global;
 use std::process::Abort;
 use std::sync::Wait;
 use std::test::Fail;
 use std::thread::Threads;
-use test_crews::{Work, call_at, call_by, open_crew, replacing, try_by, work_all};
+use test_crews::{Work, call_at, call_by, open_crew, open_cut_crew, replacing, try_by, work_all};
 
 /// A call, and what it answers under what.
 #[derive(Clone, Copy)]
@@ -135,7 +138,8 @@ fn closed_right(
     start: &PlainSpace,
     count: usize,
 ) -> Result<Closed, Fail>
-    requires { IsCrew space.table space.seats callers.items }
+    requires crew { IsCrew space.table space.seats callers.items }
+    requires keeps { keeps_by space.table ≡ true }
 {
     let Ok(closed) = space.close(alloc, callers) else {
         panic!(rt; "memory");
@@ -152,17 +156,59 @@ fn closed_right(
     Ok(closed)
 }
 
-/// Makes the calls one after another on a space that starts with the first areas; the last ones are left.
-fn plays<R: Abort + Wait>(
+/// Closes a space, and gives the areas that are left.
+pub(crate) fn areas_left(
+    rt: &impl Abort,
+    alloc: Global,
+    space: Space,
+    callers: Vec<Caller>,
+) -> Vec<Area>
+    requires { IsCrew space.table space.seats callers.items }
+{
+    let Ok(areas) = space.close_areas(alloc, callers) else {
+        panic!(rt; "memory");
+    };
+    areas
+}
+
+/// Closes a space that keeps its history or doesn't. These areas are left; a history is so many entries long, and
+/// legal.
+fn ends_with(
+    rt: &impl Abort,
+    alloc: Global,
+    keeps: bool,
+    space: Space,
+    callers: Vec<Caller>,
+    start: &PlainSpace,
+    count: usize,
+    after: &[Area],
+) -> Result<(), Fail>
+    requires crew { IsCrew space.table space.seats callers.items }
+    requires keeps { keeps_by space.table ≡ keeps }
+{
+    if keeps {
+        let closed = closed_right(rt, alloc, space, callers, start, count)?;
+        assert_eq!(rt; closed.areas(), after);
+        return Ok(());
+    }
+    let areas = areas_left(rt, alloc, space, callers);
+    assert_eq!(rt; areas.as_slice(), after);
+    Ok(())
+}
+
+/// Makes the calls one after another on a space that starts with the first areas, and keeps its history or doesn't; the
+/// last ones are left.
+fn plays_kind<R: Abort + Wait>(
     rt: &R,
     alloc: Global,
+    keeps: bool,
     before: &[Area],
     cases: &[Case],
     after: &[Area],
 ) -> Result<(), Fail> {
     assert!(rt; have_named_kinds(before) && before.len() < 1 << 30);
     let start = PlainSpace::of_areas(alloc, before)?;
-    let Ok((space, mut callers)) = open_crew(alloc, &[8], &start) else {
+    let Ok((space, mut callers)) = open_cut_crew(alloc, keeps, &[8], Cut::one(), &start) else {
         panic!(rt; "no space");
     };
     for case in cases {
@@ -175,9 +221,19 @@ fn plays<R: Abort + Wait>(
         assert_eq!(rt; entry.reply, case.reply);
         assert_eq!(rt; entry.under, case.under);
     }
-    let closed = closed_right(rt, alloc, space, callers, &start, cases.len())?;
-    assert_eq!(rt; closed.areas(), after);
-    Ok(())
+    ends_with(rt, alloc, keeps, space, callers, &start, cases.len(), after)
+}
+
+/// The same on a space of each kind.
+fn plays<R: Abort + Wait>(
+    rt: &R,
+    alloc: Global,
+    before: &[Area],
+    cases: &[Case],
+    after: &[Area],
+) -> Result<(), Fail> {
+    plays_kind(rt, alloc, true, before, cases, after)?;
+    plays_kind(rt, alloc, false, before, cases, after)
 }
 
 #[test]
@@ -363,12 +419,80 @@ fn works<R: Abort + Threads + Wait + Sync>(
     Ok(())
 }
 
+/// A read of the first byte of a page that is worked on, counted from 0.
+fn read_at(index: u64) -> Call
+    requires { index < 80 }
+    ensures { IsNamedCall result }
+{
+    Call::Fault {
+        addr: (16 + index) * PAGE,
+        access: Access::Read,
+    }
+}
+
+/// What the first caller of a crew is answered to a read of each page that is worked on.
+fn read_all<R: Abort + Wait>(
+    rt: &R,
+    alloc: Global,
+    space: &Space,
+    callers: &mut [Caller],
+) -> Result<Vec<Reply>, Fail>
+    requires { IsCrew space.now.table space.now.seats callers.old }
+    ensures { IsCrew space.now.table space.now.seats callers.new }
+{
+    let mut replies = Vec::new(alloc);
+    for index in 0..64 {
+        let Answer::Given(entry) = call_by(rt, space, callers, 501, read_at(index)) else {
+            panic!(rt; "no number left");
+        };
+        replies.push(entry.reply)?;
+    }
+    Ok(replies)
+}
+
+/// The same calls on a space that keeps its history or doesn't, and then a read of each page that is worked on. The
+/// areas that are left answer each as it was answered.
+fn works_unjudged<R: Abort + Threads + Wait + Sync>(
+    rt: &R,
+    alloc: Global,
+    keeps: bool,
+    work: Work,
+    callers: usize,
+) -> Result<Vec<Area>, Fail> {
+    assert!(rt; callers <= 16);
+    let start = PlainSpace::new(alloc);
+    let calls = [600; 16];
+    let Ok((space, mut crew)) = open_cut_crew(alloc, keeps, &calls[..callers], Cut::one(), &start)
+    else {
+        panic!(rt; "no space");
+    };
+    work_all(rt, &space, crew.as_mut_slice(), work, callers, 500);
+    let replies = read_all(rt, alloc, &space, crew.as_mut_slice())?;
+    let areas = areas_left(rt, alloc, space, crew);
+    assert!(rt; areas.len() < 1 << 30 && have_named_kinds(&areas));
+    let mut model = PlainSpace::of_areas(alloc, &areas)?;
+    for (index, reply) in replies.iter().enumerate() {
+        assert!(rt; index < 64);
+        assert_eq!(rt; model.step(&read_at(index as u64))?, *reply);
+    }
+    Ok(areas)
+}
+
 #[test]
 fn two_threads_map_and_unmap_one_page(rt: HostRuntime) -> Result<(), Fail> {
-    works(&rt, rt.alloc(), Work::OnePage, 2, 2)
+    works(&rt, rt.alloc(), Work::OnePage, 2, 2)?;
+    for keeps in [true, false] {
+        let left = works_unjudged(&rt, rt.alloc(), keeps, Work::OnePage, 2)?;
+        assert!(rt; left.is_empty());
+    }
+    Ok(())
 }
 
 #[test]
 fn four_threads_change_64_pages_beside_two_that_fault(rt: HostRuntime) -> Result<(), Fail> {
-    works(&rt, rt.alloc(), Work::Mixed, 4, 6)
+    works(&rt, rt.alloc(), Work::Mixed, 4, 6)?;
+    for keeps in [true, false] {
+        works_unjudged(&rt, rt.alloc(), keeps, Work::Mixed, 6)?;
+    }
+    Ok(())
 }

@@ -1,16 +1,24 @@
 //! Worked cases of faults over a running space, and four threads on shared pages. What a test expects is reckoned by
 //! hand or by the one-thread model, never taken from the program.
+ghost use Rattle.std.specs.Prelude.{false, ◌≡◌, ◌≤◌};
+ghost use Rattle.test_crews.specs.declared.held.Holding.TheVariants.{ReadsAlone};
 ghost use Rattle.page_types.specs.Named.{IsNamedCall};
 ghost use Rattle.test_crews.specs.Crews.{IsCrew};
 
+use crate::map_tests::areas_left;
 use area_rows::{Answer, Caller, Space, SpaceFault};
+use list_cuts::Cut;
 use lock_core::{Mode, Range};
 use page_fault::TriedFault;
 use page_types::{Access, Call, Kind, PAGE, Prot, Reply, Span, Why};
 use range_rw::NotHeld;
 use space_model::{Area, PlainSpace, Under, have_named_calls, have_named_kinds, legal};
+use std::alloc::Global;
+use std::process::Abort;
 use std::sync::Wait;
-use test_crews::{Work, call_by, open_crew, try_beside, work_all};
+use test_crews::{
+    HeldCalls, Holding, Work, call_by, hold_beside, open_crew, open_cut_crew, try_beside, work_all,
+};
 
 /// The pages 16 and 17, which may be read.
 const PRIVATE: Area = Area {
@@ -34,15 +42,23 @@ const SHARED: Area = Area {
     },
 };
 
+/// How a space of so many callers is refused, if it is.
+fn refusal_of(alloc: Global, keeps: bool, count: u32) -> Option<SpaceFault>
+    requires { count ≤ 17 }
+{
+    let start = PlainSpace::new(alloc);
+    let calls = [1; 17];
+    open_cut_crew(alloc, keeps, &calls[..count as usize], Cut::one(), &start).err()
+}
+
 #[test]
 fn a_space_has_from_one_to_sixteen_callers(rt: HostRuntime) {
-    let start = PlainSpace::new(rt.alloc());
-    for count in [0, 17] {
-        let calls = [1; 17];
-        match open_crew(rt.alloc(), &calls[..count as usize], &start) {
-            Ok(_) => panic!(rt; "{count} callers"),
-            Err(refusal) => assert_eq!(rt; refusal, SpaceFault::Callers(count)),
+    for keeps in [true, false] {
+        for count in [0, 17] {
+            let refusal = refusal_of(rt.alloc(), keeps, count);
+            assert_eq!(rt; refusal, Some(SpaceFault::Callers(count)));
         }
+        assert_eq!(rt; refusal_of(rt.alloc(), keeps, 16), None);
     }
     let text = format!(in rt.alloc(); "{}", SpaceFault::Callers(17)).expect(&rt, "memory");
     assert_eq!(rt; text.as_str(), "17 callers, where 1 to 16 may be");
@@ -140,9 +156,11 @@ fn a_start_of_131062_rows_is_too_large(rt: HostRuntime) {
     }
     assert!(rt; areas.len() == 131_060 && have_named_kinds(&areas));
     let start = PlainSpace::of_areas(alloc, &areas).expect(&rt, "an area list");
-    match open_crew(alloc, &[1], &start) {
-        Ok(_) => panic!(rt; "a space of 131062 rows"),
-        Err(refusal) => assert_eq!(rt; refusal, SpaceFault::Rows(131_062)),
+    for keeps in [true, false] {
+        match open_cut_crew(alloc, keeps, &[1], Cut::one(), &start) {
+            Ok(_) => panic!(rt; "a space of 131062 rows"),
+            Err(refusal) => assert_eq!(rt; refusal, SpaceFault::Rows(131_062)),
+        }
     }
     let text = format!(in alloc; "{}", SpaceFault::Rows(131_062)).expect(&rt, "memory");
     assert_eq!(rt; text.as_str(), "131062 rows, where at most 131061 may be");
@@ -197,6 +215,109 @@ fn a_caller_with_one_number_faults_once(rt: HostRuntime) {
     assert!(rt; have_named_calls(&wrong));
     let illegal = legal(alloc, &start, &wrong).expect(&rt, "memory");
     assert_eq!(rt; illegal, Some(0));
+}
+
+#[test]
+fn without_a_history_a_caller_goes_on(rt: HostRuntime) {
+    let alloc = rt.alloc();
+    let start = PlainSpace::new(alloc);
+    let Ok((space, mut callers)) = open_cut_crew(alloc, false, &[1], Cut::one(), &start) else {
+        panic!(rt; "no space");
+    };
+    let call = Call::Fault {
+        addr: 0x10000,
+        access: Access::Read,
+    };
+    let (first, second) = call_twice(&rt, &space, callers.as_mut_slice(), call);
+    match callers.first() {
+        Some(caller) => assert_eq!(rt; caller.left(), (1 << 56) - 2),
+        None => panic!(rt; "no caller"),
+    }
+    assert!(rt; areas_left(&rt, alloc, space, callers).is_empty());
+    for (answer, line) in [(first, 1), (second, 2)] {
+        let Answer::Given(entry) = answer else {
+            panic!(rt; "no number left");
+        };
+        assert_eq!(rt; (entry.number, entry.line), (0, line));
+        assert_eq!(rt; entry.reply, Reply::Refused(Why::MapErr(16)));
+    }
+}
+
+/// What is answered to calls of a caller that goes on holding, and to the tries of another one beside it.
+fn held_by<R: Abort + Wait>(
+    rt: &R,
+    alloc: Global,
+    keeps: bool,
+    holding: Holding,
+    before: &[Area],
+) -> HeldCalls
+    requires { holding ≡ ReadsAlone → keeps ≡ false }
+{
+    assert!(rt; have_named_kinds(before) && before.len() < 1 << 30);
+    let start = PlainSpace::of_areas(alloc, before).expect(rt, "an area list");
+    let Ok((space, mut callers)) = open_cut_crew(alloc, keeps, &[2, 2], Cut::one(), &start) else {
+        panic!(rt; "no space");
+    };
+    let calls = hold_beside(rt, &space, callers.as_mut_slice(), holding);
+    let areas = areas_left(rt, alloc, space, callers);
+    assert_eq!(rt; areas.as_slice(), before);
+    calls.expect(rt, "a number is left")
+}
+
+#[test]
+fn who_goes_on_holding_a_page_as_a_writer_hinders_a_fault(rt: HostRuntime) {
+    let granted = Reply::Granted(PRIVATE.kind);
+    let calls = held_by(&rt, rt.alloc(), false, Holding::ReadsAlone, &[PRIVATE]);
+    assert_eq!(rt; (calls.first.reply, calls.second.reply), (granted, granted));
+    assert!(rt; matches!(calls.first.under, Under::Reader(_)));
+    assert!(rt;
+        matches!(
+            calls.between,
+            TriedFault::NotHeld(NotHeld::Busy { owner: 0, .. })
+        )
+    );
+    assert_eq!(rt; reply_of(calls.behind), Some(granted));
+}
+
+/// The reply of a try.
+fn reply_of(answer: TriedFault) -> Option<Reply> {
+    match answer {
+        TriedFault::Answered(entry) => Some(entry.reply),
+        _ => None,
+    }
+}
+
+#[test]
+fn who_goes_on_holding_all_pages_hinders_a_fault(rt: HostRuntime) {
+    for keeps in [true, false] {
+        let calls = held_by(&rt, rt.alloc(), keeps, Holding::Maps, &[]);
+        assert_eq!(rt; calls.first.reply, Reply::At(16 * PAGE));
+        assert_eq!(rt; calls.second.reply, Reply::Zero);
+        assert_eq!(rt;
+            (calls.first.under, calls.second.under),
+            (Under::Whole, Under::Whole)
+        );
+        assert!(rt;
+            matches!(
+                calls.between,
+                TriedFault::NotHeld(NotHeld::Busy { owner: 0, .. })
+            )
+        );
+        let gone = Reply::Refused(Why::MapErr(16));
+        assert_eq!(rt; reply_of(calls.behind), Some(gone));
+    }
+}
+
+#[test]
+fn who_goes_on_holding_a_page_as_a_reader_hinders_no_fault(rt: HostRuntime) {
+    let granted = Reply::Granted(PRIVATE.kind);
+    for keeps in [true, false] {
+        let calls = held_by(&rt, rt.alloc(), keeps, Holding::Reads, &[PRIVATE]);
+        assert_eq!(rt; (calls.first.reply, calls.second.reply), (granted, granted));
+        assert_eq!(rt; (calls.first.line, calls.second.line), (1, 2));
+        assert_eq!(rt; reply_of(calls.between), Some(granted));
+        assert_eq!(rt; reply_of(calls.behind), Some(granted));
+    }
 }
 
 #[test]
