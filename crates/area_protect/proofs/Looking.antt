@@ -207,7 +207,8 @@ between a m keeps looked called = (looked.0, (let h = looked.1 in let l = (seen_
 
 -- the reason of an attempt is the cause of the call that follows
 pub cause_of : (a : CallerView) {b c : CallerView} (r : Request) {line : ℕ} {call : Call} {e : Entry} (cause : Cause)
-    → keeps_by b.seat.table ≡ true → IsReason a r b cause → IsCalled b line call e c → HasCause a.seat (Protect r.addr r.len r.prot) (page_of r.addr) (end_page r.addr r.len) e c.seat cause
+    → keeps_by b.seat.table ≡ true → IsReason a r b cause → IsCalled b line call e c
+    → HasCause a.seat (Protect r.addr r.len r.prot) (page_of r.addr) (end_page r.addr r.len) e c.seat cause
 cause_of a {b} {c} r (NotOneArea at) keeps reason called =
     (between a at keeps reason.0 called, after_on b.seat c.seat at _ called.numbered.start (seen_on keeps called).0 reason.0.1 reason.1)
 cause_of a {b} {c} r (NotSimple at) keeps reason called =

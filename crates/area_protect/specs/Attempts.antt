@@ -95,8 +95,8 @@ pub record IsChanged (before : CallerView) (r : Request) (after : CallerView) (e
   pub whole : keeps_by before.seat.table ≡ true → (n : ℕ) → CountsWhole before.seat n → HasWhole after.seat e.number n
   pub looks : after.seat.pass.looks ≡ before.seat.pass.looks
 
--- the change of pages of one kind would leave another number of rows, as what the caller has read shows; it is not made,
--- and the caller holds what it held
+-- the change of pages of one kind would leave another number of rows, as what the caller has read shows; it is not
+-- made, and the caller holds what it held
 pub record NeedsRows (before : CallerView) (r : Request) (after : CallerView) : Type 0 where
   pub reading : IsReading before.seat after.seat
   pub left : after.left ≡ before.left

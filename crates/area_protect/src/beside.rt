@@ -183,8 +183,8 @@ fn beside_counting<L: Ledger, R: Wait>(
     }
 }
 
-/// Changes the protection of the `len` bytes from `addr` on, rounded up to whole pages, as mprotect(2) and `protect` do,
-/// and doesn't say by which way it went; the space need not keep its history. The caller is of this space and holds
+/// Changes the protection of the `len` bytes from `addr` on, rounded up to whole pages, as mprotect(2) and `protect`
+/// do, and doesn't say by which way it went; the space need not keep its history. The caller is of this space and holds
 /// nothing, and `prot` has named bits alone; `line` is the line of the input that names the call, counted from 1.
 /// A change within one area that is sealed, which refuses it, or that leaves the number of rows as it is, holds that
 /// area and a page on each side; every other one holds all pages, and a call that its arguments decide holds nothing.
