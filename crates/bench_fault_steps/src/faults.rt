@@ -1,5 +1,6 @@
 //! A space with one caller, and the caller's faults.
-ghost use Rattle.std.specs.Prelude.{◌≡◌, ◌-◌, IfOk, None};
+ghost use Rattle.std.specs.Prelude.{◌≡◌, ◌-◌, IfOk, None, true};
+ghost use Rattle.area_guard.specs.Rows.{keeps_by};
 
 use anyhow::{Result, bail};
 use area_rows::{Caller, Space, SpaceFault};
@@ -18,6 +19,7 @@ fn open_one(
     ensures table { IfOk result (λ r. r.1.seat.table ≡ r.0.table) }
     ensures free { IfOk result (λ r. r.1.seat.held ≡ None) }
     ensures left { IfOk result (λ r. r.1.left ≡ calls) }
+    ensures keeps { IfOk result (λ r. keeps_by r.1.seat.table ≡ true) }
 {
     let (space, mut opened) = Space::open(alloc, &[calls], start)?;
     let first = opened.remove(0);
@@ -39,6 +41,7 @@ fn make_faults<R: Wait>(wait: &R, space: &Space, caller: &mut Caller, faults: u3
     requires table { caller.old.seat.table ≡ space.now.table }
     requires free { caller.old.seat.held ≡ None }
     ensures made { caller.new.left ≡ caller.old.left - faults }
+    ensures keeps { caller.new.seat.table ≡ caller.old.seat.table }
 {
     for turn in 0..faults {
         fault(space, wait, caller, turn, addr_at(turn, rows), Access::Read);

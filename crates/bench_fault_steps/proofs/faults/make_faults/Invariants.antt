@@ -7,5 +7,6 @@ abbrev pub invariant-loop-turn : goal.invariant-loop-turn
 invariant-loop-turn g l = record {
   table : l.caller.seat.table ≡ l.space.table;
   free : l.caller.seat.held ≡ None;
+  keeps : l.caller.seat.table ≡ l.initial.caller.seat.table;
   made : l.caller.left ≡ l.initial.caller.left - l.turn;
 }
