@@ -1,9 +1,10 @@
 //! Two workers at play while a third caller holds a span as a writer, until a sign of their gate. What a reader may
 //! rely on is that the history of the closing has just the entries of the workers' lines.
-ghost use Rattle.std.specs.Prelude.{◌≡◌, ◌≤◌, ◌<◌, ◌^◌, [], ◌∷◌, ◌++◌, All, None, IsSome, IfOk, map, vec_len, vec_capacity};
+ghost use Rattle.std.specs.Prelude.{true, ◌≡◌, ◌≤◌, ◌<◌, ◌^◌, [], ◌∷◌, ◌++◌, All, None, IsSome, IfOk, map, vec_len, vec_capacity};
 ghost use Rattle.std.specs.Thread.{IsSync};
 ghost use Rattle.page_types.specs.Named.{IsNamedCall};
 ghost use Rattle.area_rows.specs.History.{IsAtRest, Runs};
+ghost use Rattle.area_rows.specs.Rows.{keeps_by};
 ghost use Rattle.trace_threads.specs.Collected.{IsCollected, caller_of};
 ghost use Rattle.trace_threads.specs.Hiring.{AreNewWorkers};
 ghost use Rattle.trace_threads.specs.Workers.{AreOfTable, HavePlayed};
@@ -52,7 +53,8 @@ fn play_behind<R: Threads + Wait + Sync>(
     gate: &SignGate,
     workers: &mut [Worker],
 )
-    requires { AreOfTable space.now.table workers.old }
+    requires workers { AreOfTable space.now.table workers.old }
+    requires keeps { keeps_by space.now.table ≡ true }
     ensures { HavePlayed workers.old workers.new }
 {
     play_all(space, rt, workers, gate);
@@ -67,6 +69,7 @@ fn play_and_release<R: Threads + Wait + Sync>(
     workers: &mut [Worker],
 )
     requires workers { AreOfTable space.now.table workers.old }
+    requires keeps { keeps_by space.now.table ≡ true }
     requires table { holder.old.seat.table ≡ space.now.table }
     requires holds { IsSome holder.old.seat.held }
     requires rest { IsAtRest holder.old.seat.pass }
@@ -74,7 +77,7 @@ fn play_and_release<R: Threads + Wait + Sync>(
     ensures back { IsBack holder.old holder.new }
 {
     let mut play = ||
-        requires { IsSync R.row × AreOfTable space.now.table workers.now }
+        requires { IsSync R.row × AreOfTable space.now.table workers.now × (keeps_by space.now.table ≡ true) }
         ensures { HavePlayed workers.entry.now workers.exit.now }
     { play_behind(space, rt, gate, workers) };
     let mut give_back = ||
@@ -94,6 +97,7 @@ fn hold_and_play<R: Threads + Wait + Sync>(
     workers: &mut Vec<Worker>,
 )
     requires workers { AreOfTable space.now.table workers.old.items }
+    requires keeps { keeps_by space.now.table ≡ true }
     requires table { holder.old.seat.table ≡ space.now.table }
     requires free { holder.old.seat.held ≡ None }
     ensures played { HavePlayed workers.old.items workers.new.items }
@@ -138,6 +142,7 @@ fn open_beside(
     requires first { All (λ l. IsNamedCall l.call) first.items }
     requires second { All (λ l. IsNamedCall l.call) second.items }
     ensures seats { IfOk result (λ r. r.0.seats ≡ 3) }
+    ensures keeps { IfOk result (λ r. keeps_by r.0.table ≡ true) }
     ensures workers { IfOk result (λ r. AreNewWorkers r.0.table start.now (first.items ∷ second.items ∷ []) r.1.items) }
     ensures third { IfOk result (λ r. IsThird r.0.table r.2) }
     ensures room { IfOk result (λ r. (r.3.items ≡ []) × (3 ≤ vec_capacity r.3)) }
