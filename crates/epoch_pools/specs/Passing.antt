@@ -2,7 +2,7 @@
 -- made behind the own link. A narrow range is linked in its list and looks at list 0; a wide one is linked in list 0
 -- and looks at each list that it takes, in rising order. Where the head names no node, or the seat holds its range in
 -- that list too, nobody holds a range in conflict there, and who links later looks later. This project's own profile.
-use Rattle.std.specs.Prelude.{◌≡◌, ◌≢◌, ◌⊎◌, ℕ, ◌+◌, ◌<◌, ◌≤◌, ◌==◌, ◌||◌, Bool, true, false, if◌then◌else◌, [], Some}
+use Rattle.std.specs.Prelude.{◌≡◌, ◌≢◌, ◌⊎◌, ℕ, ◌+◌, ◌<◌, ◌≤◌, ◌==◌, ◌||◌, Bool, true, if◌then◌else◌, [], Some}
 use Rattle.atomic_table.specs.Table.{Me}
 use Rattle.list_cuts.specs.Cut.{Regions, list_count, Takes, TakesOne}
 use Rattle.lock_core.specs.declared.range.Held.{Held}
