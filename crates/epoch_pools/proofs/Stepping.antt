@@ -1,11 +1,12 @@
 -- What a step leaves of a hand, by what its operation returned: what belongs to the hand's number, what the hand may
 -- rely on then, and that a store returns 0. The steps of epochs and homes leave what their calls name.
-use Rattle.std.proofs.Common.{◌≡◌, ℕ, ◌+◌, ◌%◌, ◌^◌, ◌<◌, true, false, Bool, refl, sym, ap, ◌∙◌, subst, arith, eq-eqb, ne_eqb}
+use Rattle.std.proofs.Common.{◌≡◌, ℕ, ◌+◌, ◌%◌, ◌^◌, ◌<◌, true, false, Bool, List, [], ◌∷◌, ◌++◌}
+use Rattle.std.proofs.Common.{append_assoc, refl, sym, ap, ◌∙◌, subst, arith, eq-eqb, ne_eqb}
 use Rattle.std.specs.Prelude.{Option, Some, None, is_some, ◌==◌, ◌||◌, if◌then◌else◌}
 use Rattle.lock_core.specs.declared.views.View.{View}
 use Rattle.lock_core.specs.declared.views.Cursor.{Cursor}
 use Rattle.lock_core.specs.declared.steps.Step.{Step}
-use Rattle.lock_core.specs.declared.steps.Step.TheVariants.{Enter, GiveHome, FillLo, FillHi, Aim, ClearHome, Mark}
+use Rattle.lock_core.specs.declared.steps.Step.TheVariants.{Enter, GiveHome, FillLo, FillHi, Aim, ClearHome, Mark, QuickLink}
 use Rattle.lock_core.specs.declared.ops.Act.{Act}
 use Rattle.lock_core.specs.declared.ops.Act.TheVariants.{Load, Store, Add, Exchange}
 use Rattle.lock_core.specs.StepTable.{Plan, IsLine, enter, give_home, fill_lo, fill_hi, aim, clear_home}
@@ -15,9 +16,10 @@ use Rattle.lock_core.specs.Operations.{planned, IsEnabled, IsStoring, Writes}
 use Rattle.lock_core.proofs.Enabled.{line_of}
 use Rattle.lock_core.proofs.Table.{plan_of_line}
 use Rattle.epoch_pools.specs.declared.record.Looked.{Looked}
+use Rattle.epoch_pools.specs.declared.record.Occupied.{Occupied}
 use Rattle.epoch_pools.specs.declared.record.Record.{Record}
 use Rattle.epoch_pools.specs.declared.views.SeatPart.{SeatPart}
-use Rattle.epoch_pools.specs.Record.{record_after, looked_on, looked_with, is_judging, gained_by}
+use Rattle.epoch_pools.specs.Record.{record_after, occupied_at, occupied_after, KeepsOccupied, looked_on, looked_with, is_judging, gained_by}
 use Rattle.epoch_pools.specs.Pools.{IsWhole}
 use Rattle.epoch_pools.specs.Running.{pass_kept, IsAnswer, line_for, Enables, core_after, part_after, Told}
 use Rattle.epoch_pools.specs.Hands.{IsHandView}
@@ -32,6 +34,19 @@ record_same t v now (FillHi hi mode) place found answer s = refl
 record_same t v now Aim place found answer s = refl
 record_same t v now (ClearHome n) place found answer s = refl
 record_same t v now _ place found answer s = absurd s
+
+-- a step keeps what the record had of lists that weren't empty
+pub occupied_kept : (t : Record) (step : Step) (found : ℕ) → (more : List Occupied) × (occupied_after t step found ≡ more ++ t.occupied)
+occupied_kept t QuickLink found = by_test (found == 0)
+  where
+    by_test : (b : Bool) → (more : List Occupied) × (occupied_at t t.list b ≡ more ++ t.occupied)
+    by_test true = ([], refl)
+    by_test false = (record { list = t.list; step = t.taken } ∷ [], refl)
+occupied_kept t _ found = ([], refl)
+
+-- and so do steps one after another
+pub occupied_on : (a b c : Record) → KeepsOccupied a b → KeepsOccupied b c → KeepsOccupied a c
+occupied_on a b c x y = (y.0 ++ x.0, y.1 ∙ (ap (λ l. y.0 ++ l) x.1 ∙ sym (append_assoc y.0 x.0 a.occupied)))
 
 -- a store's line makes of every word the same
 writes_same : (seats s : ℕ) (v : View) (step : Step) (p : Plan) → IsStoring step → IsLine seats s v step p → (w u : ℕ) → p.write w ≡ p.write u

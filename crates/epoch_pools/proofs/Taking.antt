@@ -28,13 +28,14 @@ use Rattle.epoch_pools.specs.declared.record.Away.{Away}
 use Rattle.epoch_pools.specs.declared.record.Noted.{Noted}
 use Rattle.epoch_pools.specs.declared.record.Record.{Record}
 use Rattle.epoch_pools.specs.declared.views.SeatPart.{SeatPart}
-use Rattle.epoch_pools.specs.Record.{asked_after, noted_after, looked_with, is_judging, gained_by}
+use Rattle.epoch_pools.specs.Record.{KeepsOccupied, asked_after, noted_after, looked_with, is_judging, gained_by}
 use Rattle.epoch_pools.specs.Running.{pass_kept, Enables, part_after, core_after}
 use Rattle.epoch_pools.specs.declared.stuck.Stuck.{Stuck}
 use Rattle.epoch_pools.specs.declared.stuck.Stuck.TheVariants.{Inside, Away as IsAway}
 use Rattle.epoch_pools.specs.Pools.{IsWhole, IsPooled}
 use Rattle.epoch_pools.specs.Taking.{IsFree, IsPoolCall, IsLooking, IsReadAway, IsReadInside, IsHomeLook, IsHomeKnown, IsSeatKnown, IsEpochLook, IsBarred}
 use Rattle.epoch_pools.specs.Taking.{IsFirstInside, IsInside, IsHeldUp, IsStuck, TakesFirst, TakesFilled}
+use Rattle.epoch_pools.proofs.Stepping.{occupied_kept, occupied_on}
 
 -- ---- the last entry with a key
 
@@ -67,17 +68,19 @@ pool_call {P} rested p q step w u made own core epoch cursor hand asks = let now
     let looked = λ (none : p.core.cursor ≡ None). none_looked p.trace p.core.cursor (core_after p step w).cursor (is_judging step)
     (gained_by p.core (core_after p step w)) none (ap (λ (v : View). v.cursor) now ∙ cursor) in
     let epochs = ap (λ (v : View). v.epoch) now ∙ epoch in let cursors = ap (λ (v : View). v.cursor) now ∙ cursor in
-    let hands = ap (λ (v : View). v.hand) now ∙ hand in subst (λ (x : SeatPart P). IsPoolCall p x) (sym made) assumption
+    let hands = ap (λ (v : View). v.hand) now ∙ hand in let occupied = occupied_kept p.trace step w in
+    subst (λ (x : SeatPart P). IsPoolCall p x) (sym made) assumption
 
 -- a call without a step is a pool call
 pub no_call : {P : Type 0} (p : SeatPart P) → IsPoolCall p p
-no_call p = let taken : p.trace.taken ≤ p.trace.taken = omega arith in assumption
+no_call p = let taken : p.trace.taken ≤ p.trace.taken = omega arith in let occupied : KeepsOccupied p.trace p.trace = ([], refl) in assumption
 
 -- two pool calls, one after the other, are one
 pub both_calls : {P : Type 0} (p q r : SeatPart P) → IsPoolCall p q → IsPoolCall q r → IsPoolCall p r
 both_calls p q r a b = let taken : p.trace.taken ≤ r.trace.taken = (let x = a.taken in let y = b.taken in omega arith) in
     let looked = λ (none : p.core.cursor ≡ None). b.looked (a.cursor ∙ none) ∙ a.looked none in
     let epoch = b.epoch ∙ a.epoch in let cursor = b.cursor ∙ a.cursor in let hand = b.hand ∙ a.hand in let pass = b.pass ∙ a.pass in
+    let occupied = occupied_on p.trace q.trace r.trace a.occupied b.occupied in
     assumption (b.number ∙ a.number, b.seats ∙ a.seats, b.client ∙ a.client, b.list ∙ a.list, b.asked ∙ a.asked)
 
 -- a call without a step is a look

@@ -2,7 +2,7 @@
 -- stepping seat alone; a contract reads in it at which step of a call a node was met, an exchange was lost, or a home
 -- word or an epoch was read. An entry's number is how many steps the seat had made before its step, so an entry of a
 -- call has a number from the count at the call's entry on, and it tells the list. This project's own profile.
-use Rattle.std.specs.Prelude.{ℕ, suc, ◌+◌, ◌-◌, ◌*◌, ◌/◌, ◌%◌, ◌==◌, ◌||◌, ◌&&◌, Bool, true, false, if◌then◌else◌, List}
+use Rattle.std.specs.Prelude.{◌≡◌, ℕ, suc, ◌+◌, ◌-◌, ◌*◌, ◌/◌, ◌%◌, ◌==◌, ◌||◌, ◌&&◌, ◌++◌, Bool, true, false, if◌then◌else◌, List}
 use Rattle.std.specs.Prelude.{[], ◌∷◌, Option, Some, None, unwrap_or, is_some, is_none}
 use Rattle.lock_core.specs.declared.views.View.{View}
 use Rattle.lock_core.specs.declared.views.Cursor.{Cursor}
@@ -20,11 +20,25 @@ use Rattle.epoch_pools.specs.declared.record.Lost.{Lost}
 use Rattle.epoch_pools.specs.declared.record.Away.{Away}
 use Rattle.epoch_pools.specs.declared.record.Noted.{Noted}
 use Rattle.epoch_pools.specs.declared.record.Looked.{Looked}
+use Rattle.epoch_pools.specs.declared.record.Occupied.{Occupied}
 use Rattle.epoch_pools.specs.declared.record.Record.{Record}
 
 -- before the first step
 abbrev pub no_steps : Record
-no_steps = record { taken = 0; client = None; met = None; lost = None; away = []; noted = []; looked = None; asked = []; walked = 0; list = 0 }
+no_steps =
+    record {
+      taken = 0;
+      client = None;
+      met = None;
+      lost = None;
+      away = [];
+      noted = [];
+      looked = None;
+      asked = [];
+      occupied = [];
+      walked = 0;
+      list = 0;
+    }
 
 -- ReadHi meets the cursor's node, with the lower end that was read before and the hi word that it finds
 abbrev pub met_at : Record → Option Cursor → ℕ → Option Met
@@ -64,6 +78,19 @@ lost_by t step place None found = t.lost
 lost_by t step place (Some e) found =
     if found == e then t.lost
     else Some (record { kind = step; list = t.list; place = place; expected = e; found = found; step = t.taken })
+
+-- a step that finds that list not empty where an empty one would have let its range be held or count at once
+abbrev pub occupied_at : Record → ℕ → Bool → List Occupied
+occupied_at t list clear = if clear then t.occupied else record { list = list; step = t.taken } ∷ t.occupied
+
+-- of the steps of a list's lock that is the exchange of the fast path
+abbrev pub occupied_after : Record → Step → ℕ → List Occupied
+occupied_after t QuickLink found = occupied_at t t.list (found == 0)
+occupied_after t _ found = t.occupied
+
+-- what the record had of lists that weren't empty it still has
+abbrev pub KeepsOccupied : Record → Record → Type 0
+KeepsOccupied before after = (more : List Occupied) × (after.occupied ≡ more ++ before.occupied)
 
 -- ReadHome adds a node that it finds away, and leaves the others, and so does Mark; a step of another kind forgets them
 -- all
@@ -127,6 +154,7 @@ record_after t v step place found now =
       noted = noted_after t now step found;
       looked = looked_with t v.cursor now.cursor (is_judging step) (gained_by v now);
       asked = asked_after t v step;
+      occupied = occupied_after t step found;
       walked = walked_at t step;
       list = t.list;
     }

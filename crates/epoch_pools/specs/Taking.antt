@@ -11,6 +11,7 @@ use Rattle.lock_core.specs.Views.{is_passed, note_of, taken}
 use Rattle.epoch_pools.specs.declared.record.Away.{Away}
 use Rattle.epoch_pools.specs.declared.record.Noted.{Noted}
 use Rattle.epoch_pools.specs.declared.views.SeatPart.{SeatPart}
+use Rattle.epoch_pools.specs.Record.{KeepsOccupied}
 use Rattle.epoch_pools.specs.declared.stuck.Stuck.{Stuck}
 use Rattle.epoch_pools.specs.declared.stuck.Stuck.TheVariants.{Inside, Away as IsAway}
 use Rattle.epoch_pools.specs.declared.stuck.Taken.{Taken}
@@ -30,6 +31,7 @@ pub record IsPoolCall {P : Type 0} (p q : SeatPart P) : Type 0 where
   pub client : q.trace.client ≡ p.trace.client
   pub list : q.trace.list ≡ p.trace.list
   pub asked : q.trace.asked ≡ p.trace.asked
+  pub occupied : KeepsOccupied p.trace q.trace
   pub epoch : q.core.epoch ≡ p.core.epoch
   pub cursor : q.core.cursor ≡ p.core.cursor
   pub hand : q.core.hand ≡ p.core.hand

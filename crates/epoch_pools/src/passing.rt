@@ -5,7 +5,7 @@
 ghost use Rattle.std.specs.Prelude.{◌≡◌, ◌+◌, ◌<◌, ◌||◌, ◌==◌, true, false};
 ghost use Rattle.list_cuts.specs.Cut.{list_count};
 ghost use Rattle.epoch_pools.specs.declared.views.Standing.TheVariants.{Narrow, Wide};
-ghost use Rattle.epoch_pools.specs.Passing.{MayCount, MayPass, HoldsToo, IsLook, after_look, standing_by, standing_of, held_too};
+ghost use Rattle.epoch_pools.specs.Passing.{MayCount, MayPass, HoldsToo, IsLook, after_look, after_look_at, standing_of, held_too};
 
 use crate::hand::Hand;
 use crate::list::{List, lock_word_count};
@@ -34,9 +34,10 @@ impl<G: Guard> List<G> {
         requires cut { D.cut ≡ self.now.cut }
         requires lists { (D.lists ≡ token.old.part.pass.lists) × (D.list ≡ token.old.part.pass.list) }
         requires there { list < token.old.part.pass.lists }
+        requires at { D.at ≡ list }
         requires may { IsLook self.now.cut token.old.part list D.standing D.too }
         ensures table { token.new.table ≡ token.old.table }
-        ensures part { token.new.part ≡ after_look token.old.part (standing_by (D.too || result == 0) D.standing token.old.part) }
+        ensures part { token.new.part ≡ after_look_at list (D.too || result == 0) D.standing token.old.part }
         ensures lists { token.old.part.pass.lists ≡ list_count self.now.cut }
     {
         let _ = kind;
@@ -58,7 +59,7 @@ fn look_from<G: Guard, L: Ledger>(
     requires there { at < hand.old.part.pass.lists }
     requires may { IsLook list.now.cut hand.old.part at (standing_of kind hand.old.part) (held_too kind) }
     ensures table { hand.new.table ≡ hand.old.table }
-    ensures part { hand.new.part ≡ after_look hand.old.part (standing_by (held_too kind || result == 0) (standing_of kind hand.old.part) hand.old.part) }
+    ensures part { hand.new.part ≡ after_look_at at (held_too kind || result == 0) (standing_of kind hand.old.part) hand.old.part }
     ensures lists { hand.old.part.pass.lists ≡ list_count list.now.cut }
     ensures counted { steps.new ≡ steps.old + 1 }
 {
@@ -81,7 +82,7 @@ pub fn glance<G: Guard, L: Ledger>(list: &List<G>, hand: &mut Hand<G>, steps: &m
 }
 
 /// Looks at list 0 for the narrow range that the hand's list holds. Whether list 0 was empty: then the range counts
-/// from this step on. One step.
+/// from this step on; otherwise the record has this look. One step.
 #[inline(always)]
 pub fn count_narrow<G: Guard, L: Ledger>(
     list: &List<G>,
@@ -91,7 +92,7 @@ pub fn count_narrow<G: Guard, L: Ledger>(
     requires table { hand.old.table ≡ list.now.table }
     requires may { MayCount list.now.cut hand.old.part }
     ensures table { hand.new.table ≡ hand.old.table }
-    ensures part { hand.new.part ≡ after_look hand.old.part (standing_by result (Narrow hand.old.part.pass.list) hand.old.part) }
+    ensures part { hand.new.part ≡ after_look_at 0 result (Narrow hand.old.part.pass.list) hand.old.part }
     ensures counted { steps.new ≡ steps.old + 1 }
 {
     let found = look_from(list, hand, 0, LookKind::Count { held: false }, steps);
@@ -112,7 +113,7 @@ pub fn count_held<G: Guard, L: Ledger>(list: &List<G>, hand: &mut Hand<G>, steps
 
 /// Looks at a list for the wide range that list 0 holds, to which the hand is turned; below `up` no other list is still
 /// to be passed. Whether that list was empty: then all below `up` are passed from this step on, and the range counts
-/// where these are all lists. One step.
+/// where these are all lists; otherwise the record has this look. One step.
 #[inline(always)]
 pub fn pass_list<G: Guard, L: Ledger>(
     list: &List<G>,
@@ -124,7 +125,7 @@ pub fn pass_list<G: Guard, L: Ledger>(
     requires table { hand.old.table ≡ list.now.table }
     requires may { MayPass list.now.cut hand.old.part at up }
     ensures table { hand.new.table ≡ hand.old.table }
-    ensures part { hand.new.part ≡ after_look hand.old.part (standing_by result (Wide up) hand.old.part) }
+    ensures part { hand.new.part ≡ after_look_at at result (Wide up) hand.old.part }
     ensures counted { steps.new ≡ steps.old + 1 }
 {
     let found = look_from(list, hand, at, LookKind::Pass { up, held: false }, steps);

@@ -102,9 +102,9 @@ impl<G: Guard, D: Doing> Play<(), ListView<G::Pass>> for Puts<G, D> {
     ghost then = { λ _ me _ me'. (found : ℕ) × IsLockPlay (G.first [] 0) G.rested D.lists D.list D.seats D.doing me found me' };
 }
 
-/// Which look is made, under which cut, from which list of how many: what the seat's standing is where the list is
-/// found empty, and whether it is that whatever the look finds, since the seat holds its range there too. Each call
-/// picks it.
+/// Which look is made, under which cut, from which list of how many, and at which: what the seat's standing is where the
+/// list is found empty, and whether it is that whatever the look finds, since the seat holds its range there too or
+/// nothing comes to count. Each call picks it.
 pub trait Look {
     ghost use Rattle.std.specs.Prelude.{ℕ, Bool};
     ghost use Rattle.list_cuts.specs.Cut.{Regions};
@@ -119,6 +119,8 @@ pub trait Look {
     ghost lists: { ℕ };
 
     ghost list: { ℕ };
+
+    ghost at: { ℕ };
 }
 
 impl Look for Brand {
@@ -134,6 +136,8 @@ impl Look for Brand {
     ghost lists = { 0 };
 
     ghost list = { 0 };
+
+    ghost at = { 0 };
 }
 
 /// A load of the head of a list behind the own link.
@@ -145,7 +149,7 @@ impl<G: Guard, D: Look> Play<(), ListView<G::Pass>> for Looks<G, D> {
     ghost use Rattle.std.specs.Prelude.{[]};
     ghost use Rattle.epoch_pools.specs.Passing.{IsLookPlay};
 
-    ghost then = { λ _ me found me'. IsLookPlay (G.first [] 0) D.cut D.lists D.list D.standing D.too me found me' };
+    ghost then = { λ _ me found me'. IsLookPlay (G.first [] 0) D.cut D.lists D.list D.at D.standing D.too me found me' };
 }
 
 /// The seat that stays takes in what belongs to the other.

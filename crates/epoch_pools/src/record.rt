@@ -55,6 +55,14 @@ pub struct Noted {
     pub step: u64,
 }
 
+/// A step that found a list not empty, where an empty one would have let the seat's range be held, count or pass at once:
+/// an exchange of the head by the fast path, or a look at another list than the one that holds the range.
+pub struct Occupied {
+    /// The list that wasn't empty, counted from 0.
+    pub list: u32,
+    pub step: u64,
+}
+
 /// What the last cursor of a seat has looked at. It stays when the cursor goes.
 pub struct Looked {
     /// How many nodes the cursor has looked at, as its `seen` counts them.
@@ -86,6 +94,9 @@ pub struct Record {
     /// The range of each node that the seat has filled, with its mode, the latest first. A node is filled before it is
     /// linked, and what is held is linked: so nothing is held that doesn't stand here.
     pub asked: LinkedList<Held>,
+    /// The steps that found a list not empty, the latest first. A look that the seat makes while it holds its range in
+    /// that list too is none of them, whatever it finds.
+    pub occupied: LinkedList<Occupied>,
     /// The number of the last Walk, which `met` carries on.
     pub walked: u64,
     /// The list in which the seat makes its next steps: that to which its hand is turned.

@@ -4,6 +4,7 @@ pub mod Exchanges
 pub mod Exclusion
 pub mod Frames
 pub mod Holding
+pub mod Idle
 pub mod Judging
 pub mod Leaving
 pub mod Listing

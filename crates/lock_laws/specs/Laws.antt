@@ -2,18 +2,21 @@
 -- with no body. A lock is a state with the sizes that its type keeps and the invariant. The start is one, every step
 -- keeps it, and it gives exclusion and no reuse; so both hold after every run. Kogan, Dice and Issa 2020 argue for
 -- their list in prose; the barrier before reuse is this project's own profile.
-use Rattle.std.specs.Prelude.{◌≡◌, ◌≢◌, ◌⊎◌, ℕ, suc, ◌/◌, ◌<◌, ◌≤◌, List, Some, slice_get}
+use Rattle.std.specs.Prelude.{◌≡◌, ◌≢◌, ◌⊎◌, ℕ, suc, ◌/◌, ◌%◌, ◌<◌, ◌≤◌, List, ◌∷◌, Some, None, slice_get}
 use Rattle.lock_core.specs.Counted.{times}
 use Rattle.lock_core.specs.Range.{Overlaps, IsRange}
 use Rattle.lock_core.specs.Grants.{IsExclusive, AreExclusive}
 use Rattle.lock_core.specs.declared.range.Mode.TheVariants.{Reader, Writer}
 use Rattle.lock_core.specs.declared.views.View.{View}
 use Rattle.lock_core.specs.declared.views.Cursor.{Cursor}
+use Rattle.lock_core.specs.declared.views.Own.TheVariants.{Nothing}
 use Rattle.lock_core.specs.declared.steps.Step.{Step}
 use Rattle.lock_core.specs.declared.steps.Step.TheVariants.{ClearHome}
 use Rattle.lock_laws.specs.Paths.{Reach}
 use Rattle.lock_core.specs.Words.{to, plain_node_of, IsUnmarked}
 use Rattle.lock_core.specs.Nodes.{Listed, listed}
+use Rattle.lock_core.specs.Views.{next_epoch}
+use Rattle.lock_core.specs.StepTable.{Plan, IsLine}
 use Rattle.lock_core.specs.Machine.{Machine, heap, after, run, start, held_by_seat, grants_from}
 use Rattle.lock_core.specs.Sizes.{IsSized, IsViewSound}
 use Rattle.lock_laws.specs.Invariant.{LockInvariant, NoReuse}
@@ -74,6 +77,15 @@ LeavesReadyByClearHome =
     (m next : Machine) (s i x : ℕ) (step : Step) (v u : View) →
     after m s step ≡ Some next → slice_get m.views i ≡ Some v → slice_get next.views i ≡ Some u → times x u.ready < times x v.ready →
     (i ≡ s) × (step ≡ ClearHome x)
+
+-- a seat between two calls has no own node, none in its hand and no cursor, and is outside its epoch. Each step that it
+-- may make leaves the list's words as they are, or enters its epoch, or takes its first ready node; so a list of which
+-- its ready nodes and its epoch are as they were has had no word changed by it
+abbrev pub IdleStepsShow : Type 0
+IdleStepsShow =
+    (seats s : ℕ) (v : View) (step : Step) (p : Plan) → IsLine seats s v step p →
+    v.epoch % 2 ≡ 0 → v.own ≡ Nothing → v.hand ≡ None → v.cursor ≡ None → (w : ℕ) →
+    (p.write w ≡ w) ⊎ (((p.view w).epoch ≡ next_epoch v.epoch) ⊎ ((n : ℕ) × (v.ready ≡ n ∷ (p.view w).ready)))
 
 -- after any run, however long and however the seats take turns
 abbrev pub RunsAreExclusive : Type 0

@@ -2,7 +2,7 @@
 //! what a seat may rely on of its own view. Each function names a statement of `specs/`. Kogan, Dice and Issa 2020
 //! argue for their list in prose; the barrier before reuse is this project's own profile.
 ghost use Rattle.lock_laws.specs.Laws.{StartIsLock, StepsKeep, LockIsExclusive, ReaderStandsFirst, LockHasNoReuse};
-ghost use Rattle.lock_laws.specs.Laws.{LeavesReadyByClearHome, ViewsAreSound, ReadsRange, FindsOther};
+ghost use Rattle.lock_laws.specs.Laws.{LeavesReadyByClearHome, IdleStepsShow, ViewsAreSound, ReadsRange, FindsOther};
 ghost use Rattle.lock_laws.specs.HeldSteps.{StepsChangeOneGrant, StepsChangeGrants};
 ghost use Rattle.lock_laws.specs.PathLengths.{PathsAreShort};
 
@@ -54,6 +54,12 @@ pub fn loads_find()
 /// A node leaves the ready pool of a seat only by that seat's ClearHome, which names it.
 pub fn leaves_ready_by_clear_home()
     ensures { LeavesReadyByClearHome }
+{}
+
+/// A step of a seat that is between two calls, outside its epoch, changes no word of the list, or is one that the seat's
+/// view shows: it enters its epoch, or takes its first ready node.
+pub fn idle_steps_show()
+    ensures { IdleStepsShow }
 {}
 
 /// In every state that meets the invariant a path that ends, from the head or from any node that is there, has at

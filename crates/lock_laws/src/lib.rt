@@ -8,7 +8,8 @@ mod laws;
 mod runs;
 
 pub use laws::{
-    grants_change, leaves_ready_by_clear_home, loads_find, lock_has_no_reuse, lock_is_exclusive,
-    paths_are_short, reader_stands_first, start_is_lock, steps_keep, views_are_sound,
+    grants_change, idle_steps_show, leaves_ready_by_clear_home, loads_find, lock_has_no_reuse,
+    lock_is_exclusive, paths_are_short, reader_stands_first, start_is_lock, steps_keep,
+    views_are_sound,
 };
 pub use runs::{play, runs_are_exclusive, runs_have_no_reuse};

@@ -11,8 +11,10 @@ use Rattle.lock_core.proofs.Table.{plan_of_line}
 use Rattle.epoch_pools.specs.declared.record.Looked.{Looked}
 use Rattle.epoch_pools.specs.declared.record.Record.{Record}
 use Rattle.epoch_pools.specs.declared.views.SeatPart.{SeatPart}
-use Rattle.epoch_pools.specs.Record.{asked_after, met_after, lost_by, expected_by, looked_with, looked_on, walked_at, is_judging, gained_by}
+use Rattle.epoch_pools.specs.Record.{asked_after, occupied_after, KeepsOccupied, met_after, lost_by, expected_by}
+use Rattle.epoch_pools.specs.Record.{looked_with, looked_on, walked_at, is_judging, gained_by}
 use Rattle.epoch_pools.specs.Running.{Enables, line_for, part_after, pass_kept}
+use Rattle.epoch_pools.proofs.Stepping.{occupied_kept}
 use Rattle.marked_list.specs.Leaves.{IsSamePools, IsLaterInWalk, IsCall, IsSameWalk, HasJudged}
 
 -- a step that has a line in the step table is enabled
@@ -41,6 +43,8 @@ pub record Made {P : Type 0} (rested : P → P) (p q : SeatPart P) (step : Step)
   pub client : q.trace.client ≡ p.trace.client
   -- a range that the step completes is asked for
   pub asked : q.trace.asked ≡ asked_after p.trace p.core step
+  -- a list that the fast path found not empty is noted
+  pub occupied : q.trace.occupied ≡ occupied_after p.trace step found
   -- the hand is turned to the same list
   pub list : q.trace.list ≡ p.trace.list
   -- one step more was made
@@ -131,16 +135,18 @@ module _ {P : Type 0} {rested : P → P} {p q : SeatPart P} {step : Step} {plan 
 
   -- a step of a seat that holds nothing, which asks for nothing and whose plan keeps epoch and pools, leaves what a
   -- call that walks leaves
-  pub on_made : asked_after p.trace p.core step ≡ p.trace.asked → held_at p.core.own ≡ None → (plan.view found).epoch ≡ p.core.epoch
+  pub on_made : asked_after p.trace p.core step ≡ p.trace.asked → occupied_after p.trace step found ≡ p.trace.occupied → held_at p.core.own ≡ None
+      → (plan.view found).epoch ≡ p.core.epoch
       → IsSamePools p.core (plan.view found) → (plan.view found).hand ≡ None → IsLaterInWalk p q
-  on_made none free epoch pools hand = let taken : p.trace.taken ≤ q.trace.taken = omega arith in
+  on_made none clear free epoch pools hand = let taken : p.trace.taken ≤ q.trace.taken = omega arith in
       let pass = m.pass ∙ pass_stays rested (held_at p.core.own) (held_at (plan.view found).own) p.pass free in
       let stay = subst (IsSamePools p.core) (sym m.core) pools in
-      assumption (m.asked ∙ none, ap (λ (v : View). v.epoch) m.core ∙ epoch, ap (λ (v : View). v.hand) m.core ∙ hand)
+      assumption (m.asked ∙ none, m.occupied ∙ clear, ap (λ (v : View). v.epoch) m.core ∙ epoch, ap (λ (v : View). v.hand) m.core ∙ hand)
 
   -- a step of a seat that holds nothing leaves what a call of one step leaves
   pub call_made : held_at p.core.own ≡ None → IsCall 1 p q
-  call_made free = let taken : q.trace.taken ≡ 1 + p.trace.taken = omega arith in
+  call_made free = let taken : q.trace.taken ≡ 1 + p.trace.taken = omega arith in let kept = occupied_kept p.trace step found in
+      let occupied : KeepsOccupied p.trace q.trace = (kept.0, m.occupied ∙ kept.1) in
       assumption (m.pass ∙ pass_stays rested (held_at p.core.own) (held_at (plan.view found).own) p.pass free)
 
 -- two calls of one walk after each other are of one walk

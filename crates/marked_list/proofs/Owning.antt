@@ -23,6 +23,7 @@ use Rattle.epoch_pools.specs.declared.views.SeatPart.{SeatPart}
 use Rattle.epoch_pools.specs.Hands.{IsHandView}
 use Rattle.epoch_pools.specs.Record.{low_end, cursor_word, own_word, looked_on, looked_with, is_judging, gained_by}
 use Rattle.epoch_pools.specs.Running.{Enables, part_after, pass_kept}
+use Rattle.epoch_pools.proofs.Stepping.{occupied_on}
 use Rattle.marked_list.specs.declared.answers.Lost.{Lost}
 use Rattle.marked_list.specs.Order.{HasEnds, StandsAtPlace, MayFill, MayAim, MayLink, MayQuickLink, MayMark, MayQuickUnlink}
 use Rattle.marked_list.specs.Leaves.{IsCall, IsSameLook}
@@ -36,6 +37,7 @@ use Rattle.marked_list.proofs.Unlinking.{gone_looked, lost_made}
 -- two calls of one step each are a call of two steps
 pub call_on : {P : Type 0} (p q r : SeatPart P) → IsCall 1 p q → IsCall 1 q r → IsCall 2 p r
 call_on p q r a b = let taken : r.trace.taken ≡ 2 + p.trace.taken = (let x = a.taken in let y = b.taken in omega arith) in
+    let occupied = occupied_on p.trace q.trace r.trace a.occupied b.occupied in
     assumption (b.number ∙ a.number, b.seats ∙ a.seats, b.pass ∙ a.pass, b.client ∙ a.client, b.list ∙ a.list)
 
 -- two calls that look at no more nodes, after each other, look at no more nodes

@@ -96,6 +96,7 @@ module _ {P : Type 0} where
     pub seats : q.seats ≡ p.seats
     pub client : q.trace.client ≡ p.trace.client
     pub asked : q.trace.asked ≡ p.trace.asked
+    pub occupied : q.trace.occupied ≡ p.trace.occupied
     pub list : q.trace.list ≡ p.trace.list
     pub taken : q.trace.taken ≡ p.trace.taken + 1
     pub core : (k : Listed) → p.core.own ≡ listed k → q.core ≡ marked p.core k.node
@@ -116,6 +117,7 @@ module _ {P : Type 0} where
     pub seats : q.seats ≡ p.seats
     pub client : q.trace.client ≡ p.trace.client
     pub asked : q.trace.asked ≡ p.trace.asked
+    pub occupied : q.trace.occupied ≡ p.trace.occupied
     pub list : q.trace.list ≡ p.trace.list
     pub met : q.trace.met ≡ p.trace.met
     pub taken : q.trace.taken ≡ p.trace.taken + 1

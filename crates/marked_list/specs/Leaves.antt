@@ -6,6 +6,7 @@ use Rattle.lock_core.specs.declared.views.View.{View}
 use Rattle.lock_core.specs.declared.views.Own.TheVariants.{Nothing}
 use Rattle.epoch_pools.specs.declared.record.Looked.{Looked}
 use Rattle.epoch_pools.specs.declared.views.SeatPart.{SeatPart}
+use Rattle.epoch_pools.specs.Record.{KeepsOccupied}
 use Rattle.marked_list.specs.Causes.{nodes_in}
 use Rattle.marked_list.specs.Order.{IsOutside}
 
@@ -24,6 +25,7 @@ pub record IsLaterInWalk {P : Type 0} (p q : SeatPart P) : Type 0 where
   pub pass : q.pass ≡ p.pass
   pub client : q.trace.client ≡ p.trace.client
   pub asked : q.trace.asked ≡ p.trace.asked
+  pub occupied : q.trace.occupied ≡ p.trace.occupied
   pub list : q.trace.list ≡ p.trace.list
   pub epoch : q.core.epoch ≡ p.core.epoch
   pub pools : IsSamePools p.core q.core
@@ -36,6 +38,7 @@ pub record IsCall {P : Type 0} (count : ℕ) (p q : SeatPart P) : Type 0 where
   pub seats : q.seats ≡ p.seats
   pub pass : q.pass ≡ p.pass
   pub client : q.trace.client ≡ p.trace.client
+  pub occupied : KeepsOccupied p.trace q.trace
   pub list : q.trace.list ≡ p.trace.list
   pub taken : q.trace.taken ≡ count + p.trace.taken
 
@@ -62,6 +65,7 @@ pub record IsSwept {P : Type 0} (p q : SeatPart P) : Type 0 where
   pub pass : q.pass ≡ p.pass
   pub client : q.trace.client ≡ p.trace.client
   pub asked : q.trace.asked ≡ p.trace.asked
+  pub occupied : q.trace.occupied ≡ p.trace.occupied
   pub list : q.trace.list ≡ p.trace.list
   pub pools : IsSamePools p.core q.core
   pub outside : IsOutside q.core

@@ -125,6 +125,7 @@ module _ {P : Type 0} where
     pub epoch : q.core.epoch ≡ p.core.epoch
     pub pools : IsSamePools p.core q.core
     pub asked : q.trace.asked ≡ p.trace.asked
+    pub occupied : q.trace.occupied ≡ p.trace.occupied
     pub hand : q.core.hand ≡ Some node
     pub came : CursorCame p.core q.core
     pub walk : IsSameWalk p q

@@ -1,14 +1,14 @@
 -- Calls on a hand one after another: each is counted, so all are, and what the first leaves the next may ask for.
-use Rattle.std.proofs.Common.{◌≡◌, ℕ, ◌+◌, ap, ◌∙◌, arith}
+use Rattle.std.proofs.Common.{◌≡◌, ℕ, ◌+◌, Bool, ap, ◌∙◌, arith}
 use Rattle.epoch_pools.specs.declared.views.SeatPart.{SeatPart}
 use Rattle.epoch_pools.specs.declared.views.Beside.{Beside}
 use Rattle.epoch_pools.specs.declared.views.Standing.{Standing}
-use Rattle.epoch_pools.specs.Passing.{after_look}
+use Rattle.epoch_pools.specs.Passing.{after_look, after_look_at}
 use Rattle.epoch_pools.specs.Hands.{HandState, turned}
 use Rattle.marked_list.specs.declared.cursor.Cursor.{Cursor as Traversal}
 use Rattle.range_rw.specs.Calls.{IsCounted, Leaves}
 use Rattle.range_rw.specs.Trying.{IsLaterInTraversal, IsLaterOutside}
-use Rattle.range_rw.specs.Looks.{IsLook}
+use Rattle.range_rw.specs.Looks.{IsLook, IsLookAt}
 use Rattle.range_rw.proofs.Later.{later_on, still_on}
 
 module _ {P : Type 0} where
@@ -23,6 +23,11 @@ module _ {P : Type 0} where
   pub counted_look : {h k : HandState (Beside P)} {a b : ℕ} {s : Standing} → k.table ≡ h.table → k.part ≡ after_look h.part s → b ≡ a + 1
       → Leaves (IsLook s) h k a b
   counted_look same is one =
+      record { counted = record { table = same; steps = let e = ap (λ (x : SeatPart (Beside P)). x.trace.taken) is in omega arith }; is = is }
+
+  pub counted_look_at : (at : ℕ) (clear : Bool) (s : Standing) {h k : HandState (Beside P)} {a b : ℕ} → k.table ≡ h.table
+      → k.part ≡ after_look_at at clear s h.part → b ≡ a + 1 → Leaves (IsLookAt at clear s) h k a b
+  counted_look_at at clear s same is one =
       record { counted = record { table = same; steps = let e = ap (λ (x : SeatPart (Beside P)). x.trace.taken) is in omega arith }; is = is }
 
   -- calls in one epoch

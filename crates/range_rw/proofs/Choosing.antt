@@ -1,7 +1,8 @@
 -- A try in a table of any number of lists. With one list it is today's try, in the list to which the hand is turned;
 -- what that leaves of the list is what it leaves of the seat.
-use Rattle.std.proofs.Common.{◌≡◌, ◌≢◌, ◌↔◌, ℕ, zero, suc, ◌+◌, ◌-◌, ◌*◌, ◌<◌, ◌%◌, Bool, true, false, inr, inl, refl}
-use Rattle.std.proofs.Common.{sym, ap, ◌∙◌, subst, arith, eq-eqb, eqb-true}
+use Rattle.std.proofs.Common.{◌≡◌, ◌≢◌, ◌⊎◌, ◌↔◌, ℕ, zero, suc, ◌+◌, ◌-◌, ◌*◌, ◌<◌, ◌≤◌, ◌%◌, Bool, true, false, inr, inl, refl}
+use Rattle.std.proofs.Common.{sym, ap, ◌∙◌, subst, arith, eq-eqb, eqb-true, ne_eqb, ⊎_elim, []}
+use Rattle.std.proofs.lemmas.Bool.{eqb-false}
 use Rattle.std.specs.Prelude.{map, get_or, Option, Result, Some, None, OnOk, OnErr, ◌&&◌, ◌||◌, ◌==◌, if◌then◌else◌}
 use mathlib.Core.Logic.{dite}
 use native.Mathlib.Decide.{ℕ_discrete}
@@ -9,8 +10,10 @@ use Rattle.atomic_table.specs.Seated.{TableId}
 use Rattle.lock_core.specs.Range.{Interval}
 use Rattle.lock_core.specs.declared.range.Held.{Held}
 use Rattle.list_cuts.specs.Cut.{Regions, list_count, TakesOne, TakesTwo}
+use Rattle.list_cuts.proofs.Cutting.{takes_there}
 use Rattle.lock_core.specs.declared.views.View.{View}
 use Rattle.lock_core.specs.declared.views.Own.TheVariants.{Nothing}
+use Rattle.lock_core.specs.Views.{next_epoch}
 use Rattle.lock_core.specs.Machine.{held_at, numbers_from}
 use Rattle.epoch_pools.specs.declared.views.SeatPart.{SeatPart}
 use Rattle.epoch_pools.specs.declared.views.Beside.{Beside}
@@ -24,15 +27,18 @@ use Rattle.marked_list.specs.Causes.{nodes_in, IsSpent}
 use Rattle.range_rw.specs.declared.refusals.NotHeld.{NotHeld}
 use Rattle.range_rw.specs.declared.refusals.NotHeld.TheVariants.{Busy, Again, Long as TooLong, NoNode}
 use Rattle.range_rw.specs.Contract.{SeatState, Pools, IsLongRefusal, IsReadyLeft, IsWalkOf, IsSpentIn, IsCause, IsListCause, IsLockCall}
-use Rattle.range_rw.specs.Contract.{AsksOnly, OpenScan, WorksIn, TellsList, KeepsOthers, StandsIn, pools_at, in_list}
+use Rattle.range_rw.specs.Contract.{AsksOnly, OpenScan, WorksIn, TellsList, KeepsOthers, ClosesOthers, IsRefusedAfter, KeepsClear, MakesFew, StandsIn}
+use Rattle.range_rw.specs.Contract.{closed_pools, closed_at, pools_at, in_list}
 use Rattle.range_rw.specs.Seats.{counted_in, pools_of, scan_of, walk_of, placed_scan, placed_in, seat_state_in, seat_state_of}
+use Rattle.range_rw.specs.Looks.{IsRefusedFrom}
 use Rattle.range_rw.specs.Trying.{IsLaterInTry, IsLaterOutside}
-use Rattle.range_rw.specs.Several.{list_state, HasLeft, IsLaterInLists, IsFreeSeat, HoldsAlone, IsCauseIn, IsHoldCall, IsWorkFor, ShowsOthers}
+use Rattle.range_rw.specs.Several.{list_state, HasLeft, IsLaterInLists, IsFreeSeat, HoldsAlone, IsCauseIn, IsGranted, IsHoldCall, IsWorkFor, ShowsOthers}
 use Rattle.range_rw.proofs.Pieces.{err_free, ok_on, own_at, own_each, only_stays, ready_stays, here_state, rests_free}
 use Rattle.range_rw.proofs.Taking.{cause_within}
 use Rattle.range_rw.proofs.Asking.{asks_from}
 use Rattle.range_rw.proofs.Moves.{lists_on, narrow_counts, wide_counts}
-use Rattle.range_rw.proofs.Seated.{count_numbers, pools_shown, try_lists, lists_call}
+use Rattle.range_rw.proofs.Seated.{count_numbers, pools_shown, try_lists, lists_call, granted_list}
+use Rattle.range_rw.proofs.Meeting.{IsApart, IsFew, found_before, met_before, no_fewer}
 
 -- a call of a try in the list to which the hand is turned, of a seat that held nothing
 pub record Here {P : Type 0} (p q : SeatPart (Beside P)) : Type 0 where
@@ -75,8 +81,12 @@ module _ {P : Type 0} where
     here_list : q.pass.list ≡ p.pass.list
     here_list = ap (λ (b : Beside P). b.list) h.later.later.pass
 
-    here_only : (j : ℕ) → j ≢ p.pass.list → shown_core q j ≡ shown_core p j
+    pub here_only : (j : ℕ) → j ≢ p.pass.list → shown_core q j ≡ shown_core p j
     here_only = only_stays p q here_list (ap (λ (b : Beside P). b.others) h.later.later.pass)
+
+    -- the ready nodes of the list to which the hand is turned afterwards are those of its own
+    pub ready_here : (shown_core p q.pass.list).ready ≢ [] → p.core.ready ≢ []
+    ready_here some none = some (ap (λ (v : View). v.ready) (own_at p q.pass.list (sym here_list)) ∙ none)
 
     here_rests : IsResting q.core
     here_rests = record { outside = h.later.outside.even; cursor = h.later.cursor; hand = h.later.outside.hand }
@@ -139,6 +149,12 @@ module _ {P : Type 0} where
       }) held;
       free = err_free r here_free free;
     }
+
+-- with one list that holds each range
+pub one_home : (c : Regions) (range : Interval) → 0 < c.count → list_count c ≡ 1 → {own at : ℕ} → at ≡ 0 → StandsIn c range own → at ≡ own
+one_home c range some one {own} {at} first stands = ⊎_elim
+    (λ (t : TakesOne c range own). let there = takes_there c range own some t.takes in omega arith)
+    (λ (t : TakesTwo c range × (own ≡ 0)). first ∙ sym t.1) stands
 
 -- leaving an epoch leaves the ready nodes of every list
 pub left_ready : {P : Type 0} (p m : SeatPart (Beside P)) → IsLaterInTry p m → m.core.ready ≡ p.core.ready
@@ -236,6 +252,74 @@ pub others_kept : {P : Type 0} (was now : TableId) (p m q : SeatPart (Beside P))
 others_kept {P} was now p m q c range many lists same others j less none = pools_shown now q j (omega arith) ∙ (ap pools_of (others j none ∙ ap
     (λ (x : SeatPart (Beside P)). shown_core x j) same) ∙ sym (pools_shown was p j (omega arith)))
 
+-- what a seat has in each list once it is outside its epoch, as it shows it: an epoch that a scan left open is left
+pub closed_shown : {P : Type 0} (was : TableId) {p m : SeatPart (Beside P)} {c : Regions} {lists : ℕ} → HasLeft c lists p m → (j : ℕ) → j < p.pass.lists
+    → pools_of (shown_core m j) ≡ closed_at (seat_state_of (record { table = was; part = p })) j
+closed_shown {P} was {p} {m} left j less = by (p.core.epoch % 2 == 0) refl
+  where
+    pools : Pools
+    pools = pools_at (seat_state_of (record { table = was; part = p })) j
+
+    is : pools ≡ pools_of (shown_core p j)
+    is = pools_shown was p j less
+
+    same : m.pass ≡ p.pass
+    same = left.left.later.pass
+
+    turned : m.pass.list ≡ p.pass.list
+    turned = ap (λ (b : Beside P). b.list) same
+
+    scan_by : Bool → Option OpenScan
+    scan_by b = placed_in p.pass.lists p.pass.list (if b then None else Some (walk_of (16 * p.seats + 1) p.core.cursor p.trace.looked))
+
+    by : (b : Bool) → (p.core.epoch % 2 == 0) ≡ b → pools_of (shown_core m j) ≡ closed_pools (scan_by b) j pools
+    by true e = ap (λ (x : SeatPart (Beside P)). pools_of (shown_core x j)) (left.left.same (eqb-true (p.core.epoch % 2) 0 e)) ∙ sym is
+    by false e = let far = eqb-false (p.core.epoch % 2) 0 e in let odd : p.core.epoch % 2 ≡ 1 = omega arith in dite (ℕ_discrete p.pass.list j)
+        (λ here. ap pools_of (own_at m j (turned ∙ here)) ∙ (left.left.closed odd
+        ∙ (ap (λ (x : Pools). record x { epoch = next_epoch x.epoch }) (ap pools_of (sym (own_at p j here)) ∙ sym is)
+        ∙ sym (ap (λ (b : Bool). if b then record pools { epoch = next_epoch pools.epoch } else pools) (eq-eqb p.pass.list j here)))))
+        (λ away. ap pools_of (only_stays p m turned (ap (λ (b : Beside P). b.others) same) j (λ z. away (sym z))) ∙ (sym is
+        ∙ sym (ap (λ (b : Bool). if b then record pools { epoch = next_epoch pools.epoch } else pools) (ne_eqb p.pass.list j away))))
+
+module _ {P : Type 0} (was now : TableId) (p m q : SeatPart (Beside P)) {c : Regions} {lists : ℕ} (left : HasLeft c lists p m)
+    (many : p.pass.lists ≡ list_count c) (same : q.pass.lists ≡ p.pass.lists) where
+  abbrev first : SeatState P
+  first = seat_state_of (record { table = was; part = p })
+
+  abbrev last : SeatState P
+  last = seat_state_of (record { table = now; part = q })
+
+  -- a list that stays as it was once the seat is outside
+  pub list_closed : (j : ℕ) → j < list_count c → shown_core q j ≡ shown_core m j → pools_at last j ≡ closed_at first j
+  list_closed j less stays = pools_shown now q j (omega arith) ∙ (ap pools_of stays ∙ closed_shown was left j (omega arith))
+
+  -- so do those in which a try doesn't work, and those that it doesn't find occupied
+  pub others_closed : (range : Interval) → ShowsOthers c range m q → ClosesOthers c range first last
+  others_closed range others j less none = list_closed j less (others j none)
+
+  pub others_clear : (own : ℕ) → ((j : ℕ) → j ≢ own → IsApart j m q) → KeepsClear c own first last
+  others_clear own apart j less away = ⊎_elim (λ e. inl (list_closed j less e)) (λ f. inr (found_before j q.trace left.left.later.taken f)) (apart j away)
+
+  -- a try with a ready node in the list that holds its range then makes few steps, with the one that left an epoch
+  pub seat_few : (few : ℕ) {total : ℕ} {asked : Held} → 1 + few ≤ total → q.pass.list < q.pass.lists → IsGranted c asked q
+      → ((shown_core m q.pass.list).ready ≢ [] → IsFew few m q)
+      → (pools_at first last.list).ready ≢ [] → MakesFew total first last
+  seat_few few sum there grant fast some = ⊎_elim (λ le. inl (let f = left.left.few in omega arith)) (λ x. inr (met_before q.trace left.left.later.taken x))
+      (fast (λ none. some (ap (λ i. (pools_at first i).ready) (granted_list there grant)
+      ∙ (ap (λ (x : Pools). x.ready) (pools_shown was p q.pass.list (omega arith))
+      ∙ (sym (left_ready p m left.left.later left.left.ready q.pass.list) ∙ none)))))
+
+  -- the same of a round that was refused
+  pub refused_after : (looks : ℕ) → IsRefusedFrom looks m q → IsRefusedAfter c looks first last
+  refused_after looks x = ⊎_elim (λ stays. inl (λ j some less. list_closed j less (stays j (λ e. omega arith))))
+      (λ more. inr (let n = no_fewer p.trace m.trace left.left.later.occupied in omega arith)) x
+
+-- a further round leaves the lists so as the rounds before it did, of which the first may have left an open scan
+pub closes_on : {P : Type 0} {c : Regions} {range : Interval} {a b : SeatState P} (d : SeatState P) → (b ≡ a) ⊎ ((b.scan ≡ None) × ClosesOthers c range a b)
+    → ClosesOthers c range b d → ClosesOthers c range a d
+closes_on {P} {c} {range} {a} {b} d was more = ⊎_elim (λ e. subst (λ (s : SeatState P). ClosesOthers c range s d) e more)
+    (λ x j less none. more j less none ∙ (ap (λ (o : Option OpenScan). closed_pools o j (pools_at b j)) x.0 ∙ x.1 j less none)) was
+
 -- a seat without an open scan is outside its epoch
 pub closed_even : {P : Type 0} (p : SeatPart (Beside P)) → placed_in p.pass.lists p.pass.list (scan_of p) ≡ None → p.core.epoch % 2 ≡ 0
 closed_even {P} p none = by (p.core.epoch % 2 == 0) refl none
@@ -252,6 +336,7 @@ pub record Called {P : Type 0} (c : Regions) (range : Held) (before after : Seat
   pub call : IsLockCall before after
   pub asks : AsksOnly range before.trace.asked after.trace.asked
   pub only : before.scan ≡ None → KeepsOthers c range.range before after
+  pub closes : ClosesOthers c range.range before after
 
 -- by what its hand shows before, once it is outside its epoch, and after
 pub called_by : {P : Type 0} {was now : TableId} {p m q : SeatPart (Beside P)} {c : Regions} {lists : ℕ} {range : Held} → now ≡ was → HasLeft c lists p m
@@ -263,4 +348,5 @@ called_by {P} {was} {now} {p} {m} {q} {c} {lists} {range} same left work =
       asks = asks_from left.left.asked work.asks;
       only = λ closed. others_kept was now p m q c range.range (sym first.lists ∙ (sym left.lists.shown ∙ left.lists.many)) all.lists
           (left.left.same (closed_even p closed)) work.only;
+      closes = others_closed was now p m q left (sym first.lists ∙ (sym left.lists.shown ∙ left.lists.many)) all.lists range.range work.only;
     }

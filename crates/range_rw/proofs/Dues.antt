@@ -1,7 +1,7 @@
 -- What follows where a range has a list still to look at, alike for a narrow range and for a wide one.
 use Rattle.std.proofs.Common.{◌≡◌, ◌≢◌, ◌⊎◌, ◌↔◌, ℕ, ◌+◌, ◌<◌, ◌≤◌, Bool, true, false, Result, Ok, Err, zero, suc, inl, inr, ⊎_elim}
 use Rattle.std.proofs.Common.{sym, ap, ◌∙◌, subst, refl, arith}
-use Rattle.std.specs.Prelude.{Some}
+use Rattle.std.specs.Prelude.{[], Some}
 use mathlib.Core.Logic.{dite}
 use native.Mathlib.Decide.{dec_le, ℕ_discrete}
 use Rattle.atomic_table.specs.Seated.{TableId}
@@ -15,20 +15,21 @@ use Rattle.epoch_pools.specs.declared.views.SeatPart.{SeatPart}
 use Rattle.epoch_pools.specs.declared.views.Beside.{Beside}
 use Rattle.epoch_pools.specs.declared.views.Standing.{Standing}
 use Rattle.epoch_pools.specs.declared.views.Standing.TheVariants.{Free, Narrow, Wide}
-use Rattle.epoch_pools.specs.Passing.{after_look, standing_by}
+use Rattle.epoch_pools.specs.Passing.{after_look_at, standing_by}
 use Rattle.epoch_pools.specs.Standings.{is_counted, standing_back, passed_by}
 use Rattle.epoch_pools.specs.Beside.{shown_core}
 use Rattle.epoch_pools.specs.Hands.{IsResting, turned}
 use Rattle.marked_list.specs.Causes.{IsSpent}
 use Rattle.range_rw.specs.declared.refusals.NotHeld.{NotHeld}
-use Rattle.range_rw.specs.Contract.{AsksOnly, IsLongRefusal, IsReadyLeft, WorksIn}
+use Rattle.range_rw.specs.Contract.{AsksOnly, IsLongRefusal, IsReadyLeft, StandsIn, TakesMany, WorksIn}
 use Rattle.range_rw.specs.Several.{IsLaterInLists, IsPiece, MayLinkIn, MayGiveIn, IsLinkedIn, IsFreedIn, IsFreeSeat, HoldsAlone, HoldsIn, IsCauseAt}
 use Rattle.range_rw.specs.Several.{HasLists, MayHold, HasPassed, TakesNone, IsGranted, IsWorkFor}
-use Rattle.range_rw.specs.Looks.{MayLook, IsToLook, IsDue, IsNarrowDue, IsWideDue, IsHome, LooksAt, LooksAtAll, standing_for}
+use Rattle.range_rw.specs.Looks.{MayLook, IsToLook, IsDue, IsNarrowDue, IsWideDue, IsHome, LooksAt, LooksAtAll, LooksOnce, standing_for}
 use Rattle.range_rw.proofs.Asking.{asks_from, asks_on, asks_stay}
+use Rattle.range_rw.proofs.Meeting.{IsApart, once_apart, once_few, ok_any, err_any}
 use Rattle.range_rw.proofs.Pieces.{err_free, err_on, ok_on}
-use Rattle.range_rw.proofs.Moves.{narrow_beside, narrow_back, wide_beside, wide_back, free_beside, lists_on, turn_on, turn_asks, look_on, look_asks, look_shows}
-use Rattle.range_rw.proofs.Moves.{holds_on, holds_turned, holds_looked, piece_free, piece_alone, ready_each, ready_from, some_held, cause_on}
+use Rattle.range_rw.proofs.Moves.{narrow_beside, narrow_back, wide_beside, wide_back, free_beside, lists_on, turn_on, turn_asks, seen_on, seen_shows}
+use Rattle.range_rw.proofs.Moves.{holds_on, holds_turned, holds_seen, piece_free, piece_alone, ready_each, ready_from, some_held, cause_on}
 use Rattle.range_rw.proofs.Choosing.{alone_there, alone_narrow, alone_wide, stands_narrow, stands_wide}
 
 -- a wide range stands as having passed
@@ -199,6 +200,16 @@ works_not {c} {range} works none e = none (subst (WorksIn c range) (sym e) works
 pub home_works : {c : Regions} {range : Interval} {lists own : ℕ} → IsHome c range lists own → WorksIn c range own
 home_works {c} {range} {lists} {own} home = dite (ℕ_discrete own 0) (λ e. inl e) (λ far. inr (home.narrow far).takes)
 
+-- the list that holds a range where there are several is the one that it takes alone, or list 0
+pub home_is : {c : Regions} {range : Interval} {lists own at : ℕ} → StandsIn c range at → IsHome c range lists own → at ≡ own
+home_is {c} {range} {lists} {own} {at} stands home = dite (ℕ_discrete own 0)
+    (λ e. let two = home.wide e in ⊎_elim
+    (λ (one : TakesOne c range at). absurd (two.differ (one.alone two.one two.takes_one ∙ sym (one.alone two.two two.takes_two))))
+    (λ x. x.1 ∙ sym e) stands)
+    (λ far. let one = home.narrow far in ⊎_elim
+    (λ (other : TakesOne c range at). one.alone at other.takes)
+    (λ x. absurd (x.0.differ (one.alone x.0.one x.0.takes_one ∙ sym (one.alone x.0.two x.0.takes_two)))) stands)
+
 module _ {P : Type 0} where
   -- the range is held as before, and the hand is turned to it
   pub swept_alone : {home other : ℕ} {asked : Held} {p w t : SeatPart (Beside P)} → Swept home other asked p w t → HoldsAlone home asked t
@@ -215,13 +226,13 @@ module _ {P : Type 0} where
   }
 
   -- and so is a look that found the list not empty
-  pub look_quiet : (s : Standing) {at : ℕ} {p q : SeatPart (Beside P)} {b : Bool} → q ≡ after_look p (standing_by b s p) → b ≡ false → Quiet at p q
-  look_quiet s {at} {p} is isnt = record {
-    later = look_on p is;
-    asked = look_asks p is;
+  pub look_quiet : (s : Standing) {at : ℕ} {p q : SeatPart (Beside P)} {b : Bool} → q ≡ after_look_at at b s p → b ≡ false → Quiet at p q
+  look_quiet s {at} {p} {q} {b} is isnt = record {
+    later = seen_on p at b s is;
+    asked = ap (λ (x : SeatPart (Beside P)). x.trace.asked) is;
     standing = ap (λ (x : SeatPart (Beside P)). x.pass.standing) is ∙ ap (λ (y : Bool). standing_by y s p) isnt;
-    ready = ap (λ (v : View). v.ready) (look_shows p is at);
-    only = λ j away. look_shows p is j;
+    ready = ap (λ (v : View). v.ready) (seen_shows p at b s is at);
+    only = λ j away. seen_shows p at b s is j;
   }
 
   -- such calls one after another
@@ -250,13 +261,13 @@ module _ {P : Type 0} where
 
   -- one that found the list empty: the range is held as it was, and counts there
   pub look_clear : {A : Type 0} {x : A} {table : TableId} {own at : ℕ} {asked : Held} {s : Standing} {p q : SeatPart (Beside P)} {b : Bool}
-      → HoldsAlone own asked p → q ≡ after_look p (standing_by b s p) → b ≡ true → LooksAt table own at asked s (Ok x) p q
-  look_clear {A} {x} {table} {own} {at} {asked} {s} {p} {q} alone is clear = record {
-    later = look_on p is;
-    asks = asks_stay (look_asks p is);
-    ready = inr (inl (ap (λ (v : View). v.ready) (look_shows p is at)));
-    only = λ j away. look_shows p is j;
-    done = (holds_looked is alone, ap (λ (x : SeatPart (Beside P)). x.pass.standing) is ∙ ap (λ (y : Bool). standing_by y s p) clear);
+      → HoldsAlone own asked p → q ≡ after_look_at at b s p → b ≡ true → LooksAt table own at asked s (Ok x) p q
+  look_clear {A} {x} {table} {own} {at} {asked} {s} {p} {q} {b} alone is clear = record {
+    later = seen_on p at b s is;
+    asks = asks_stay (ap (λ (x : SeatPart (Beside P)). x.trace.asked) is);
+    ready = inr (inl (ap (λ (v : View). v.ready) (seen_shows p at b s is at)));
+    only = λ j away. seen_shows p at b s is j;
+    done = (holds_seen at b s is alone, ap (λ (x : SeatPart (Beside P)). x.pass.standing) is ∙ ap (λ (y : Bool). standing_by y s p) clear);
     kept = tt;
     cause = tt;
     long = tt;
@@ -283,7 +294,7 @@ module _ {P : Type 0} where
   -- nothing yet
   pub work_first : {c : Regions} {asked : Held} {p : SeatPart (Beside P)} → IsWorkFor c asked p p
   work_first = record {
-    later = record { number = refl; seats = refl; lists = refl; pass = refl; client = refl; taken = omega arith };
+    later = record { number = refl; seats = refl; lists = refl; pass = refl; client = refl; occupied = ([], refl); taken = omega arith };
     asks = asks_stay refl;
     only = λ j none. refl;
   }
@@ -365,8 +376,9 @@ module _ {P : Type 0} where
 
   -- a look at list 0 is all that a narrow range has to look at
   pub looks_narrow : {A : Type 0} {table : TableId} {c : Regions} {own looks : ℕ} {asked : Held} {p q : SeatPart (Beside P)} {r : Result A NotHeld} → own ≢ 0
-      → 1 < p.pass.lists → p.pass.standing ≡ Free → LooksAt table own 0 asked (standing_for own 0) r p q → LooksAtAll table c own looks asked r p q
-  looks_narrow {A} {table} {c} {own} {looks} {asked} {p} {q} {r} differ several free one = record {
+      → 1 < p.pass.lists → p.pass.standing ≡ Free → LooksAt table own 0 asked (standing_for own 0) r p q → LooksOnce 0 p q
+      → ((k : ℕ) → TakesMany c asked.range k → 1 ≤ k) → LooksAtAll table c own looks asked r p q
+  looks_narrow {A} {table} {c} {own} {looks} {asked} {p} {q} {r} differ several free one once some = record {
     work = work_look (inl refl) one;
     home = one.only own differ;
     ready = λ _. ready_each 0 p q one.ready one.only;
@@ -378,4 +390,7 @@ module _ {P : Type 0} where
     )) one.kept;
     cause = err_on _ _ r (λ why x none. (0, (λ e. differ (sym e)), omega arith, inl refl, x)) one.cause;
     long = one.long;
+    apart = λ j away. dite (ℕ_discrete j 0) (λ e. subst (λ n. IsApart n p q) (sym e) (once_apart 0 p q once)) (λ other. inl (one.only j other));
+    few = ok_any r (λ k many. ⊎_elim (λ few. inl (let s = some k many in omega arith)) (λ m. inr m) (once_few 0 p q once));
+    more = err_any r (λ e. absurd (differ e));
   }

@@ -1,7 +1,7 @@
 -- The insertion of a filled node: the walk to its place, the link there and the validation, and the epoch around them.
 -- What each of them comes to is what the whole comes to.
 use Rattle.std.proofs.Common.{◌≡◌, ◌≢◌, ◌⊎◌, ◌↔◌, ℕ, Bool, true, false, List, ◌∷◌, inl, inr, ⊎_elim, refl, sym, ap, ◌∙◌, subst, arith}
-use Rattle.std.specs.Prelude.{Option, Some, None, MatchOption, unwrap_or}
+use Rattle.std.specs.Prelude.{[], Option, Some, None, MatchOption, unwrap_or}
 use Rattle.lock_core.specs.declared.range.Held.{Held}
 use Rattle.lock_core.specs.declared.range.Mode.{Mode}
 use Rattle.lock_core.specs.declared.range.Mode.TheVariants.{Reader, Writer}
@@ -83,7 +83,14 @@ module _ {P : Type 0} (p q : SeatPart P) (a : Walked) (may : MayWalk p.core) (on
     not_spent s = subst IsLong (come_is a came) (long.1 (spent_look q r look call.seats free s))
 
     call_later : IsLaterInTry q r
-    call_later = record { number = call.number; seats = call.seats; pass = call.pass; client = call.client; taken = let t = call.taken in omega arith }
+    call_later = record {
+      number = call.number;
+      seats = call.seats;
+      pass = call.pass;
+      client = call.client;
+      occupied = call.occupied;
+      taken = let t = call.taken in omega arith;
+    }
 
     core_still : (u : View) → r.trace.asked ≡ q.trace.asked → r.core ≡ u → u.epoch ≡ q.core.epoch → u.hand ≡ q.core.hand
         → u.ready ≡ q.core.ready → IsLaterInEpoch p r
@@ -146,6 +153,7 @@ marked_on node mark none core bare = record {
     seats = mark.seats;
     pass = mark.free none;
     client = mark.client;
+    occupied = ([], mark.occupied);
     taken = let t = mark.taken in omega arith;
   };
   epoch = ap (λ (v : View). v.epoch) core;
@@ -319,7 +327,8 @@ module _ {P : Type 0} (p e : SeatPart P) (own : HasEnds p.core.own) (entering : 
   own_in = ap (λ (x : SeatPart P). x.core.own) entering
 
   later_in : IsLaterInTry p e
-  later_in = subst (IsLaterInTry p) (sym entering) (record { number = refl; seats = refl; pass = refl; client = refl; taken = omega arith })
+  later_in = subst (IsLaterInTry p) (sym entering)
+      (record { number = refl; seats = refl; pass = refl; client = refl; occupied = ([], refl); taken = omega arith })
 
   -- a hand that entered its epoch with a filled node may walk
   pub may_walk_in : IsInside e.core → MayWalk e.core
@@ -390,7 +399,8 @@ module _ {P : Type 0} (p e : SeatPart P) (own : HasEnds p.core.own) (entering : 
       -- the whole, from entering to leaving, is a call of the try
       pub insert_later : IsLaterInTry p q
       insert_later = later_on p e q later_in (later_on e f q still.later
-          (subst (IsLaterInTry f) (sym leaving) (record { number = refl; seats = refl; pass = refl; client = refl; taken = omega arith })))
+          (subst (IsLaterInTry f) (sym leaving)
+          (record { number = refl; seats = refl; pass = refl; client = refl; occupied = ([], refl); taken = omega arith })))
 
       back_ready : IsBack → (node : ℕ) → IsFilling node p.core.own → (q.core.ready ≡ p.core.ready) ⊎ (q.core.ready ≡ node ∷ p.core.ready)
       back_ready x node at = ⊎_elim

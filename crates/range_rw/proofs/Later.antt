@@ -1,5 +1,5 @@
 -- Calls of a try one after another: what each leaves is carried through the next, and so is the cause of a refusal.
-use Rattle.std.proofs.Common.{◌≡◌, ◌↔◌, ℕ, ◌+◌, ◌*◌, ◌%◌, ◌≤◌, Bool, true, false, refl, sym, ap, ◌∙◌, arith}
+use Rattle.std.proofs.Common.{◌≡◌, ◌↔◌, ℕ, ◌+◌, ◌*◌, ◌%◌, ◌≤◌, Bool, true, false, [], refl, sym, ap, ◌∙◌, arith}
 use Rattle.std.specs.Prelude.{Option, None}
 use Rattle.lock_core.specs.declared.range.Held.{Held}
 use Rattle.lock_core.specs.declared.views.Own.{Own}
@@ -8,10 +8,11 @@ use Rattle.lock_core.specs.declared.steps.Step.TheVariants.{Enter, Leave, ReadEp
 use Rattle.lock_core.specs.declared.steps.Step.TheVariants.{Link, Unlink, Mark, QuickLink, QuickUnlink, Settle}
 use Rattle.lock_core.specs.Machine.{held_at}
 use Rattle.epoch_pools.specs.declared.views.SeatPart.{SeatPart}
+use Rattle.epoch_pools.proofs.Stepping.{occupied_on}
 use Rattle.marked_list.specs.declared.answers.Walked.{Walked}
 use Rattle.marked_list.specs.declared.answers.Walked.TheVariants.{Place, Conflict, Lost, Long}
 use Rattle.marked_list.specs.Order.{IsInside}
-use Rattle.marked_list.specs.Leaves.{IsLaterInWalk, IsSameLook, IsNewWalk}
+use Rattle.marked_list.specs.Leaves.{IsCall, IsLaterInWalk, IsSameLook, IsNewWalk}
 use Rattle.marked_list.specs.Causes.{asked_of, IsLost, IsWalkLoss, IsSpent}
 use Rattle.marked_list.specs.Answers.{Answers, IsLong}
 use Rattle.range_rw.specs.Contract.{RefusesTry}
@@ -26,7 +27,19 @@ later_on p q r a b = record {
   seats = b.seats ∙ a.seats;
   pass = b.pass ∙ a.pass;
   client = b.client ∙ a.client;
+  occupied = occupied_on p.trace q.trace r.trace a.occupied b.occupied;
   taken = let x = a.taken in let y = b.taken in omega arith;
+}
+
+-- so are two calls of so many steps
+pub calls_later : {P : Type 0} {a b : ℕ} (p q r : SeatPart P) → IsCall a p q → IsCall b q r → IsLaterInTry p r
+calls_later p q r x y = record {
+  number = y.number ∙ x.number;
+  seats = y.seats ∙ x.seats;
+  pass = y.pass ∙ x.pass;
+  client = y.client ∙ x.client;
+  occupied = occupied_on p.trace q.trace r.trace x.occupied y.occupied;
+  taken = let s = x.taken in let t = y.taken in omega arith;
 }
 
 -- two calls in one epoch after each other are one
@@ -37,7 +50,7 @@ still_on p q r a b =
 -- a call that walks stays in its epoch
 pub walk_still : {P : Type 0} (p q : SeatPart P) → IsLaterInWalk p q → IsLaterInEpoch p q
 walk_still p q on = record {
-  later = record { number = on.number; seats = on.seats; pass = on.pass; client = on.client; taken = on.taken };
+  later = record { number = on.number; seats = on.seats; pass = on.pass; client = on.client; occupied = ([], on.occupied); taken = on.taken };
   epoch = on.epoch;
   hand = on.hand;
   ready = on.pools.ready;

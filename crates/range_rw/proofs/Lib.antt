@@ -7,6 +7,7 @@ pub mod Insertion
 pub mod Later
 pub mod Lists
 pub mod Looking
+pub mod Meeting
 pub mod Moves
 pub mod Pieces
 pub mod Scans

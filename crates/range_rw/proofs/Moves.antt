@@ -2,7 +2,7 @@
 -- leaves each other list. So a range that one list holds stays held there while its seat works in another.
 use Rattle.std.proofs.Common.{◌≡◌, ◌≢◌, ◌⊎◌, ◌↔◌, ℕ, ◌+◌, ◌*◌, ◌<◌, ◌≤◌, Bool, true, false, Ok, inl, inr, ⊎_elim, refl, sym, ap, ◌∙◌, subst, arith}
 use Rattle.std.proofs.Common.{eqb-true, eq-eqb, ne_eqb}
-use Rattle.std.specs.Prelude.{List, Option, Some, None, ◌==◌, ◌&&◌, ◌||◌, if◌then◌else◌}
+use Rattle.std.specs.Prelude.{List, [], Option, Some, None, ◌==◌, ◌&&◌, ◌||◌, if◌then◌else◌}
 use mathlib.Core.Logic.{dite}
 use native.Mathlib.Decide.{ℕ_discrete}
 use Rattle.list_cuts.specs.Cut.{Regions, first_list, list_count, Takes, TakesTwo}
@@ -20,7 +20,8 @@ use Rattle.epoch_pools.specs.declared.views.Standing.TheVariants.{Free, Narrow, 
 use Rattle.epoch_pools.specs.Standings.{is_here, is_whole, is_counted, standing_back}
 use Rattle.epoch_pools.specs.Beside.{shown_core}
 use Rattle.epoch_pools.specs.Hands.{IsResting, turned}
-use Rattle.epoch_pools.specs.Passing.{after_look, HoldsToo}
+use Rattle.epoch_pools.specs.Passing.{after_look, after_look_at, HoldsToo}
+use Rattle.epoch_pools.proofs.Stepping.{occupied_on}
 use Rattle.range_rw.specs.Contract.{AsksOnly, IsReadyLeft}
 use Rattle.marked_list.specs.Causes.{nodes_in, IsSpent}
 use Rattle.range_rw.specs.declared.refusals.NotHeld.{NotHeld}
@@ -28,6 +29,7 @@ use Rattle.range_rw.specs.Several.{IsLaterInLists, IsPiece, IsFreedIn, IsFreeSea
 use Rattle.range_rw.specs.Several.{TakesNone, list_state, IsCauseAt, KeepsCauses}
 use Rattle.range_rw.specs.Looks.{LooksAt}
 use Rattle.range_rw.proofs.Asking.{asks_kept}
+use Rattle.range_rw.proofs.Meeting.{seen_keeps}
 use Rattle.range_rw.proofs.Pieces.{own_at, own_each}
 use Rattle.range_rw.proofs.Taking.{cause_within}
 
@@ -117,16 +119,31 @@ module _ {P : Type 0} where
     lists = b.lists ∙ a.lists;
     pass = b.pass ∙ a.pass;
     client = b.client ∙ a.client;
+    occupied = occupied_on p.trace q.trace r.trace a.occupied b.occupied;
     taken = let x = a.taken in let y = b.taken in omega arith;
   }
 
   -- a turn makes no step
   pub turn_on : (p : SeatPart (Beside P)) {t : SeatPart (Beside P)} {at : ℕ} → t ≡ turned p at → IsLaterInLists p t
-  turn_on p is = subst (IsLaterInLists p) (sym is) (record { number = refl; seats = refl; lists = refl; pass = refl; client = refl; taken = omega arith })
+  turn_on p is = subst (IsLaterInLists p) (sym is)
+      (record { number = refl; seats = refl; lists = refl; pass = refl; client = refl; occupied = ([], refl); taken = omega arith })
 
   -- a look makes one, and changes the standing alone
   pub look_on : (p : SeatPart (Beside P)) {q : SeatPart (Beside P)} {s : Standing} → q ≡ after_look p s → IsLaterInLists p q
-  look_on p is = subst (IsLaterInLists p) (sym is) (record { number = refl; seats = refl; lists = refl; pass = refl; client = refl; taken = omega arith })
+  look_on p is = subst (IsLaterInLists p) (sym is)
+      (record { number = refl; seats = refl; lists = refl; pass = refl; client = refl; occupied = ([], refl); taken = omega arith })
+
+  -- the same of one that may find its list not empty
+  pub seen_on : (p : SeatPart (Beside P)) {q : SeatPart (Beside P)} (at : ℕ) (b : Bool) (s : Standing) → q ≡ after_look_at at b s p → IsLaterInLists p q
+  seen_on p {q} at b s is = subst (IsLaterInLists p) (sym is) (record {
+    number = refl;
+    seats = refl;
+    lists = refl;
+    pass = refl;
+    client = refl;
+    occupied = seen_keeps p.trace at b;
+    taken = omega arith;
+  })
 
   -- neither asks for a range
   pub turn_asks : (p : SeatPart (Beside P)) {t : SeatPart (Beside P)} {at : ℕ} → t ≡ turned p at → t.trace.asked ≡ p.trace.asked
@@ -137,6 +154,10 @@ module _ {P : Type 0} where
 
   pub look_shows : (p : SeatPart (Beside P)) {q : SeatPart (Beside P)} {s : Standing} → q ≡ after_look p s → (j : ℕ) → shown_core q j ≡ shown_core p j
   look_shows p {q} {s} is j = ap (λ (x : SeatPart (Beside P)). shown_core x j) is
+
+  pub seen_shows : (p : SeatPart (Beside P)) {q : SeatPart (Beside P)} (at : ℕ) (b : Bool) (s : Standing) → q ≡ after_look_at at b s p
+      → (j : ℕ) → shown_core q j ≡ shown_core p j
+  seen_shows p at b s is j = ap (λ (x : SeatPart (Beside P)). shown_core x j) is
 
   -- what a hand holds in one list alone, it holds there however it is turned
   pub holds_in : {at : ℕ} {asked : Held} {p : SeatPart (Beside P)} → HoldsAlone at asked p → HoldsIn at asked p
@@ -171,6 +192,16 @@ module _ {P : Type 0} where
     turned = ap (λ (x : SeatPart (Beside P)). x.pass.list) is ∙ a.turned;
     held = ap (λ (x : SeatPart (Beside P)). held_at x.core.own) is ∙ a.held;
     others = λ j away. ap (λ (v : View). v.own) (look_shows t is j) ∙ a.others j away;
+  }
+
+  pub holds_seen : {home : ℕ} (at : ℕ) (b : Bool) {asked : Held} {t h : SeatPart (Beside P)} (s : Standing) → h ≡ after_look_at at b s t
+      → HoldsAlone home asked t
+      → HoldsAlone home asked h
+  holds_seen {home} at b {asked} {t} {h} s is a = record {
+    rests = subst IsResting (sym (ap (λ (x : SeatPart (Beside P)). x.core) is)) a.rests;
+    turned = ap (λ (x : SeatPart (Beside P)). x.pass.list) is ∙ a.turned;
+    held = ap (λ (x : SeatPart (Beside P)). held_at x.core.own) is ∙ a.held;
+    others = λ j away. ap (λ (v : View). v.own) (seen_shows t at b s is j) ∙ a.others j away;
   }
 
   -- a piece of work after which a list holds the range, where the seat held nothing

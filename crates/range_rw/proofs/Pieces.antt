@@ -1,7 +1,7 @@
 -- A piece of work in one list of several: the hand turns to the list, works there, and shows each other list as
 -- before. So what the calls on one list say of the hand is what a piece says of the seat.
 use Rattle.std.proofs.Common.{◌≡◌, ◌≢◌, ℕ, ◌%◌, ◌<◌, ◌≤◌, Bool, true, false, Result, Ok, Err, inl, refl, sym, ap, ◌∙◌, subst, arith, eq-eqb, ne_eqb}
-use Rattle.std.specs.Prelude.{Option, Some, None, IfErr, IfSome, OnOk, OnErr, if◌then◌else◌}
+use Rattle.std.specs.Prelude.{[], ◌++◌, Option, Some, None, IfErr, IfSome, OnOk, OnErr, if◌then◌else◌}
 use mathlib.Core.Logic.{dite}
 use native.Mathlib.Decide.{ℕ_discrete}
 use Rattle.atomic_table.specs.Seated.{TableId}
@@ -18,6 +18,7 @@ use Rattle.epoch_pools.specs.declared.views.Beside.{Beside}
 use Rattle.epoch_pools.specs.Standings.{is_counted, standing_back}
 use Rattle.epoch_pools.specs.Beside.{core_at, shown_core, given_back, may_give_back}
 use Rattle.epoch_pools.specs.Hands.{IsResting, turned}
+use Rattle.epoch_pools.specs.Record.{KeepsOccupied}
 use Rattle.marked_list.specs.Order.{MaySweep}
 use Rattle.marked_list.specs.Answers.{IsMarkCall}
 use Rattle.range_rw.specs.declared.refusals.NotHeld.{NotHeld}
@@ -120,14 +121,16 @@ module _ {P : Type 0} where
     turned_taken = ap (λ (x : SeatPart (Beside P)). x.trace.taken) is
 
     piece_by : q.number ≡ t.number → q.seats ≡ t.seats → q.pass.lists ≡ t.pass.lists → q.pass.list ≡ t.pass.list → q.pass.others ≡ t.pass.others
-        → q.pass.pass ≡ t.pass.pass → q.trace.client ≡ t.trace.client → t.trace.taken ≤ q.trace.taken → IsResting q.core → IsPiece at p q
-    piece_by number seats lists list others pass client taken rests = record {
+        → q.pass.pass ≡ t.pass.pass → q.trace.client ≡ t.trace.client → KeepsOccupied t.trace q.trace → t.trace.taken ≤ q.trace.taken
+        → IsResting q.core → IsPiece at p q
+    piece_by number seats lists list others pass client occupied taken rests = record {
       later = record {
         number = number ∙ ap (λ (x : SeatPart (Beside P)). x.number) is;
         seats = seats ∙ ap (λ (x : SeatPart (Beside P)). x.seats) is;
         lists = lists ∙ ap (λ (x : SeatPart (Beside P)). x.pass.lists) is;
         pass = pass ∙ ap (λ (x : SeatPart (Beside P)). x.pass.pass) is;
         client = client ∙ ap (λ (x : SeatPart (Beside P)). x.trace.client) is;
+        occupied = (occupied.0, occupied.1 ∙ ap (λ (x : SeatPart (Beside P)). occupied.0 ++ x.trace.occupied) is);
         taken = let e = turned_taken in omega arith;
       };
       turned = list ∙ turned_list;
@@ -138,7 +141,7 @@ module _ {P : Type 0} where
     -- a call of a try is a piece
     pub try_piece : IsLaterOutside t q → IsPiece at p q
     try_piece o = let l = o.later in piece_by l.number l.seats (ap (λ (b : Beside P). b.lists) l.pass) (ap (λ (b : Beside P). b.list) l.pass)
-        (ap (λ (b : Beside P). b.others) l.pass) (ap (λ (b : Beside P). b.pass) l.pass) l.client l.taken
+        (ap (λ (b : Beside P). b.others) l.pass) (ap (λ (b : Beside P). b.pass) l.pass) l.client l.occupied l.taken
         (record { outside = o.outside.even; cursor = o.cursor; hand = o.outside.hand })
 
     pub try_standing : IsLaterInTry t q → q.pass.standing ≡ p.pass.standing
@@ -172,7 +175,7 @@ module _ {P : Type 0} where
       pub given_piece : IsResting t.core → is_counted t.pass.lists t.pass.standing t.pass.list ≡ false → GivesBack (given_back rested) t q → IsPiece at p q
       given_piece rests beside g = piece_by g.number g.seats (ap (λ (b : Beside P). b.lists) g.pass) (ap (λ (b : Beside P). b.list) g.pass)
           (ap (λ (b : Beside P). b.others) g.pass) (ap (λ (b : Beside P). b.pass) g.pass ∙ ap (λ (b : Bool). if b then rested t.pass.pass else t.pass.pass)
-          beside) g.client (let n = g.least in omega arith)
+          beside) g.client g.occupied (let n = g.least in omega arith)
           (record { outside = ap (λ n. n % 2) g.epoch ∙ rests.outside; cursor = g.cursor ∙ rests.cursor; hand = g.hand })
 
       pub given_standing : q.pass ≡ given_back rested t.pass → q.pass.standing ≡ standing_back p.pass.standing at
@@ -184,7 +187,7 @@ module _ {P : Type 0} where
       marked_piece node rests beside e core m = piece_by m.number m.seats (ap (λ (b : Beside P). b.lists) e) (ap (λ (b : Beside P). b.list) e)
           (ap (λ (b : Beside P). b.others) e)
           (ap (λ (b : Beside P). b.pass) e ∙ ap (λ (b : Bool). if b then rested t.pass.pass else t.pass.pass) beside)
-          m.client (let n = m.taken in omega arith)
+          m.client ([], m.occupied) (let n = m.taken in omega arith)
           (record {
             outside = ap (λ (v : View). v.epoch % 2) core ∙ rests.outside;
             cursor = ap (λ (v : View). v.cursor) core ∙ rests.cursor;

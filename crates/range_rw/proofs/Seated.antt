@@ -112,6 +112,7 @@ module _ {P : Type 0} where
     lists = ap (λ (b : Beside P). b.lists) l.pass;
     pass = ap (λ (b : Beside P). b.pass) l.pass;
     client = l.client;
+    occupied = l.occupied;
     taken = l.taken;
   }
 
@@ -179,6 +180,14 @@ module _ {P : Type 0} where
         free = λ none. absurd (some none);
         one = grant.one;
       }
+
+  -- the list that holds it is the one to which its hand is turned
+  pub granted_list : {c : Regions} {range : Held} {p : SeatPart (Beside P)} → p.pass.list < p.pass.lists → IsGranted c range p
+      → counted_in p.pass.standing ≡ p.pass.list
+  granted_list {c} {range} {p} there grant = dite (ℕ_discrete p.pass.lists 1)
+      (λ one. let first : 0 ≡ p.pass.list = (let t = there in omega arith) in ap counted_in (grant.one one) ∙ first)
+      (λ many. here_in p.pass.standing p.pass.list
+      (both_true (is_here p.pass.standing p.pass.list) (is_whole p.pass.standing p.pass.lists) (stands_here p many grant.counts)).0)
 
   -- what such a seat holds is that range, and what one holds that has none in any list is nothing
   pub alone_grant : {c : Regions} {range : Held} {p : SeatPart (Beside P)} → p.pass.list < p.pass.lists → IsGranted c range p → shown_grant p ≡ Some range

@@ -2,7 +2,7 @@
 -- holds nothing in any list. What it leaves of that list is what it leaves of the seat; at the end of one list the hand
 -- leaves its epoch, turns to the next list and enters an epoch there.
 use Rattle.std.proofs.Common.{◌≡◌, ℕ, suc, ◌+◌, ◌-◌, ◌*◌, ◌%◌, ◌<◌, ◌≤◌, Bool, true, false, inl, refl, sym, ap, ◌∙◌, subst, arith, eqb-true}
-use Rattle.std.specs.Prelude.{IsSome, Option, Some, None, ◌==◌, map, length}
+use Rattle.std.specs.Prelude.{[], IsSome, Option, Some, None, ◌==◌, map, length}
 use Rattle.std.proofs.lemmas.List.{length-map}
 use Rattle.atomic_table.specs.Seated.{TableId}
 use Rattle.list_cuts.specs.Cut.{list_count}
@@ -75,7 +75,7 @@ module _ {P : Type 0} where
 
   pub scan_same : (p : SeatPart (Beside P)) → IsScanSeat p → IsScanLater p p
   scan_same p s = record {
-    later = record { number = refl; seats = refl; lists = refl; pass = refl; client = refl; taken = omega arith };
+    later = record { number = refl; seats = refl; lists = refl; pass = refl; client = refl; occupied = ([], refl); taken = omega arith };
     asked = refl;
     seat = s;
     ready = λ j. refl;
@@ -115,7 +115,7 @@ module _ {P : Type 0} where
 
   -- what a walk leaves is what a call of a try does
   walk_later : (p q : SeatPart (Beside P)) → IsLaterInWalk p q → IsLaterInTry p q
-  walk_later p q on = record { number = on.number; seats = on.seats; pass = on.pass; client = on.client; taken = on.taken }
+  walk_later p q on = record { number = on.number; seats = on.seats; pass = on.pass; client = on.client; occupied = ([], on.occupied); taken = on.taken }
 
   pub walked_later : (p q : SeatPart (Beside P)) → IsScanSeat p → IsLaterInWalk p q → q.core.own ≡ Nothing → IsResting q.core → IsScanLater p q
   walked_later p q s on own rests = here_later p q s (walk_later p q on) on.asked own on.pools.ready (bare_between q.core own on.hand rests)
@@ -146,7 +146,8 @@ module _ {P : Type 0} where
       let own : q.core.own ≡ Nothing = ap (λ (x : SeatPart (Beside P)). x.core.own) made ∙ own_free t m.seat in
       let hand : q.core.hand ≡ None = ap (λ (x : SeatPart (Beside P)). x.core.hand) made ∙ m.seat.between.hand in
       let cursor : q.core.cursor ≡ None = ap (λ (x : SeatPart (Beside P)). x.core.cursor) made in
-      let l = subst (IsLaterInTry t) (sym made) (record { number = refl; seats = refl; pass = refl; client = refl; taken = omega arith }) in
+      let l = subst (IsLaterInTry t) (sym made)
+      (record { number = refl; seats = refl; pass = refl; client = refl; occupied = ([], refl); taken = omega arith }) in
       record {
         later = scan_on p t q m (here_later t q m.seat l (ap (λ (x : SeatPart (Beside P)). x.trace.asked) made) own
             (ap (λ (x : SeatPart (Beside P)). x.core.ready) made) (bare_between q.core own hand (inl cursor)));
@@ -162,7 +163,8 @@ module _ {P : Type 0} where
       let own : q.core.own ≡ Nothing = ap (λ (x : SeatPart (Beside P)). x.core.own) made ∙ ap kept_own none in
       let hand : q.core.hand ≡ None = ap (λ (x : SeatPart (Beside P)). x.core.hand) made ∙ s.between.hand in
       let cursor : q.core.cursor ≡ None = ap (λ (x : SeatPart (Beside P)). x.core.cursor) made in
-      let l = subst (IsLaterInTry p) (sym made) (record { number = refl; seats = refl; pass = refl; client = refl; taken = omega arith }) in
+      let l = subst (IsLaterInTry p) (sym made)
+      (record { number = refl; seats = refl; pass = refl; client = refl; occupied = ([], refl); taken = omega arith }) in
       record {
         later = here_later p q s l (ap (λ (x : SeatPart (Beside P)). x.trace.asked) made) own
             (ap (λ (x : SeatPart (Beside P)). x.core.ready) made ∙ ap (λ (o : Own). ready_left o p.core.ready) none)

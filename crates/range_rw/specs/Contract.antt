@@ -2,7 +2,7 @@
 -- seat is its table, its number, the range that it holds, its pools of nodes, the pass of the layer above, and the
 -- record of its steps. The ranges are those of Kogan, Dice and Issa 2020; pools and record are this project's own
 -- profile. The layer above reads of a refusal its cause, and needs to know nothing of nodes.
-use Rattle.std.specs.Prelude.{◌≡◌, ◌≢◌, ◌⊎◌, ℕ, zero, suc, ◌+◌, ◌-◌, ◌*◌, ◌/◌, ◌%◌, ◌<◌, ◌≤◌, ◌==◌, ◌++◌, Bool, true, false, find}
+use Rattle.std.specs.Prelude.{◌≡◌, ◌≢◌, ◌⊎◌, ℕ, zero, suc, ◌+◌, ◌-◌, ◌*◌, ◌/◌, ◌%◌, ◌<◌, ◌≤◌, ◌==◌, ◌++◌, Bool, true, false, if◌then◌else◌, find}
 use Rattle.std.specs.Prelude.{List, [], ◌∷◌, Option, Some, None, length, map, replicate, get_or}
 use mathlib.Core.Option.{some}
 use lib.ListN.{get_elem?}
@@ -10,6 +10,7 @@ use Rattle.atomic_table.specs.Seated.{TableId}
 use Rattle.list_cuts.specs.Cut.{Regions, list_count, Takes, TakesOne, TakesTwo}
 use Rattle.lock_core.specs.Range.{Interval}
 use Rattle.lock_core.specs.Grants.{Conflicts}
+use Rattle.lock_core.specs.Views.{next_epoch}
 use Rattle.lock_core.specs.Machine.{numbers_from}
 use Rattle.lock_core.specs.declared.range.Held.{Held}
 use Rattle.lock_core.specs.declared.steps.Step.{Step}
@@ -18,6 +19,7 @@ use Rattle.epoch_pools.specs.declared.record.Looked.{Looked}
 use Rattle.epoch_pools.specs.declared.record.Lost.{Lost}
 use Rattle.epoch_pools.specs.declared.record.Met.{Met}
 use Rattle.epoch_pools.specs.declared.record.Noted.{Noted}
+use Rattle.epoch_pools.specs.declared.record.Occupied.{Occupied}
 use Rattle.epoch_pools.specs.declared.stuck.Stuck.{Stuck}
 use Rattle.epoch_pools.specs.declared.stuck.Stuck.TheVariants.{Inside, Away}
 use Rattle.epoch_pools.specs.Taking.{IsReadAway}
@@ -161,6 +163,25 @@ IsLongRefusal (NoNode list stuck) = ⊥
 abbrev pub IsReadyLeft : List ℕ → List ℕ → Type 0
 IsReadyLeft before after = (before ≡ []) ⊎ ((after ≡ before) ⊎ ((n : ℕ) × (before ≡ n ∷ after)))
 
+-- one of these steps that found a list not empty is such a one
+abbrev pub HasOccupied : (Occupied → Type 0) → List Occupied → Type 0
+HasOccupied IsOne [] = ⊥
+HasOccupied IsOne (o ∷ rest) = IsOne o ⊎ HasOccupied IsOne rest
+
+-- the step of that number, or a later one, found a list not empty: the fast path's exchange of its head, or a look at it
+-- by which the range was to count. So the seat met another seat's node there, or one that nobody has swept away yet
+abbrev pub Meets : ℕ → Record → Type 0
+Meets first t = HasOccupied (λ o. first ≤ o.step) t.occupied
+
+-- and it was that list
+abbrev pub Finds : ℕ → ℕ → Record → Type 0
+Finds first list t = HasOccupied (λ o. (first ≤ o.step) × (o.list ≡ list)) t.occupied
+
+-- the pools of list j once the epoch is left in which an open scan keeps its seat: its number there is one higher
+abbrev pub closed_pools : Option OpenScan → ℕ → Pools → Pools
+closed_pools None j pools = pools
+closed_pools (Some s) j pools = if s.list == j then record pools { epoch = next_epoch pools.epoch } else pools
+
 -- each of these ranges is such a one
 abbrev pub AreAll : (Held → Type 0) → List Held → Type 0
 AreAll IsOne [] = Unit {0}
@@ -294,6 +315,29 @@ module _ {P : Type 0} where
   -- what the seat has in each list in which a try for that range doesn't work is as it was
   abbrev pub KeepsOthers : Regions → Interval → SeatState P → SeatState P → Type 0
   KeepsOthers c range before after = (j : ℕ) → j < list_count c → (WorksIn c range j → ⊥) → pools_at after j ≡ pools_at before j
+
+  -- what the seat has in list j, once an open scan is ended
+  abbrev pub closed_at : SeatState P → ℕ → Pools
+  closed_at s j = closed_pools s.scan j (pools_at s j)
+
+  -- the same of a seat that may have an open scan, which a try ends first
+  abbrev pub ClosesOthers : Regions → Interval → SeatState P → SeatState P → Type 0
+  ClosesOthers c range before after = (j : ℕ) → j < list_count c → (WorksIn c range j → ⊥) → pools_at after j ≡ closed_at before j
+
+  -- what the seat has in each list but that one is as it was, or a step of this call found the list not empty
+  abbrev pub KeepsClear : Regions → ℕ → SeatState P → SeatState P → Type 0
+  KeepsClear c own before after = (j : ℕ) → j < list_count c → j ≢ own
+      → (pools_at after j ≡ closed_at before j) ⊎ Finds before.trace.taken j after.trace
+
+  -- a range of several lists was refused in list 0, and what the seat has in each other list is as it was; or in another
+  -- list, and so many further looks were made, each of which found its list not empty
+  abbrev pub IsRefusedAfter : Regions → ℕ → SeatState P → SeatState P → Type 0
+  IsRefusedAfter c looks before after = ((j : ℕ) → 0 < j → j < list_count c → pools_at after j ≡ closed_at before j)
+      ⊎ (length before.trace.occupied + looks < length after.trace.occupied)
+
+  -- the call made so many steps at most, or met another
+  abbrev pub MakesFew : ℕ → SeatState P → SeatState P → Type 0
+  MakesFew few before after = (after.trace.taken ≤ before.trace.taken + few) ⊎ Meets before.trace.taken after.trace
 
   -- a used node came home, and this call read that odd epoch of another seat, last of all that it read there, in that
   -- list; that seat isn't passed, and no other epoch was noted of it before

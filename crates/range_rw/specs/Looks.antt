@@ -1,7 +1,7 @@
 -- The look by which a held range comes to count in a table of several lists, said alike of a narrow range and of a wide
 -- one. `own` is the list that holds the range, list 0 for a wide one; `at` is the list that is looked at, list 0 for a
 -- narrow one. This project's own profile.
-use Rattle.std.specs.Prelude.{◌≡◌, ◌≢◌, ◌⊎◌, ◌↔◌, ℕ, zero, suc, ◌<◌, ◌≤◌, false, Result, IfErr, OnOk, OnErr}
+use Rattle.std.specs.Prelude.{◌≡◌, ◌≢◌, ◌⊎◌, ◌↔◌, ℕ, zero, suc, ◌+◌, ◌<◌, ◌≤◌, Bool, false, length, Result, IfErr, OnOk, OnErr}
 use Rattle.atomic_table.specs.Seated.{TableId}
 use Rattle.list_cuts.specs.Cut.{Regions, Takes, TakesOne, TakesTwo}
 use Rattle.lock_core.specs.Range.{Interval}
@@ -11,10 +11,10 @@ use Rattle.epoch_pools.specs.declared.views.Beside.{Beside}
 use Rattle.epoch_pools.specs.declared.views.Standing.{Standing}
 use Rattle.epoch_pools.specs.declared.views.Standing.TheVariants.{Free, Narrow, Wide}
 use Rattle.epoch_pools.specs.Beside.{shown_core}
-use Rattle.epoch_pools.specs.Passing.{MayCount, MayPass, after_look}
+use Rattle.epoch_pools.specs.Passing.{MayCount, MayPass, after_look, after_look_at}
 use Rattle.epoch_pools.specs.Standings.{is_counted, passed_by, standing_back}
 use Rattle.range_rw.specs.declared.refusals.NotHeld.{NotHeld}
-use Rattle.range_rw.specs.Contract.{AsksOnly, IsLongRefusal, IsReadyLeft, WorksIn}
+use Rattle.range_rw.specs.Contract.{AsksOnly, Finds, IsLongRefusal, IsReadyLeft, Meets, TakesMany, WorksIn}
 use Rattle.range_rw.specs.Several.{HasLists, IsLaterInLists, HoldsAlone, HoldsIn, IsCauseAt, HasSpent, IsWorkFor}
 
 -- how the range stands once that list is clear: a narrow one counts, and a wide one has passed all below `up`
@@ -70,6 +70,23 @@ module _ {P : Type 0} where
   abbrev pub IsLook : Standing → SeatPart (Beside P) → SeatPart (Beside P) → Type 0
   IsLook s p q = q ≡ after_look p s
 
+  -- a look at that list, which was clear or not: where it was the seat stands so
+  abbrev pub IsLookAt : ℕ → Bool → Standing → SeatPart (Beside P) → SeatPart (Beside P) → Type 0
+  IsLookAt at clear s p q = q ≡ after_look_at at clear s p
+
+  -- one step was made, which left that list, or a step of this call found the list not empty
+  abbrev pub LooksOnce : ℕ → SeatPart (Beside P) → SeatPart (Beside P) → Type 0
+  LooksOnce at p q = ((q.trace.taken ≡ p.trace.taken + 1) × (shown_core q at ≡ shown_core p at)) ⊎ Finds p.trace.taken at q.trace
+
+  -- a step of this call found that list not empty, and the record has more such steps than before
+  abbrev pub MeetsMore : ℕ → SeatPart (Beside P) → SeatPart (Beside P) → Type 0
+  MeetsMore at p q = (length p.trace.occupied < length q.trace.occupied) × Finds p.trace.taken at q.trace
+
+  -- a wide range was refused in list 0, and no other list has changed; or in another one, and so many further looks were
+  -- made, each of which found its list not empty
+  abbrev pub IsRefusedFrom : ℕ → SeatPart (Beside P) → SeatPart (Beside P) → Type 0
+  IsRefusedFrom looks p q = ((j : ℕ) → j ≢ 0 → shown_core q j ≡ shown_core p j) ⊎ (length p.trace.occupied + looks < length q.trace.occupied)
+
   -- what a look at the list `at` comes to, for a range that the list `own` holds and that is to stand so then; where
   -- that list isn't empty it is swept, and the range is linked there too
   pub record LooksAt {A : Type 0} (table : TableId) (own at : ℕ) (asked : Held) (stands : Standing) (result : Result A NotHeld) (p q : SeatPart (Beside P)) :
@@ -103,3 +120,9 @@ module _ {P : Type 0} where
     -- by a cause in one of the other lists
     pub cause : IfErr result (λ why. looks ≡ 0 → (i : ℕ) × (i ≢ own) × (i < p.pass.lists) × WorksIn c asked.range i × IsCauseAt table i p q asked why)
     pub long : IfErr result (λ why. IsLongRefusal why ↔ HasSpent q)
+    -- each other list is as before, or a step of this call found it not empty
+    pub apart : (j : ℕ) → j ≢ own → (shown_core q j ≡ shown_core p j) ⊎ Finds p.trace.taken j q.trace
+    -- one step was made for each list that the range takes, or the call met another
+    pub few : OnOk result ((k : ℕ) → TakesMany c asked.range k → (q.trace.taken ≤ p.trace.taken + k) ⊎ Meets p.trace.taken q.trace)
+    -- a wide range that is refused was refused once more than looks were to be made again
+    pub more : OnErr result (own ≡ 0 → length p.trace.occupied + looks < length q.trace.occupied)

@@ -5,6 +5,7 @@ use Rattle.std.specs.Prelude.{◌≡◌, ◌≢◌, ◌+◌, ◌≤◌, Bool, tr
 use Rattle.lock_core.specs.declared.views.Own.TheVariants.{Nothing}
 use Rattle.lock_core.specs.Machine.{held_at}
 use Rattle.epoch_pools.specs.declared.views.SeatPart.{SeatPart}
+use Rattle.epoch_pools.specs.Record.{KeepsOccupied}
 use Rattle.range_rw.specs.Seats.{IsBetween, scan_of}
 
 module _ {P : Type 0} where
@@ -20,6 +21,7 @@ module _ {P : Type 0} where
     pub seats : q.seats ≡ p.seats
     pub pass : q.pass ≡ rested p.pass
     pub client : q.trace.client ≡ p.trace.client
+    pub occupied : KeepsOccupied p.trace q.trace
     pub asked : q.trace.asked ≡ p.trace.asked
     pub met : q.trace.met ≡ p.trace.met
     pub own : q.core.own ≡ Nothing
@@ -38,6 +40,7 @@ module _ {P : Type 0} where
     pub core : q.core ≡ p.core
     pub pass : q.pass ≡ p.pass
     pub client : q.trace.client ≡ p.trace.client
+    pub occupied : KeepsOccupied p.trace q.trace
     pub asked : q.trace.asked ≡ p.trace.asked
     pub met : q.trace.met ≡ p.trace.met
     pub taken : q.trace.taken ≡ p.trace.taken + 1

@@ -2,7 +2,7 @@
 -- to it, and all other lists are shown as before, so what is said of one list is said of the seat. A seat that holds
 -- nothing holds nothing in any list, and nothing counts; one that holds a range holds it in one list alone, and it
 -- counts. This project's own profile.
-use Rattle.std.specs.Prelude.{◌≡◌, ◌≢◌, ◌⊎◌, ◌↔◌, ℕ, ◌+◌, ◌*◌, ◌<◌, ◌≤◌, true, false, Some, None, Result, IfErr, OnOk, OnErr}
+use Rattle.std.specs.Prelude.{◌≡◌, ◌≢◌, ◌⊎◌, ◌↔◌, ℕ, ◌+◌, ◌*◌, ◌<◌, ◌≤◌, true, false, [], Some, None, Result, IfErr, OnOk, OnErr}
 use Rattle.atomic_table.specs.Seated.{TableId}
 use Rattle.list_cuts.specs.Cut.{Regions, list_count, Takes, TakesOne}
 use Rattle.lock_core.specs.Range.{Interval}
@@ -13,12 +13,13 @@ use Rattle.epoch_pools.specs.declared.views.SeatPart.{SeatPart}
 use Rattle.epoch_pools.specs.declared.views.Beside.{Beside}
 use Rattle.epoch_pools.specs.declared.views.Standing.{Standing}
 use Rattle.epoch_pools.specs.declared.views.Standing.TheVariants.{Free, Wide}
+use Rattle.epoch_pools.specs.Record.{KeepsOccupied}
 use Rattle.epoch_pools.specs.Standings.{is_counted}
 use Rattle.epoch_pools.specs.Beside.{shown_core}
 use Rattle.epoch_pools.specs.Hands.{IsResting}
 use Rattle.marked_list.specs.Causes.{nodes_in, IsSpent}
 use Rattle.range_rw.specs.declared.refusals.NotHeld.{NotHeld}
-use Rattle.range_rw.specs.Contract.{SeatState, AsksOnly, IsListCause, IsLongRefusal, IsReadyLeft, StandsIn, WorksIn}
+use Rattle.range_rw.specs.Contract.{SeatState, AsksOnly, Finds, Meets, TakesMany, IsListCause, IsLongRefusal, IsReadyLeft, StandsIn, WorksIn}
 use Rattle.range_rw.specs.Seats.{counted_in, seat_state_in}
 use Rattle.range_rw.specs.Trying.{LeavesEpoch}
 
@@ -55,6 +56,7 @@ module _ {P : Type 0} where
     pub lists : q.pass.lists ≡ p.pass.lists
     pub pass : q.pass.pass ≡ p.pass.pass
     pub client : q.trace.client ≡ p.trace.client
+    pub occupied : KeepsOccupied p.trace q.trace
     pub taken : p.trace.taken ≤ q.trace.taken
 
   -- a piece of work in one list, to which the hand is turned afterwards and in which it rests: each other list is shown
@@ -169,6 +171,12 @@ module _ {P : Type 0} where
     pub ready : (j : ℕ) → IsReadyLeft (shown_core p j).ready (shown_core q j).ready
     pub cause : IfErr result (IsCauseIn table c p q asked)
     pub long : IfErr result (λ why. IsLongRefusal why ↔ IsSpent q)
+    -- with a ready node in the list that holds the range, five steps and a look at each list that it takes, or it met
+    -- another
+    pub fast : OnOk result ((k : ℕ) → TakesMany c asked.range k → (shown_core p q.pass.list).ready ≢ []
+        → (q.trace.taken ≤ p.trace.taken + (5 + k)) ⊎ Meets p.trace.taken q.trace)
+    -- each other list is as before, or a step of this call found it not empty
+    pub apart : (own : ℕ) → StandsIn c asked.range own → (j : ℕ) → j ≢ own → (shown_core q j ≡ shown_core p j) ⊎ Finds p.trace.taken j q.trace
     pub seats : p.seats ≡ many
 
   -- how far a wide range is: nothing is passed yet, and it takes no list before this one; or all below it are passed

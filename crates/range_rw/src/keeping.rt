@@ -5,11 +5,11 @@
 //! callers find it there and are refused. That any of them gets its range by that was measured, and isn't claimed. A
 //! reader may rely on the range counting only once all lists are passed, and on nothing being held where the answer is
 //! to begin anew. This project's own profile.
-ghost use Rattle.std.specs.Prelude.{◌≡◌, ◌≢◌, ◌<◌, ◌≤◌, ◌+◌, ◌*◌, OnOk};
+ghost use Rattle.std.specs.Prelude.{◌≡◌, ◌≢◌, ◌<◌, ◌≤◌, ◌+◌, ◌*◌, length, OnOk, OnErr};
 ghost use Rattle.range_rw.specs.Calls.{IsHandOf, Leaves};
 ghost use Rattle.range_rw.specs.Contract.{AsksFor};
 ghost use Rattle.range_rw.specs.Several.{MayLinkIn, IsLinkedIn, IsHoldCall, MayHold};
-ghost use Rattle.range_rw.specs.Looks.{IsHome, IsToLook};
+ghost use Rattle.range_rw.specs.Looks.{IsHome, IsRefusedFrom, IsToLook};
 ghost use Rattle.range_rw.specs.declared.patience.Anew.TheVariants.{AtOnce, Later};
 ghost use Rattle.word_rows.specs.declared.backoff.TheConstants.{REFUSED_ROUNDS, KEPT_LOOKS};
 
@@ -83,6 +83,7 @@ fn count_or_give<G: Guard, L: Ledger>(
 ) -> Result<(), Anew>
     requires due { IsHandOf (IsToLook list.now.cut lists own (record { range = range; mode = mode })) list.now hand.old }
     ensures call { Leaves (IsHoldCall list.now.cut (record { range = range; mode = mode }) result) hand.old hand.new steps.old steps.new }
+    ensures more { OnErr result (own ≡ 0 → length hand.old.part.trace.occupied + looks < length hand.new.part.trace.occupied) }
     ensures bound { own ≢ 0 → hand.new.part.trace.taken ≤ hand.old.part.trace.taken + 57 + 193 * hand.old.part.seats }
 {
     match look_in_all(list, hand, own, lists, range, mode, looks, steps) {
@@ -110,6 +111,7 @@ pub(crate) fn hold_in_patiently<G: Guard, L: Ledger>(
     requires free { IsHandOf (MayHold list.now.cut lists) list.now hand.old }
     ensures call { Leaves (IsHoldCall list.now.cut (record { range = range; mode = mode }) result) hand.old hand.new steps.old steps.new }
     ensures gets { OnOk result (AsksFor (record { range = range; mode = mode }) hand.old.part.trace.asked hand.new.part.trace.asked) }
+    ensures kept { OnErr result (own ≡ 0 → IsRefusedFrom looks hand.old.part hand.new.part) }
 {
     let quick = match link_patiently(list, hand, own, range, mode, steps) {
         Ok(quick) => quick,

@@ -19,7 +19,7 @@ mod table;
 mod threads;
 mod trying;
 
-pub use epoch_pools::{LastClient, Looked, Lost, Met, Record, Stuck};
+pub use epoch_pools::{LastClient, Looked, Lost, Met, Occupied, Record, Stuck};
 pub use keeping::{looks_after, next_refused};
 pub use laws::{keeps_apart, keeps_lock, keeps_no_reuse};
 pub use patience::Anew;

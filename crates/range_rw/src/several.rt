@@ -4,19 +4,19 @@
 //! range there too, looks, and gives that node back. Each function works in one list, to which it turns the hand; a
 //! reader may rely on a refusal leaving nothing held, and on its cause being that of a try in one list. This project's
 //! own profile.
-ghost use Rattle.std.specs.Prelude.{◌≡◌, ◌≢◌, ◌<◌, ◌≤◌, ◌+◌, ◌*◌, ◌↔◌, ℕ, None, Some, IfErr, OnOk};
+ghost use Rattle.std.specs.Prelude.{◌≡◌, ◌≢◌, ◌<◌, ◌≤◌, ◌+◌, ◌*◌, ◌↔◌, ℕ, [], None, Some, IfErr, OnOk, OnErr};
 ghost use Rattle.lock_core.specs.declared.range.Held.{Held};
 ghost use Rattle.list_cuts.specs.Cut.{list_count, Takes};
 ghost use Rattle.epoch_pools.specs.Standings.{standing_back};
 ghost use Rattle.epoch_pools.specs.Beside.{shown_core};
-ghost use Rattle.epoch_pools.specs.Passing.{HoldsToo, standing_by};
+ghost use Rattle.epoch_pools.specs.Passing.{HoldsToo};
 ghost use Rattle.marked_list.specs.Causes.{nodes_in, IsSpent};
 ghost use Rattle.range_rw.specs.Calls.{IsHandOf, Leaves};
 ghost use Rattle.range_rw.specs.Contract.{IsLongRefusal, IsReadyLeft, TakesMany, try_steps};
-ghost use Rattle.range_rw.specs.Trying.{IsBare};
+ghost use Rattle.range_rw.specs.Trying.{IsBare, IsFast};
 ghost use Rattle.range_rw.specs.Several.{HasLeft, MayLinkIn, MayGiveIn, IsLinkedIn, IsFreedIn, HoldsAlone, HoldsIn, MayHold};
 ghost use Rattle.range_rw.specs.Several.{IsTryCall, IsCauseAt, KeepsCauses, TakesNone, TakesAlone};
-ghost use Rattle.range_rw.specs.Looks.{MayLook, IsDue, IsHome, LooksAt, LooksAtAll, standing_for, IsLook, IsToLook};
+ghost use Rattle.range_rw.specs.Looks.{MayLook, IsDue, IsHome, LooksAt, LooksAtAll, LooksOnce, MeetsMore, standing_for, IsLook, IsLookAt, IsToLook};
 
 use crate::nodes::refusal_of;
 use crate::refusals::NotHeld;
@@ -84,6 +84,7 @@ fn link_piece<G: Guard, L: Ledger>(
     ensures ready { IsReadyLeft (shown_core hand.old.part at).ready (shown_core hand.new.part at).ready }
     ensures cause { IfErr result (IsCauseAt hand.old.table at hand.old.part hand.new.part (record { range = range; mode = mode })) }
     ensures long { IfErr result (λ why. IsLongRefusal why ↔ IsSpent hand.new.part) }
+    ensures fast { OnOk result ((shown_core hand.old.part at).ready ≢ [] → IsFast hand.old.part hand.new.part) }
     ensures seats { hand.old.part.seats ≡ list.now.seats }
     ensures bound { hand.new.part.trace.taken ≤ hand.old.part.trace.taken + 43 + 145 * hand.old.part.seats }
 {
@@ -165,7 +166,7 @@ fn look<G: Guard, L: Ledger>(
     steps: &mut Steps<L>,
 ) -> bool
     requires may { IsHandOf (MayLook list.now.cut own at up) list.now hand.old }
-    ensures look { Leaves (IsLook (standing_by result (standing_for own up) hand.old.part)) hand.old hand.new steps.old steps.new }
+    ensures look { Leaves (IsLookAt at result (standing_for own up)) hand.old hand.new steps.old steps.new }
 {
     if own == 0 {
         pass_list(list, hand, at, up, steps)
@@ -271,6 +272,8 @@ fn look_in<G: Guard, L: Ledger>(
     requires holds { HoldsAlone own (record { range = range; mode = mode }) hand.old.part }
     ensures looks { Leaves (LooksAt hand.old.table own at (record { range = range; mode = mode }) (standing_for own up) result)
         hand.old hand.new steps.old steps.new }
+    ensures once { LooksOnce at hand.old.part hand.new.part }
+    ensures more { OnErr result (MeetsMore at hand.old.part hand.new.part) }
     ensures bound { hand.new.part.trace.taken ≤ hand.old.part.trace.taken + 55 + 193 * hand.old.part.seats }
 {
     if look(list, hand, own, at, up, steps) {

@@ -1,7 +1,8 @@
 use Rattle.std.proofs.Common.{rules, ◌≡◌, [], inl, inr, ap, subst}
 use Rattle.lock_core.specs.declared.views.View.{View}
-use Rattle.epoch_pools.specs.Taking.{TakesFirst}
-use Rattle.epoch_pools.proofs.Taking.{takes_filled}
+use Rattle.epoch_pools.specs.Hands.{HandState}
+use Rattle.epoch_pools.specs.Taking.{IsPoolCall, TakesFirst}
+use Rattle.epoch_pools.proofs.Taking.{both_calls, takes_filled}
 use Rattle.epoch_pools.proofs.barrier.take.Goals as goal
 use Rattle.epoch_pools.proofs.barrier.take.Goals.{then-not-has_ready+in_default, else-not-has_ready}
 
@@ -17,3 +18,11 @@ returns-clause-cause g c = let p = c.args.hand.now.part in let r = c.take_ready.
         | else-not-has_ready w ↦ inl (subst (λ h. TakesFirst h.part r c.take_ready.result) w.hand-is first)
       ],
     )
+
+-- it is taken at once, or after a refill
+pub returns-clause-call : goal.returns-clause-call
+returns-clause-call g c = let q = c.take_ready.new.self.part in elim c.if-not-has_ready.branch [
+  | then-not-has_ready+in_default w ↦ both_calls c.args.hand.now.part w.refill.new.self.part q w.refill.ensures.on.call
+      (subst (λ (h : HandState _). IsPoolCall h.part q) w.hand-is c.take_ready.ensures.call)
+  | else-not-has_ready w ↦ subst (λ (h : HandState _). IsPoolCall h.part q) w.hand-is c.take_ready.ensures.call
+]

@@ -2,7 +2,7 @@ use Rattle.std.proofs.Common.{◌≡◌, sym, subst}
 use Rattle.std.specs.Prelude.{◌==◌, ◌||◌}
 use Rattle.list_cuts.specs.Cut.{list_count}
 use Rattle.epoch_pools.specs.Hands.{HandState}
-use Rattle.epoch_pools.specs.Passing.{IsLook, after_look, standing_by, standing_of, held_too}
+use Rattle.epoch_pools.specs.Passing.{IsLook, after_look_at, standing_of, held_too}
 use Rattle.epoch_pools.proofs.LookSteps.{look_hand}
 use Rattle.epoch_pools.proofs.passing.look_from.Goals as goal
 
@@ -14,7 +14,7 @@ look_at-found-requires-clause-may g c = subst (λ (h : HandState _). IsLook c.ar
 -- its standing is that of the look
 pub returns-clause-part : goal.returns-clause-part
 returns-clause-part g c = subst (λ (h : HandState _). c.look_at-found.new.token.part
-    ≡ after_look h.part (standing_by (held_too c.args.kind || c.look_at-found.result == 0) (standing_of c.args.kind h.part) h.part))
+    ≡ after_look_at c.args.at (held_too c.args.kind || c.look_at-found.result == 0) (standing_of c.args.kind h.part) h.part)
     c.hand.view_is c.look_at-found.ensures.part
 
 -- the table has as many lists as its cut
@@ -23,4 +23,4 @@ returns-clause-lists g c = subst (λ (h : HandState _). h.part.pass.lists ≡ li
 
 -- it is a hand still
 pub invariant_of-hand : goal.invariant_of-hand
-invariant_of-hand g c = look_hand _ c.look_at-found.ensures.part c.hand.invariant
+invariant_of-hand g c = look_hand _ _ _ c.look_at-found.ensures.part c.hand.invariant

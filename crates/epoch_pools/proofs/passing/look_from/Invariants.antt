@@ -9,4 +9,5 @@ ghosts-look_at g a = record {
   too = held_too a.kind;
   lists = a.token.now.part.pass.lists;
   list = a.token.now.part.pass.list;
+  at = a.list;
 }

@@ -1,5 +1,7 @@
 use Rattle.std.proofs.Common.{sym, ◌∙◌, arith}
-use Rattle.range_rw.proofs.Dues.{home_granted}
+use Rattle.range_rw.proofs.Calls.{counted_on}
+use Rattle.range_rw.proofs.Dues.{given_free, home_granted, home_works, work_freed, work_on}
+use Rattle.range_rw.proofs.Meeting.{no_fewer}
 use Rattle.range_rw.proofs.keeping.count_or_give.Goals as goal
 
 -- the range counts
@@ -12,6 +14,17 @@ returns-in-Ok-clause-call g c =
 
 -- it is held, and doesn't count
 -- so it was given back
+pub returns-in-Err-clause-call : goal.returns-in-Err-clause-call
+returns-in-Err-clause-call g c =
+    let all = c.look_in_all.ensures.looks in let kept = c.in-Err.ensures.looks.is.kept in let given = c.give_piece.ensures.given in record {
+      counted = counted_on all.counted given.counted;
+      is = record {
+        work = work_on all.is.work (work_freed (home_works c.requires.due.is.home) given.is);
+        held = tt;
+        free = given_free kept.0 kept.2 given.is;
+      };
+    }
+
 -- the steps of the looks
 pub returns-in-Ok-clause-bound : goal.returns-in-Ok-clause-bound
 returns-in-Ok-clause-bound g c = λ far. let b = c.look_in_all.ensures.narrow far in omega arith
@@ -19,3 +32,8 @@ returns-in-Ok-clause-bound g c = λ far. let b = c.look_in_all.ensures.narrow fa
 -- and of giving back
 pub returns-in-Err-clause-bound : goal.returns-in-Err-clause-bound
 returns-in-Err-clause-bound g c = λ far. let b = c.look_in_all.ensures.narrow far in let d = c.give_piece.ensures.bound in omega arith
+
+-- after a refusal a wide one has looked so many times more
+pub returns-in-Err-clause-more : goal.returns-in-Err-clause-more
+returns-in-Err-clause-more g c = λ e. let m = c.in-Err.ensures.looks.is.more e in
+    let n = no_fewer c.look_in_all.new.hand.part.trace c.give_piece.new.hand.part.trace c.give_piece.ensures.given.is.piece.later.occupied in omega arith

@@ -1,5 +1,6 @@
 use Rattle.std.proofs.Common.{◌∙◌}
 use Rattle.range_rw.proofs.Asking.{asks_kept, for_kept}
+use Rattle.range_rw.proofs.Calls.{outside_on}
 use Rattle.range_rw.proofs.Taking.{tried_ends}
 use Rattle.range_rw.proofs.patience.hold_patiently.Goals as goal
 
@@ -28,3 +29,13 @@ returns-in-Ok-anew_after-clause-gets g c = for_kept c.in-Ok.ensures.link.is.trie
 -- and where it doesn't
 pub returns-in-Err-anew_after-clause-asks : goal.returns-in-Err-anew_after-clause-asks
 returns-in-Err-anew_after-clause-asks g c = asks_kept c.link_if_empty.ensures.link.is.asks c.insert_patiently.ensures.asked
+
+-- the insertion ends outside the epoch
+pub returns-in-Ok-anew_after-clause-left : goal.returns-in-Ok-anew_after-clause-left
+returns-in-Ok-anew_after-clause-left g c = let link = c.link_if_empty.ensures.link in
+    outside_on (record { counted = link.counted; is = link.is.later }) c.insert_patiently.ensures.left
+
+-- the insertion ends outside the epoch, also where it holds nothing
+pub returns-in-Err-anew_after-clause-left : goal.returns-in-Err-anew_after-clause-left
+returns-in-Err-anew_after-clause-left g c = let link = c.link_if_empty.ensures.link in
+    outside_on (record { counted = link.counted; is = link.is.later }) c.insert_patiently.ensures.left

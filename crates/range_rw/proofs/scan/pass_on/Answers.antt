@@ -56,6 +56,9 @@ all-preserved g c =
     }
 
 -- the seat still holds nothing
+pub returns-in-Some-clause-later : goal.returns-in-Some-clause-later
+returns-in-Some-clause-later g c = let on = stays_on c.all.invariant.later c.pass_or_turn.ensures.later in record { counted = on.counted; is = on.is.later }
+
 -- the answer of a list is that of the call
 pub returns-in-Some-clause-next : goal.returns-in-Some-clause-next
 returns-in-Some-clause-next g c = λ was opened. let i = c.all.invariant in let w = i.now was opened in let after = seat_state_of c.pass_or_turn.new.hand in w.2
@@ -87,6 +90,9 @@ returns-in-Some-clause-bound g c = let i = c.all.invariant in let p = c.args.han
     (omega arith) in omega arith
 
 -- in the last list the same
+pub returns-clause-later : goal.returns-clause-later
+returns-clause-later g c = let on = stays_on c.all.invariant.later c.pass_here.ensures.later in record { counted = on.counted; is = on.is.later }
+
 -- its answer is that of the call
 pub returns-clause-next : goal.returns-clause-next
 returns-clause-next g c = λ was opened. let i = c.all.invariant in let w = i.now was opened in let after = seat_state_of c.pass_here.new.hand in

@@ -1,10 +1,11 @@
-use Rattle.std.proofs.Common.{◌≡◌, ◌+◌, ◌*◌, ℕ, refl, sym, ap, ◌∙◌, arith}
+use Rattle.std.proofs.Common.{◌≡◌, ◌≢◌, ◌+◌, ◌*◌, ℕ, [], inl, refl, sym, ap, ◌∙◌, subst, arith}
 use Rattle.epoch_pools.specs.Beside.{shown_core}
-use Rattle.range_rw.specs.Contract.{IsReadyLeft}
+use Rattle.range_rw.specs.Contract.{IsReadyLeft, StandsIn}
 use Rattle.range_rw.specs.Several.{IsWorkFor}
 use Rattle.range_rw.proofs.Calls.{counted_on}
 use Rattle.range_rw.proofs.Moves.{linked_cause, ready_each, ready_all, ready_kept, spent_kept}
-use Rattle.range_rw.proofs.Dues.{work_on, work_link, work_freed, home_works, home_granted, link_free, given_free}
+use Rattle.range_rw.proofs.Meeting.{IsApart, apart_after, apart_before, fast_few, few_both}
+use Rattle.range_rw.proofs.Dues.{home_is, work_on, work_link, work_freed, home_works, home_granted, link_free, given_free}
 use Rattle.range_rw.proofs.several.hold_in.Given.{Over}
 use Rattle.range_rw.proofs.several.hold_in.Goals.{After-look_in_all}
 use Rattle.range_rw.proofs.several.hold_in.Goals as goal
@@ -23,6 +24,13 @@ ready : (g : Over) (c : After-look_in_all g) (j : ℕ) → IsReadyLeft (shown_co
 ready g c = ready_all c.args.own c.args.hand.now.part c.link_piece.new.hand.part c.look_in_all.new.hand.part c.link_piece.ensures.ready
     c.link_piece.ensures.link.is.piece.only (c.look_in_all.ensures.looks.is.ready refl) c.look_in_all.ensures.looks.is.home
 
+-- each other list is as before, or was found not empty
+apart : (g : Over) (c : After-look_in_all g) (own : ℕ) → StandsIn c.args.list.now.cut c.args.range own → (j : ℕ) → j ≢ own
+    → IsApart j c.args.hand.now.part c.look_in_all.new.hand.part
+apart g c own stands j away = let same = home_is stands c.requires.home in let link = c.link_piece.ensures.link.is.piece in
+    apart_before j c.args.hand.now.part c.link_piece.new.hand.part c.look_in_all.new.hand.part (link.only j (λ e. away (e ∙ sym same)))
+    link.later.taken (c.look_in_all.ensures.looks.is.apart j (λ e. away (e ∙ sym same)))
+
 -- a node may be linked in that list
 -- a refused link leaves nothing held
 pub returns-in-Err-clause-tried : goal.returns-in-Err-clause-tried
@@ -36,6 +44,8 @@ returns-in-Err-clause-tried g c =
         -- what refused the link refuses the call
         cause = (c.args.own, (let t = c.requires.home.there in let l = c.requires.free.is.lists.shown in omega arith), works, c.in-Err.ensures.cause);
         long = c.in-Err.ensures.long;
+        fast = tt;
+        apart = λ own stands j away. inl (link.is.piece.only j (λ e. away (e ∙ sym (home_is stands c.requires.home))));
         seats = c.link_piece.ensures.seats;
       };
     }
@@ -60,6 +70,13 @@ returns-in-Ok-look_in_all g c =
           ready = ready g h;
           cause = tt;
           long = tt;
+          -- five steps for the link, and one for each look, or another was met
+          fast = λ k many some. let link = c.link_piece.ensures.link.is.piece in
+              few_both 5 k c.args.hand.now.part c.link_piece.new.hand.part c.look_in_all.new.hand.part
+              (fast_few c.args.hand.now.part c.link_piece.new.hand.part (c.in-Ok.ensures.fast
+              (subst (λ n. (shown_core c.args.hand.now.part n).ready ≢ []) done.0.turned some)))
+              (c.in-Ok-look_in_all.ensures.looks.is.few k many) (omega arith) link.later.taken c.look_in_all.ensures.looks.is.work.later.occupied;
+          apart = apart g h;
           seats = c.link_piece.ensures.seats;
         };
       };
@@ -98,6 +115,10 @@ returns-in-Err-look_in_all g c =
           );
           -- Long comes exactly where the last walk is spent
           long = spent_kept c.look_in_all.new.hand.part c.give_up.new.hand.part c.give_up.ensures.look given.is.piece.later.seats given.is.free looks.long;
+          fast = tt;
+          apart = λ own stands j away. apart_after j c.args.hand.now.part c.look_in_all.new.hand.part c.give_up.new.hand.part
+              (apart g h own stands j away) given.is.piece.later.occupied
+              (given.is.piece.only j (λ e. away (e ∙ sym (home_is stands c.requires.home))));
           seats = c.link_piece.ensures.seats;
         };
       };

@@ -1,7 +1,8 @@
-use Rattle.std.proofs.Common.{refl, sym, ap, ◌∙◌, arith}
+use Rattle.std.proofs.Common.{◌≢◌, ℕ, List, [], refl, sym, subst, ap, ◌∙◌, arith}
 use Rattle.epoch_pools.specs.declared.views.SeatPart.{SeatPart}
 use Rattle.range_rw.proofs.Calls.{counted_on, counted_turn}
-use Rattle.range_rw.proofs.Pieces.{err_on, try_linked, ready_piece, cause_piece}
+use Rattle.range_rw.proofs.Meeting.{fast_from}
+use Rattle.range_rw.proofs.Pieces.{err_on, ok_on, try_linked, ready_piece, cause_piece}
 use Rattle.range_rw.proofs.several.link_piece.Goals as goal
 
 -- the hand rests in the list, without a node of its own
@@ -18,6 +19,9 @@ returns g c =
       cause = err_on _ _ c.try_range.result (cause_piece c.args.at p t q is c.turn.ensures.stays c.args.hand.now.table c.turn.new.self.table
           c.turn.ensures.table link.piece.turned (record { range = c.args.range; mode = c.args.mode })) done.is.cause;
       long = done.is.long;
+      -- with a ready node there it makes five steps, or meets another
+      fast = ok_on c.try_range.result (λ f some. fast_from p t q (ap (λ (x : SeatPart _). x.trace.taken) is)
+          (f (subst (λ (l : List ℕ). l ≢ []) (sym (ap (λ (x : SeatPart _). x.core.ready) is)) some))) done.is.fast;
       -- the table has as many seats as the hand's part says
       seats = sym (ap (λ (x : SeatPart _). x.seats) is) ∙ done.is.seats;
       -- the turn makes no step, so the steps are those of the try

@@ -1,21 +1,25 @@
 use Rattle.std.proofs.Common.{sym, ap, ◌∙◌}
 use Rattle.epoch_pools.specs.declared.views.Standing.{Standing}
 use Rattle.epoch_pools.specs.declared.views.Standing.TheVariants.{Narrow}
-use Rattle.epoch_pools.specs.Passing.{after_look, standing_by}
-use Rattle.range_rw.proofs.Calls.{counted_look}
+use Rattle.epoch_pools.specs.Passing.{after_look_at}
+use Rattle.range_rw.specs.Looks.{standing_for}
+use Rattle.range_rw.proofs.Calls.{counted_look_at}
 use Rattle.range_rw.proofs.Dues.{standing_wide, standing_narrow}
 use Rattle.range_rw.proofs.several.look.Goals as goal
 
 -- a wide range has passed all below `up`
 pub returns-then-own-eq0 : goal.returns-then-own-eq0
 returns-then-own-eq0 g c = let done = c.pass_list.ensures in record {
-  look = counted_look done.table (done.part ∙ ap (λ (s : Standing). after_look c.args.hand.now.part (standing_by c.pass_list.result s
-      c.args.hand.now.part)) (sym (standing_wide c.args.own c.args.up c.if-own-eq0.true))) done.counted;
+  look = counted_look_at c.args.at c.pass_list.result (standing_for c.args.own c.args.up) done.table
+      (done.part ∙ ap (λ (s : Standing). after_look_at c.args.at c.pass_list.result s c.args.hand.now.part)
+      (sym (standing_wide c.args.own c.args.up c.if-own-eq0.true))) done.counted;
 }
 
 -- a narrow one, which the hand's list holds, counts
 pub returns-else-own-eq0 : goal.returns-else-own-eq0
 returns-else-own-eq0 g c = let done = c.count_narrow.ensures in record {
-  look = counted_look done.table (done.part ∙ ap (λ (s : Standing). after_look c.args.hand.now.part (standing_by c.count_narrow.result s
-      c.args.hand.now.part)) (ap Narrow c.requires.may.is.turned ∙ sym (standing_narrow c.args.own c.args.up c.if-own-eq0.false))) done.counted;
+  look = counted_look_at c.args.at c.count_narrow.result (standing_for c.args.own c.args.up) done.table
+      (done.part ∙ (ap (λ n. after_look_at n c.count_narrow.result (Narrow c.args.hand.now.part.pass.list)
+      c.args.hand.now.part) (sym (c.requires.may.is.first c.if-own-eq0.false)) ∙ ap (λ (s : Standing). after_look_at c.args.at c.count_narrow.result s
+      c.args.hand.now.part) (ap Narrow c.requires.may.is.turned ∙ sym (standing_narrow c.args.own c.args.up c.if-own-eq0.false)))) done.counted;
 }

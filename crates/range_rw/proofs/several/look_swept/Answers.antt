@@ -4,7 +4,7 @@ use Rattle.range_rw.specs.Looks.{standing_for}
 use Rattle.range_rw.specs.Calls.{IsCounted}
 use Rattle.range_rw.proofs.Asking.{asks_stay}
 use Rattle.range_rw.proofs.Calls.{counted_on, counted_turn}
-use Rattle.range_rw.proofs.Moves.{holds_in, holds_looked}
+use Rattle.range_rw.proofs.Moves.{holds_in, holds_seen}
 use Rattle.range_rw.proofs.Dues.{due_differ, due_own, due_on, may_look, Swept, swept_by, swept_alone, swept_quiet, Quiet}
 use Rattle.range_rw.proofs.Dues.{look_quiet, quiet_on, looks_from, look_clear, look_refused}
 use Rattle.range_rw.proofs.several.look_swept.Given.{Over}
@@ -75,7 +75,8 @@ link_in_both-requires-clause-due g c = let still = quiet g (goal.at.link_in_both
 -- and the range is held
 pub link_in_both-requires-clause-holds : goal.link_in_both-requires-clause-holds
 link_in_both-requires-clause-holds g c =
-    holds_in (holds_looked c.look.ensures.look.is (swept_alone (swept g (goal.at.link_in_both-requires-clause-holds g c).After-look)))
+    holds_in (holds_seen c.args.at c.look.result (standing_for c.args.own c.args.up) c.look.ensures.look.is
+    (swept_alone (swept g (goal.at.link_in_both-requires-clause-holds g c).After-look)))
 
 -- otherwise it comes to what the link in the other list comes to
 pub returns : goal.returns

@@ -1,4 +1,4 @@
-use Rattle.std.proofs.Common.{◌≡◌, ◌≤◌, ℕ, suc, ◌+◌, ◌-◌, ◌*◌, inl, inr, refl, sym, ap, ◌∙◌, subst, arith}
+use Rattle.std.proofs.Common.{◌≡◌, ◌≢◌, ◌≤◌, ℕ, suc, ◌+◌, ◌-◌, ◌*◌, inl, inr, refl, sym, ap, ◌∙◌, subst, arith}
 use Rattle.std.proofs.lemmas.Nat.{mul-le}
 use Rattle.std.proofs.Math.Nat.{mul-suc}
 use mathlib.Core.Logic.{dite}
@@ -12,6 +12,7 @@ use Rattle.epoch_pools.specs.Beside.{shown_core}
 use Rattle.range_rw.specs.Contract.{IsReadyLeft}
 use Rattle.range_rw.specs.Several.{IsWorkFor, TakesNone}
 use Rattle.range_rw.proofs.Calls.{counted_on, counted_turn}
+use Rattle.range_rw.proofs.Meeting.{IsApart, apart_after, apart_both, few_both, few_more, found_met, met_before, met_still, no_fewer, once_apart, once_few}
 use Rattle.range_rw.proofs.Moves.{cause_on, ready_next, none_first, holds_turned, turn_on}
 use Rattle.range_rw.proofs.Moves.{all_passed, passed_on, passed_beside, passed_back}
 use Rattle.range_rw.proofs.Dues.{standing_wide, due_next, lists_still, work_first, work_on, work_look, work_turned}
@@ -48,6 +49,15 @@ left g c none = ready_next c.all.at c.args.hand.now.part c.all.hand.part c.look_
     (ap (λ (v : View). v.ready) (c.all.invariant.ahead none c.all.at (omega arith))) c.look_in.ensures.looks.is.ready c.look_in.ensures.looks.is.only
     (c.all.invariant.ready none)
 
+-- a list is as it was, or was found not empty, behind the one that was tried
+apart : (g : Over) (c : After-look_in g) (j : ℕ) → j ≢ 0 → IsApart j c.args.hand.now.part c.look_in.new.hand.part
+apart g c j away = let later = c.look_in.ensures.looks.is.later in dite (ℕ_discrete j c.all.at)
+    (λ e. apart_both j c.args.hand.now.part c.all.hand.part c.look_in.new.hand.part (c.all.invariant.apart j away)
+    (subst (λ n. IsApart n c.all.hand.part c.look_in.new.hand.part) (sym e)
+    (once_apart c.all.at c.all.hand.part c.look_in.new.hand.part c.look_in.ensures.once)) c.all.invariant.work.later.taken later.occupied)
+    (λ other. apart_after j c.args.hand.now.part c.all.hand.part c.look_in.new.hand.part (c.all.invariant.apart j away)
+    later.occupied (c.look_in.ensures.looks.is.only j other))
+
 -- there is a list behind list 0
 -- nothing is passed yet
 pub all-init : goal.all-init
@@ -80,7 +90,10 @@ all-init g c =
         0,
         below_none c.args.list.now.cut c.args.range 1 c.next_taken-at.result 0 c.next_taken-at.ensures.from first (inr (none, refl)),
         (let le : k * c.args.looks ≤ k * (0 + c.args.looks) = mul-le _ _ _ _ (omega arith) (omega arith) in omega arith),
+        inl (omega arith),
       );
+      apart = λ j away. inl refl;
+      met = omega arith;
     }
 
 -- that list is due
@@ -118,13 +131,18 @@ all-preserved-in-Ok g c =
         below_none cut c.args.range (suc c.all.at) up (suc i.each.0) (let b = c.next_taken-up.ensures.from in omega arith)
             (λ list from. gap g h list (omega arith)) (below_one cut c.args.range c.all.at i.each.0 (here g h) i.each.1),
         (let s = i.work.later.seats in let a = i.each.2 in let b = one.bound in let more = one_more k i.each.0 c.args.looks in omega arith),
+        few_both i.each.0 1 c.args.hand.now.part c.all.hand.part c.look_in.new.hand.part i.each.3
+            (once_few c.all.at c.all.hand.part c.look_in.new.hand.part one.once) (omega arith) i.work.later.taken one.looks.is.later.occupied,
       );
+      apart = apart g h;
+      met = let m = i.met in let n = no_fewer c.all.hand.part.trace c.look_in.new.hand.part.trace one.looks.is.later.occupied in omega arith;
     }
 
 -- with one look more made, and the hand turned back to list 0
 pub all-preserved : goal.all-preserved
 all-preserved g c =
     let h = (goal.at.all-preserved g c).After-look_in in let i = c.all.invariant in let one = c.look_in.ensures in let turn = c.turn.ensures in
+    let on = turn_on c.look_in.new.hand.part turn.part in
     let k = 55 + 193 * c.args.hand.now.part.seats in record {
       counted = counted_on (counted_on i.counted one.looks.counted) (counted_turn turn.table turn.part);
       cut = i.cut;
@@ -147,7 +165,14 @@ all-preserved g c =
         (let s = i.work.later.seats in let a = i.each.2 in let b = one.bound in let e = ap (λ (x : SeatPart _). x.trace.taken) turn.part in
             let n : c.all.left ≡ suc (c.all.left - 1) = omega arith in
             let more : k * c.all.left ≡ k * (c.all.left - 1) + k = ap (λ m. k * m) n ∙ mul-suc k (c.all.left - 1) in omega arith),
+        -- another was met there
+        inr (met_still c.args.hand.now.part.trace.taken c.look_in.new.hand.part.trace c.turn.new.self.part.trace on.occupied
+            (met_before c.look_in.new.hand.part.trace i.work.later.taken
+            (found_met c.all.hand.part.trace.taken c.all.at c.look_in.new.hand.part.trace c.in-Err.ensures.more.1))),
       );
+      apart = λ j away. apart_after j c.args.hand.now.part c.look_in.new.hand.part c.turn.new.self.part (apart g h j away) on.occupied (turn.stays j);
+      met = let m = i.met in let n = c.in-Err.ensures.more.0 in
+          let t = no_fewer c.look_in.new.hand.part.trace c.turn.new.self.part.trace on.occupied in omega arith;
     }
 
 -- the hand turns back to list 0
@@ -177,6 +202,11 @@ returns-clause-looks g c =
         kept = tt;
         cause = tt;
         long = tt;
+        apart = i.apart;
+        few = λ k many. let le : i.each.0 ≤ k = fewer_below c.args.list.now.cut c.args.range c.all.at (list_count c.args.list.now.cut) i.each.0 k
+            (let a = i.most in let b = i.lists.many in omega arith) i.each.1 many in
+            few_more c.args.hand.now.part c.all.hand.part i.each.3 le;
+        more = tt;
       };
     }
 
@@ -209,6 +239,10 @@ returns-then-left-eq0 g c =
                 (record { range = c.args.range; mode = c.args.mode }) c.in-Err.why c.in-Err.ensures.looks.is.cause,
           );
           long = c.in-Err.ensures.looks.is.long;
+          apart = apart g h;
+          few = tt;
+          -- it was refused once more than looks were left
+          more = λ _. let m = i.met in let n = c.in-Err.ensures.more.0 in let l = c.if-left-eq0.true in omega arith;
         };
       };
       -- with the list that refused, the lists that were passed are no more than it takes

@@ -1,7 +1,8 @@
-use Rattle.std.proofs.Common.{ap, ◌∙◌}
+use Rattle.std.proofs.Common.{ap, ◌∙◌, arith}
 use Rattle.std.specs.Prelude.{◌%◌, None}
 use Rattle.lock_core.specs.declared.views.View.{View}
 use Rattle.range_rw.proofs.Asking.{for_here, for_kept}
+use Rattle.range_rw.proofs.Later.{calls_later}
 use Rattle.range_rw.proofs.Taking.{has_ends}
 use Rattle.range_rw.proofs.trying.fill_and_link.Goals as goal
 
@@ -19,3 +20,25 @@ returns-in-Done-clause-asks g c = for_kept (for_here c.fill.ensures.asked) c.qui
 -- also where another node is in the list
 pub returns-in-Lost-clause-asks : goal.returns-in-Lost-clause-asks
 returns-in-Lost-clause-asks g c = for_kept (for_here c.fill.ensures.asked) c.quick_link.ensures.asked
+
+-- both calls are of the try
+pub returns-in-Done-clause-later : goal.returns-in-Done-clause-later
+returns-in-Done-clause-later g c = record {
+  counted = record {
+    table = c.quick_link.ensures.table ∙ c.fill.ensures.table;
+    steps = let a = c.fill.ensures.counted in let b = c.quick_link.ensures.counted in let x = c.fill.ensures.call.taken in
+        let y = c.quick_link.ensures.call.taken in omega arith;
+  };
+  is = calls_later c.args.hand.now.part c.fill.new.hand.part c.quick_link.new.hand.part c.fill.ensures.call c.quick_link.ensures.call;
+}
+
+-- also where another node is in the list
+pub returns-in-Lost-clause-later : goal.returns-in-Lost-clause-later
+returns-in-Lost-clause-later g c = record {
+  counted = record {
+    table = c.quick_link.ensures.table ∙ c.fill.ensures.table;
+    steps = let a = c.fill.ensures.counted in let b = c.quick_link.ensures.counted in let x = c.fill.ensures.call.taken in
+        let y = c.quick_link.ensures.call.taken in omega arith;
+  };
+  is = calls_later c.args.hand.now.part c.fill.new.hand.part c.quick_link.new.hand.part c.fill.ensures.call c.quick_link.ensures.call;
+}

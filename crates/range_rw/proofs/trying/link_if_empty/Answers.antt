@@ -15,6 +15,8 @@ returns g c =
           missed = tt;
           seats = node.seats;
           few = let t = node.taken in omega arith;
+          -- by five steps, which meet another where the range isn't held
+          quick = λ some. (node.taken, node.met);
         };
       };
     }

@@ -27,6 +27,7 @@ returns-in-Ok g c =
           missed = tt;
           seats = swept.seats;
           few = let a = swept.bound in let b = filled.taken in omega arith;
+          quick = λ some. absurd (some c.requires.empty.is.empty);
         };
       };
     }

@@ -16,6 +16,7 @@ insert_in_epoch-requires g c = let first = c.link_ready_node-held.ensures in rec
 -- what it links is held
 pub returns-then-held-clause-tried : goal.returns-then-held-clause-tried
 returns-then-held-clause-tried g c = let first = c.link_ready_node-held.ensures in held_at_once first.left first.tried c.if-held.true first.seats
+    (λ some. first.taken)
 
 -- the node that it didn't link is inserted
 insertion : (g : Over) (c : After-refusal_of g) → Inserted (record { range = c.args.range; mode = c.args.mode }) c.args.hand.now
@@ -25,6 +26,7 @@ insertion g c = let first = c.link_ready_node-held.ensures in let epoch = c.inse
   linked = c.link_ready_node-held.result;
   node = first.tried;
   isnt = c.if-held.false;
+  met = λ some. first.met c.if-held.false;
   next = epoch.left;
   asks = epoch.asked;
   ends = c.in-Some.ensures.ends;

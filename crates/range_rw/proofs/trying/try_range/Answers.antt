@@ -1,6 +1,8 @@
-use Rattle.std.proofs.Common.{◌≡◌, Bool, true, false, inl, sym, ◌∙◌}
+use Rattle.std.proofs.Common.{◌≡◌, Bool, true, false, inl, inr, sym, ◌∙◌}
 use Rattle.range_rw.proofs.Asking.{asks_kept, asks_on}
 use Rattle.range_rw.proofs.Calls.{outside_on, counted_on}
+use Rattle.range_rw.proofs.Later.{later_on}
+use Rattle.range_rw.proofs.Meeting.{met_still, ok_any}
 use Rattle.range_rw.proofs.Taking.{tried_ends, some_again, ready_again, cause_again, Inserted, inserted, not_inserted, held_at_once}
 use Rattle.range_rw.proofs.trying.try_range.Given.{Over}
 use Rattle.range_rw.proofs.trying.try_range.Goals.{After-refusal_of}
@@ -19,6 +21,7 @@ returns-in-Err-clause-tried g c =
         ready = inl missed.empty;
         cause = missed.cause (record { range = c.args.range; mode = c.args.mode });
         long = missed.long;
+        fast = tt;
         seats = link.is.seats;
       };
     }
@@ -36,6 +39,7 @@ insert_in_epoch-requires g c = let link = c.link_if_empty.ensures.link in record
 pub returns-then-held-clause-tried : goal.returns-then-held-clause-tried
 returns-then-held-clause-tried g c = let link = c.link_if_empty.ensures.link in
     held_at_once (record { counted = link.counted; is = link.is.later }) c.in-Ok.ensures.link.is.tried c.if-held.true link.is.seats
+    (λ some. (c.in-Ok.ensures.link.is.quick some).0)
 
 -- the node that it didn't link is inserted
 insertion : (g : Over) (c : After-refusal_of g) → Inserted (record { range = c.args.range; mode = c.args.mode }) c.args.hand.now
@@ -45,6 +49,7 @@ insertion g c = let link = c.link_if_empty.ensures.link in let epoch = c.insert_
   linked = c.in-Ok.held;
   node = c.in-Ok.ensures.link.is.tried;
   isnt = c.if-held.false;
+  met = λ some. (c.in-Ok.ensures.link.is.quick some).1 c.if-held.false;
   next = epoch.left;
   asks = epoch.asked;
   ends = c.in-Some.ensures.ends;
@@ -92,6 +97,10 @@ returns-in_default-clause-tried g c =
             before.is.later (λ none. absurd (some_again tried c.if-held.false r left none)) (record { range = c.args.range; mode = c.args.mode })
             c.try_again.result again.is.cause;
         long = again.is.long;
+        fast = ok_any c.try_again.result (λ some. inr (met_still c.args.hand.now.part.trace.taken c.link_if_empty.new.hand.part.trace
+            c.try_again.new.hand.part.trace
+            (later_on c.link_if_empty.new.hand.part r c.try_again.new.hand.part epoch.left.is.later again.is.later.later).occupied
+            ((c.in-Ok.ensures.link.is.quick some).1 c.if-held.false)));
         seats = link.is.seats;
       };
     }

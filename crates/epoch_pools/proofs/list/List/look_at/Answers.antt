@@ -21,13 +21,13 @@ load-requires g c = let shape = c.self.view_is in let token = token_of (g.G.Guar
       head_there same token c.requires.there there,
       token_looks (g.G.Guard.first [] 0) c.args.self.now.cut _ _ g.G.Guard.holds g.G.Guard.rested g.G.Guard.gains
           (subst (λ (s : ListShape). 0 < s.cut.count) shape c.self.invariant.is_cut.0) (c.self.invariant.same_cut ∙ ap (λ s. s.cut) shape)
-          c.requires.cut (c.self.invariant.same_seats ∙ ap (λ s. s.seats) shape) c.args.list g.D.Look.standing g.D.Look.too _ _ _ c.token.inside.seat.me token
+          c.requires.cut (c.self.invariant.same_seats ∙ ap (λ s. s.seats) shape) c.requires.at g.D.Look.standing g.D.Look.too _ _ _ c.token.inside.seat.me token
           c.requires.may there,
     )
 
 -- what belongs to the seat has the standing of the look
 pub returns-clause-part : goal.returns-clause-part
-returns-clause-part g c = part_looked c.load.ensures.2 (token_of _ c.token.invariant c.token.view_is c.requires.lists)
+returns-clause-part g c = part_looked c.load.ensures.2 c.requires.at (token_of _ c.token.invariant c.token.view_is c.requires.lists)
 
 -- the table has as many lists as its cut
 pub returns-clause-lists : goal.returns-clause-lists

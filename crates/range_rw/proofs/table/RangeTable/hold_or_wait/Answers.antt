@@ -1,10 +1,11 @@
-use Rattle.std.proofs.Common.{◌∙◌, subst}
-use Rattle.range_rw.specs.Contract.{TableShape, SeatState, StandsIn, AsksFor}
+use Rattle.std.proofs.Common.{◌≡◌, sym, ◌∙◌, subst}
+use Rattle.list_cuts.specs.Cut.{list_count, TakesTwo}
+use Rattle.range_rw.specs.Contract.{TableShape, SeatState, StandsIn, AsksFor, IsRefusedAfter}
 use Rattle.range_rw.specs.Seats.{counted_in, seat_state_of}
 use Rattle.range_rw.proofs.Asking.{for_from}
 use Rattle.range_rw.proofs.Pieces.{is_there}
-use Rattle.range_rw.proofs.Choosing.{Called, called_by}
-use Rattle.range_rw.proofs.Seated.{free_seated, free_grant, alone_seated, alone_grant, rests_closed}
+use Rattle.range_rw.proofs.Choosing.{Called, called_by, refused_after}
+use Rattle.range_rw.proofs.Seated.{free_seated, free_grant, alone_seated, alone_grant, rests_closed, try_lists}
 use Rattle.range_rw.proofs.table.RangeTable.hold_or_wait.Given.{Over}
 use Rattle.range_rw.proofs.table.RangeTable.hold_or_wait.Goals.{After-list}
 use Rattle.range_rw.proofs.table.RangeTable.hold_or_wait.Goals as goal
@@ -16,6 +17,15 @@ called g c = subst (λ (z : TableShape × SeatState _). Called z.0.cut (record {
     (seat_state_of c.hold_or_try-held.new.hand)) (λ i. (c.self.view_is i, c.seat.view_is i))
     (called_by (c.hold_or_try-held.ensures.call.counted.table ∙ c.leave_and_count-lists.ensures.left.counted.table) c.leave_and_count-lists.ensures.left.is
     c.hold_or_try-held.ensures.call.is.work)
+
+-- there are as many lists as the cut says, before and after
+shown_lists : (g : Over) (c : After-list g) → c.seat.inside.hand.part.pass.lists ≡ list_count c.self.inside.list.cut
+shown_lists g c = let left = c.leave_and_count-lists.ensures.left.is in sym (try_lists c.seat.inside.hand.part c.leave_and_count-lists.new.hand.part
+    left.left.later).lists ∙ (sym left.lists.shown ∙ left.lists.many)
+
+same_lists : (g : Over) (c : After-list g) → c.hold_or_try-held.new.hand.part.pass.lists ≡ c.seat.inside.hand.part.pass.lists
+same_lists g c = c.hold_or_try-held.ensures.call.is.work.later.lists ∙ (try_lists c.seat.inside.hand.part c.leave_and_count-lists.new.hand.part
+    c.leave_and_count-lists.ensures.left.is.left.later).lists
 
 -- the hand has no node of its own, and none in its hand
 -- so the seat holds nothing in any list
@@ -38,6 +48,8 @@ returns-in-Ok g c =
       free = tt;
       -- each list in which it doesn't work is as it was, where no scan was open
       only = call.only;
+      closes = call.closes;
+      kept = tt;
     }
 
 -- it is between two calls
@@ -47,7 +59,7 @@ invariant_of-seat g c = alone_seated (is_there c.list.ensures.list c.list.ensure
 -- the call has to begin anew
 pub returns : goal.returns
 returns g c =
-    let call = called g (goal.at.returns g c).After-list in record {
+    let h = (goal.at.returns g c).After-list in let call = called g h in record {
       -- the call is one on the seat, which asks for the range alone
       call = call.call;
       asks = call.asks;
@@ -60,6 +72,13 @@ returns g c =
       free = free_grant (is_there c.list.ensures.list c.list.ensures.there) c.in-Err.ensures.call.is.free;
       -- each list in which it doesn't work is as it was, where no scan was open
       only = call.only;
+      closes = call.closes;
+      -- a wide range was refused in list 0, or after so many further looks
+      kept = λ two. subst (λ (z : TableShape × SeatState _). IsRefusedAfter z.0.cut c.args.looks z.1 (seat_state_of c.hold_or_try-held.new.hand))
+          (λ i. (c.self.view_is i, c.seat.view_is i))
+          (refused_after c.seat.inside.hand.table c.hold_or_try-held.new.hand.table c.seat.inside.hand.part c.leave_and_count-lists.new.hand.part
+          c.hold_or_try-held.new.hand.part c.leave_and_count-lists.ensures.left.is (shown_lists g h) (same_lists g h) c.args.looks
+          (c.in-Err.ensures.kept (subst (λ (t : TableShape). TakesTwo t.cut c.args.range) (sym c.self.view_is) two)));
     }
 
 -- it is between two calls

@@ -1,10 +1,11 @@
-use Rattle.std.proofs.Common.{◌↔◌, ◌+◌, ◌*◌, ◌<◌, ◌≤◌, ℕ, ap, ◌∙◌, subst, sym, arith}
+use Rattle.std.proofs.Common.{◌≡◌, ◌≢◌, [], ◌↔◌, ◌+◌, ◌*◌, ◌<◌, ◌≤◌, ℕ, ap, ◌∙◌, subst, sym, arith}
 use Rattle.list_cuts.specs.Cut.{list_count}
-use Rattle.range_rw.specs.Contract.{TableShape, SeatState, IsReadyLeft, IsSpentIn, IsLongRefusal, IsCause, TakesMany, StandsIn, TellsList, try_steps, pools_at}
+use Rattle.range_rw.specs.Contract.{TableShape, SeatState, IsReadyLeft, IsSpentIn, IsLongRefusal, IsCause, KeepsClear, MakesFew}
+use Rattle.range_rw.specs.Contract.{TakesMany, StandsIn, TellsList, try_steps, pools_at}
 use Rattle.range_rw.specs.Several.{TakesAlone}
 use Rattle.range_rw.specs.Seats.{counted_in, seat_state_of}
 use Rattle.range_rw.proofs.Moves.{ready_from}
-use Rattle.range_rw.proofs.Choosing.{Called, called_by, Left, seat_cause_in, seat_told_in, seat_long_in, left_by, ready_at}
+use Rattle.range_rw.proofs.Choosing.{Called, called_by, Left, seat_cause_in, seat_told_in, seat_long_in, left_by, ready_at, others_clear, seat_few}
 use Rattle.range_rw.proofs.Pieces.{is_there}
 use Rattle.range_rw.proofs.TakenLists.{wide_steps}
 use Rattle.range_rw.proofs.Seated.{free_seated, free_grant, alone_seated, alone_grant, rests_closed, none_here, try_lists}
@@ -54,6 +55,23 @@ wide : (g : Over) (c : After-list g)
 wide g c = wide_steps c.args.self.now.cut c.args.range c.args.self.now.seats c.try_hold-tried.new.hand.part.trace.taken c.args.seat.now.trace.taken
     (subst (λ (t : TableShape). 0 < t.cut.count) c.self.view_is c.leave_and_count-lists.ensures.left.is.lists.regions) (each g c)
 
+-- there are as many lists as the cut says, before and after
+shown_lists : (g : Over) (c : After-list g) → c.seat.inside.hand.part.pass.lists ≡ list_count c.self.inside.list.cut
+shown_lists g c = let left = c.leave_and_count-lists.ensures.left.is in sym (try_lists c.seat.inside.hand.part c.leave_and_count-lists.new.hand.part
+    left.left.later).lists ∙ (sym left.lists.shown ∙ left.lists.many)
+
+same_lists : (g : Over) (c : After-list g) → c.try_hold-tried.new.hand.part.pass.lists ≡ c.seat.inside.hand.part.pass.lists
+same_lists g c = let l = left g c in l.lists ∙ (try_lists c.seat.inside.hand.part c.leave_and_count-lists.new.hand.part l.later).lists
+
+-- each list but the one that holds the range is as it was, or was found not empty
+clear : (g : Over) (c : After-list g) (own : ℕ) → StandsIn c.args.self.now.cut c.args.range own
+    → KeepsClear c.args.self.now.cut own c.args.seat.now (seat_state_of c.try_hold-tried.new.hand)
+clear g c own stands = subst (λ (z : TableShape × SeatState _). KeepsClear z.0.cut own z.1 (seat_state_of c.try_hold-tried.new.hand))
+    (λ i. (c.self.view_is i, c.seat.view_is i))
+    (others_clear c.seat.inside.hand.table c.try_hold-tried.new.hand.table c.seat.inside.hand.part c.leave_and_count-lists.new.hand.part
+    c.try_hold-tried.new.hand.part c.leave_and_count-lists.ensures.left.is (shown_lists g c) (same_lists g c) own
+    (c.try_hold-tried.ensures.tried.is.apart own (subst (λ (t : TableShape). StandsIn t.cut c.args.range own) (sym c.self.view_is) stands)))
+
 -- the hand has no node of its own, and none in its hand
 -- so the seat holds nothing in any list
 -- the range is held
@@ -79,6 +97,16 @@ returns-in-Ok g c =
       further = ready g h;
       -- each list in which it doesn't work is as it was, where no scan was open
       only = call.only;
+      -- and where one was, but for its epoch; each other list is as it was, or was found not empty
+      closes = call.closes;
+      clear = clear g h;
+      -- few steps were made, or another was met
+      fast = λ k many some. subst (λ (s : SeatState _). MakesFew (6 + k) s (seat_state_of c.try_hold-tried.new.hand)) c.seat.view_is
+          (seat_few c.seat.inside.hand.table c.try_hold-tried.new.hand.table c.seat.inside.hand.part c.leave_and_count-lists.new.hand.part
+          c.try_hold-tried.new.hand.part c.leave_and_count-lists.ensures.left.is (shown_lists g h) (same_lists g h) (5 + k) (omega arith)
+          (is_there c.list.ensures.list c.list.ensures.there) c.in-Ok.ensures.tried.is.call.held
+          (c.in-Ok.ensures.tried.is.fast k (subst (λ (t : TableShape). TakesMany t.cut c.args.range k) (sym c.self.view_is) many))
+          (subst (λ (s : SeatState _). (pools_at s (counted_in c.try_hold-tried.new.hand.part.pass.standing)).ready ≢ []) (sym c.seat.view_is) some));
       -- the steps of a range that takes one list, of any by the number of all lists, and by how many it takes
       bound = bound g h;
       wide = wide g h;
@@ -124,6 +152,10 @@ returns-in-Err g c =
       further = ready g h;
       -- each list in which it doesn't work is as it was, where no scan was open
       only = call.only;
+      -- and where one was, but for its epoch; each other list is as it was, or was found not empty
+      closes = call.closes;
+      clear = clear g h;
+      fast = tt;
       -- the steps of a range that takes one list, of any by the number of all lists, and by how many it takes
       bound = bound g h;
       wide = wide g h;
