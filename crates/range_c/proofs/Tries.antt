@@ -26,7 +26,8 @@ refused_for (Err why) seats cut ask one none told cause long = record { one = on
 
 -- and of one that holds what was asked for
 pub granted_for : {T : Type 0} (r : Result T NotHeld) (seats : ℕ) (cut : Regions) (ask : Held) {entry after : RecordingSeat}
-    → IsOneTry seats cut ask entry after → OnOk r (after.held ≡ Some ask) → OnOk r (StandsIn cut ask.range after.list) → IfOk r (λ _. IsGranted seats cut ask entry after)
+    → IsOneTry seats cut ask entry after → OnOk r (after.held ≡ Some ask) → OnOk r (StandsIn cut ask.range after.list)
+    → IfOk r (λ _. IsGranted seats cut ask entry after)
 granted_for (Ok x) seats cut ask one held stands = record { one = one; held = held; stands = stands }
 granted_for (Err why) seats cut ask one held stands = tt
 

@@ -5,7 +5,8 @@ ghost use Rattle.word_rows.specs.declared.backoff.TheConstants.{LONGEST_WAIT};
 ghost use Rattle.range_c.specs.declared.recording.WordStep.TheVariants.{Load, Store, Add, Exchange};
 ghost use Rattle.range_c.specs.Behind.{IsTried, IsReleased};
 ghost use Rattle.range_c.specs.Codes.{Says, shown_of};
-ghost use Rattle.range_c.specs.Calls.{OnHandle, OnLook, OnTries, OnWord, IsFresh, IsFreshCut, IsOpenRefusal, IsCutRefusal, HandleShared, IsShareRefusal, IsEnd, wait_of};
+ghost use Rattle.range_c.specs.Calls.{OnHandle, OnLook, OnTries, OnWord, IsFresh, IsFreshCut, IsOpenRefusal, IsCutRefusal};
+ghost use Rattle.range_c.specs.Calls.{HandleShared, IsShareRefusal, IsEnd, wait_of};
 
 use crate::answers::{Answer, GzBusy};
 use crate::calls::{WordCall, look_by, release_by, share_by, step_by, try_by};
