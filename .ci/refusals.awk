@@ -4,7 +4,7 @@
 # The function at this line of a source. An edit changes lines, and moves none.
 function function_at(source, last, line, name, at) {
     for (at = 1; at <= last && (getline line <source) > 0; at++) {
-        if (line ~ /^ *(pub(\([a-z]*\))? )?(const )?fn [a-z_0-9]+/) {
+        if (line ~ /^ *(pub(\([a-z]*\))? )?(const )?(extern "C" )?fn [a-z_0-9]+/) {
             name = line
             sub(/^.*fn /, "", name)
             sub(/[^a-z_0-9].*/, "", name)

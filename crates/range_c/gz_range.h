@@ -29,7 +29,8 @@
 
    What you may rely on:
    - What each call of the archive answers, and what it leaves in its handles, is proved, as long as you keep what the
-     list below says that you owe. Of gz_range_end only its answer is proved, and that the handle is closed; that the
+     list below says that you owe. So is it that a call for a range asks for no other one, and so holds none on the
+     way. Of gz_range_end only its answer is proved, and that the handle is closed; that the
      range is given back and the last one frees the table is tested. The calls that are written in this header, such as
      acquire and close, are C over those of the archive, and are tested. So acquire's loop, which tries again and waits
      between two tries, is C. Of a pause of the archive it is proved how many turns the next one takes; that a pause
@@ -75,9 +76,10 @@
    second rises when calls, names or causes of a refusal are added; the first, which the shared object's name has too,
    when a program for the version before may no longer compile, or may mean something else.
    1.1 has gz_range_open_cut, BAD_CUT, gz_range_held, gz_range_pause and the names of the modes; gz_range_end refuses an
-   open `next`; what gz_range_try waits between two tries grows; the seat of a closed handle is shared again. */
-#define GZ_RANGE_VERSION 101
-#define GZ_RANGE_VERSION_TEXT "1.1"
+   open `next`; what gz_range_try waits between two tries grows; the seat of a closed handle is shared again.
+   1.2 has gz_range_try_counted. */
+#define GZ_RANGE_VERSION 102
+#define GZ_RANGE_VERSION_TEXT "1.2"
 
 #ifdef __GNUC__
 #define GZ_RANGE_NONNULL __attribute__((nonnull))
@@ -238,6 +240,12 @@ gz_range_answer gz_range_share(gz_range *from, gz_range *handle);
 GZ_RANGE_MUST_CHECK
 gz_range_answer gz_range_try(gz_range *handle, uint64_t lo, uint64_t hi, bool writer, uint32_t tries, gz_busy *busy);
 
+/* The same, and *made is how many tries it made: from 1 to `tries` after DONE, the last of which was granted; `tries`
+   after BUSY, AGAIN, LONG or NO_NODE; and 0 after each other answer. */
+GZ_RANGE_MUST_CHECK
+gz_range_answer gz_range_try_counted(gz_range *handle, uint64_t lo, uint64_t hi, bool writer, uint32_t tries,
+                                     gz_busy *busy, uint32_t *made);
+
 /* Waits as gz_range_acquire does between two tries, for a program with a loop of its own: *turns turns of the
    processor's pause, but at least 1,024 and at most 8,192. *turns is 0 at first, and becomes twice what was waited, at
    most 8,192. How long a turn takes depends on the processor; at 4 to 12 ns, as were seen, 8,192 take some 30 to 100
@@ -327,6 +335,14 @@ static inline gz_range_answer gz_range_try_told(gz_range *handle, uint64_t lo, u
     return answer;
 }
 
+GZ_RANGE_MUST_CHECK
+static inline gz_range_answer gz_range_try_counted_told(gz_range *handle, uint64_t lo, uint64_t hi, bool writer,
+                                                        uint32_t tries, gz_busy *busy, uint32_t *made) {
+    gz_range_answer answer = gz_range_try_counted(handle, lo, hi, writer, tries, busy, made);
+    if (answer == GZ_RANGE_DONE) gz_range_tell_after(0, lo, hi);
+    return answer;
+}
+
 GZ_RANGE_NONNULL
 static inline gz_range_answer gz_range_release_told(gz_range *handle) {
     gz_range_tell_release(handle);
@@ -369,6 +385,7 @@ static inline gz_range_answer gz_range_exchange_told(gz_range *handle, uint32_t 
 }
 
 #define gz_range_try gz_range_try_told
+#define gz_range_try_counted gz_range_try_counted_told
 #define gz_range_release gz_range_release_told
 #define gz_range_end gz_range_end_told
 #define gz_range_load gz_range_load_told

@@ -50,12 +50,21 @@ static void looks(const char *whose, gz_range *handle) {
     shows(&held);
 }
 
+/* A call for a range, and how many tries it made. */
+static void tries(const char *call, gz_range *handle, uint64_t lo, uint64_t hi, uint32_t most) {
+    gz_busy busy;
+    uint32_t made = 99;
+    says(call, gz_range_try_counted(handle, lo, hi, GZ_RANGE_WRITER, most, &busy, &made));
+    printf("    tries made: %u\n", made);
+}
+
 static void closed_handles(void) {
     gz_range handle = GZ_RANGE_CLOSED, other = GZ_RANGE_CLOSED;
     gz_busy busy;
     uint64_t value = 5;
     says("share of a closed handle", gz_range_share(&handle, &other));
     says("try by a closed handle", gz_range_try(&handle, 0, 1, GZ_RANGE_WRITER, 1, &busy));
+    tries("counted try by a closed handle", &handle, 0, 1, 3);
     says("acquire by a closed handle", gz_range_acquire(&handle, 0, 1, GZ_RANGE_WRITER));
     says("release by a closed handle", gz_range_release(&handle));
     looks("what a closed handle holds", &handle);
@@ -128,7 +137,13 @@ static void ranges(gz_range *a, gz_range *b) {
     says("release", gz_range_release(b));
     says("another's try of 3 to 4 as a writer", gz_range_try(b, 3, 4, GZ_RANGE_WRITER, 1, &busy));
     shows(&busy);
+    tries("another's three tries of 3 to 4", b, 3, 4, 3);
+    tries("another's no try of 3 to 4", b, 3, 4, 0);
+    tries("another's tries of no number", b, 4, 4, 3);
     says("release", gz_range_release(a));
+    tries("another's three tries of 3 to 4", b, 3, 4, 3);
+    tries("another's tries while it holds that", b, 3, 4, 3);
+    says("release", gz_range_release(b));
     says("acquire of 3 to 4 as a writer", gz_range_acquire(b, 3, 4, GZ_RANGE_WRITER));
 }
 

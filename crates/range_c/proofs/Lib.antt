@@ -1,6 +1,5 @@
 pub mod AsBox
 pub mod Crossing
-pub mod Lifting
 pub mod Places
 pub mod Refusals
 pub mod Rows

@@ -1,6 +1,6 @@
 -- The places for seats that were given back: what is so of each is so of the one that was found; a seat that was taken
 -- from one is free; and a free seat fits each of them.
-use Rattle.std.proofs.Common.{arith, ◌≡◌, ℕ, ◌+◌, ◌<◌, ◌≤◌, ◌∙◌, List, [], ◌∷◌, ◌++◌, length, slice_index_or, sym, ap, subst}
+use Rattle.std.proofs.Common.{arith, ◌≡◌, ℕ, ◌+◌, ◌<◌, ◌≤◌, ◌∙◌, None, List, [], ◌∷◌, ◌++◌, length, slice_index_or, sym, ap, subst}
 use Rattle.std.specs.List.{All}
 use Rattle.atomic_table.specs.Seated.{TableId}
 use mathlib.Core.Option.{some-ne-none}
@@ -30,6 +30,7 @@ fits_all {seat} places at free own all k d below =
         table = free.table ∙ (at ∙ sym of.table);
         number = subst (λ n. seat.number < n) (sym of.number) free.number;
         held = free.held;
+        scan = free.scan;
         opened = free.opened ∙ sym of.opened;
       },
       own,
@@ -45,6 +46,7 @@ from_place {t} {seats} number mine seat places at all from =
       table = free.table ∙ (of.table ∙ sym at);
       number = subst (λ n. seat.number < n) of.number free.number;
       held = free.held;
+      scan = free.scan;
       opened = free.opened ∙ of.opened;
     }
 
@@ -55,6 +57,7 @@ new_free lists {seats} k mine at below is = record {
   table = ap (λ (s : RecordingSeat). s.table) is ∙ sym at;
   number = subst (λ (s : RecordingSeat). s.number < seats) (sym is) below;
   held = ap (λ (s : RecordingSeat). s.held) is;
+  scan = ap (λ (s : RecordingSeat). s.scan) is;
   opened = ap (λ (s : RecordingSeat). s.pass.opened) is;
 }
 
@@ -62,7 +65,7 @@ new_free lists {seats} k mine at below is = record {
 abbrev pub IsOver : Lock → RecordingSeat → ℕ → ℕ → Row → Type 0
 IsOver l seat number words spare = (seat.table ≡ l.table.table) × AreNewSeatsIn (list_count l.table.cut) l.table.table (begun seat.pass.opened) spare
     × (l.table.client ≡ words) × (seat.number ≡ number) × (length spare ≤ number) × (number < l.table.seats)
-    × All (IsPlaceOf l.table.table l.table.seats seat.pass.opened) l.shelf.places.items
+    × All (IsPlaceOf l.table.table l.table.seats seat.pass.opened) l.shelf.places.items × (seat.scan ≡ None)
 
 -- with the last of the seats that are left taken out it is so still
 pub over_popped : (l : Lock) (seat : RecordingSeat) (number words : ℕ) {old : Row} (new : Row) (s : RecordingSeat) → old ≡ new ++ s ∷ []
@@ -75,6 +78,7 @@ over_popped l seat number words new s e i = (
   fewer (longer new s e) i.4,
   i.5,
   i.6,
+  i.7,
 )
 
 -- the last of the seats that are left to share fits each place

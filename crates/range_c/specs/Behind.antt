@@ -1,7 +1,8 @@
 -- What contracts see of what is behind a handle: its seat, how many seats are left to share, how many client words and
 -- seats the table has, and how the numbers are cut for its lists; and what each call answers and leaves of it. The
 -- causes of a refused try are those of `range_rw`; the answers are this project's own.
-use Rattle.std.specs.Prelude.{◌≡◌, ◌≢◌, ◌⊎◌, ℕ, zero, suc, ◌+◌, ◌*◌, ◌%◌, ◌<◌, ◌≤◌, ◌^◌, ◌↔◌, Bool, true, false, List, length, slice_index_or, Option, Some, None}
+use Rattle.std.specs.Prelude.{◌≡◌, ◌≢◌, ◌⊎◌, ℕ, zero, suc, ◌+◌, ◌*◌, ◌%◌, ◌<◌, ◌≤◌, ◌^◌, ◌↔◌, Bool, true, false}
+use Rattle.std.specs.Prelude.{List, length, slice_index_or, Option, Some, None}
 use Rattle.atomic_table.specs.Seated.{TableId}
 use Rattle.list_cuts.specs.Cut.{Regions, IsCut, list_count}
 use Rattle.lock_core.specs.Client.{IsMade}
@@ -10,7 +11,8 @@ use Rattle.lock_core.specs.declared.range.Held.{Held}
 use Rattle.lock_core.specs.declared.range.Mode.{Mode}
 use Rattle.lock_core.specs.declared.range.Mode.TheVariants.{Reader, Writer}
 use Rattle.range_rw.specs.declared.refusals.NotHeld.{NotHeld}
-use Rattle.range_rw.specs.Contract.{SeatState, IsSeatCount, IsLockCall, IsClientCall, IsRelease, IsCause, IsLongRefusal, IsSpentIn, new_seat_in}
+use Rattle.range_rw.specs.Contract.{SeatState, AsksOnly, IsSeatCount, IsLockCall, IsClientCall, IsRelease, IsCause, IsLongRefusal, IsReadyLeft, IsSpentIn}
+use Rattle.range_rw.specs.Contract.{KeepsOthers, StandsIn, TakesMany, TellsList, new_seat_in, pools_at, try_steps}
 use Rattle.range_rw.specs.Several.{TakesAlone}
 use Rattle.range_c.specs.declared.answers.Answer.{Answer}
 use Rattle.range_c.specs.declared.answers.Answer.TheVariants.{Done, Refused, NotTried, BadRange, HasOne, HasNone, Memory, Seats, Words, NoneLeft, NoWord, Other}
@@ -77,12 +79,13 @@ IsNotOpened seats count _ = ⊥
 abbrev pub IsNotCut : ℕ → ℕ → ℕ → ℕ → Answer → Type 0
 IsNotCut regions bits seats count why = ((why ≡ BadCut) × ¬ (IsCut regions bits)) ⊎ (IsCut regions bits × IsNotOpened seats count why)
 
--- a seat is free: it is of the same table as another one, has one of so many numbers, holds nothing, and knows of the
--- same words at the opening
+-- a seat is free: it is of the same table as another one, has one of so many numbers, holds nothing, has no open scan,
+-- and knows of the same words at the opening
 pub record IsFreeIn (seats : ℕ) (mine seat : RecordingSeat) : Type 0 where
   pub table : seat.table ≡ mine.table
   pub number : seat.number < seats
   pub held : seat.held ≡ None
+  pub scan : seat.scan ≡ None
   pub opened : seat.pass.opened ≡ mine.pass.opened
 
 -- a seat with its number fits a place for a seat that was given back: it is free, and of the table of the seat of the
@@ -146,25 +149,34 @@ pub record IsTrial (before after : Behind) : Type 0 where
 abbrev pub most_steps : ℕ → ℕ → ℕ
 most_steps seats lists = (64 + 386 * seats) * lists
 
--- one try of a seat that holds nothing, in a table of so many seats over a cut, from one state of the seat to another:
--- where the range takes one list alone, its steps are those in a table of one list
-pub record IsOneTry (seats : ℕ) (cut : Regions) (range : Interval) (entry after : RecordingSeat) : Type 0 where
+-- one try of a seat that holds nothing, in a table of so many seats over a cut, from one state of the seat to another.
+-- It asks for that range alone, so it holds no other on the way. What the seat has in each list in which the try doesn't
+-- work stays, and its ready nodes in each list, but perhaps for the first; it has no open scan afterwards. Its steps are
+-- bounded by the lists that the range takes, and where that is one alone, they are those in a table of one list
+pub record IsOneTry (seats : ℕ) (cut : Regions) (asked : Held) (entry after : RecordingSeat) : Type 0 where
   pub call : IsLockCall entry after
   pub free : entry.held ≡ None
+  pub asks : AsksOnly asked entry.trace.asked after.trace.asked
+  pub only : KeepsOthers cut asked.range entry after
+  pub ready : (j : ℕ) → IsReadyLeft (pools_at entry j).ready (pools_at after j).ready
+  pub outside : after.scan ≡ None
   pub bound : after.trace.taken ≤ entry.trace.taken + most_steps seats (list_count cut)
-  pub alone : TakesAlone cut range → after.trace.taken ≤ entry.trace.taken + most_steps seats 1
+  pub alone : TakesAlone cut asked.range → after.trace.taken ≤ entry.trace.taken + most_steps seats 1
+  pub each : (k : ℕ) → TakesMany cut asked.range k → after.trace.taken ≤ entry.trace.taken + try_steps seats k
 
--- one try that holds what was asked for
+-- one try that holds what was asked for, in the list that the range takes alone, or else in the one for wide ranges
 pub record IsGranted (seats : ℕ) (cut : Regions) (asked : Held) (entry after : RecordingSeat) : Type 0 where
-  pub one : IsOneTry seats cut asked.range entry after
+  pub one : IsOneTry seats cut asked entry after
   pub held : after.held ≡ Some asked
+  pub stands : StandsIn cut asked.range after.list
 
--- one try that was refused for that cause, as `range_rw` says; that it was too long exactly where a walk of it looked
--- at as many nodes as one may
+-- one try that was refused for that cause, as `range_rw` says, which tells a list in which the try works, if any; that
+-- it was too long exactly where a walk of it looked at as many nodes as one may
 pub record IsRefused (seats : ℕ) (cut : Regions) (asked : Held) (entry after : RecordingSeat) (why : NotHeld) : Type 0 where
-  pub one : IsOneTry seats cut asked.range entry after
+  pub one : IsOneTry seats cut asked entry after
   pub free : after.held ≡ None
   pub cause : IsCause entry after asked why
+  pub told : TellsList cut asked.range why
   pub long : IsLongRefusal why ↔ IsSpentIn seats entry after
 
 -- so many tries, one behind the other, each of which was refused
@@ -173,35 +185,44 @@ AreRefused seats cut asked zero before after = after ≡ before
 AreRefused seats cut asked (suc n) before after = (entry : RecordingSeat) × (why : NotHeld)
     × AreRefused seats cut asked n before entry × IsRefused seats cut asked entry after why
 
--- what at most so many tries came to: some were refused, and then one was granted; or as many as were asked for were
--- refused, the last one for that cause
-abbrev pub IsTrialAnswer : Held → ℕ → Behind → Behind → Answer → Type 0
-IsTrialAnswer asked tries before after Done = (n : ℕ) × (n < tries) × (entry : RecordingSeat)
+-- what the tries that were made, at most as many as were asked for, came to: all but the last were refused, and the last
+-- one was granted; or as many as were asked for were refused, the last one for that cause
+abbrev pub IsTrialAnswer : Held → ℕ → ℕ → Behind → Behind → Answer → Type 0
+IsTrialAnswer asked tries made before after Done = (n : ℕ) × (n + 1 ≡ made) × (made ≤ tries) × (entry : RecordingSeat)
     × AreRefused before.seats before.cut asked n before.seat entry × IsGranted before.seats before.cut asked entry after.seat
-IsTrialAnswer asked tries before after (Refused why) = (n : ℕ) × (n + 1 ≡ tries) × (entry : RecordingSeat)
+IsTrialAnswer asked tries made before after (Refused why) = (n : ℕ) × (n + 1 ≡ made) × (made ≡ tries) × (entry : RecordingSeat)
     × AreRefused before.seats before.cut asked n before.seat entry × IsRefused before.seats before.cut asked entry after.seat why
-IsTrialAnswer asked tries before after NotTried = (tries ≡ 0) × (after ≡ before)
-IsTrialAnswer asked tries before after _ = ⊥
+IsTrialAnswer asked tries made before after NotTried = (made ≡ 0) × (tries ≡ 0) × (after ≡ before)
+IsTrialAnswer asked tries made before after _ = ⊥
 
 -- the grant that a call asks for
 abbrev pub asked : ℕ → ℕ → Bool → Held
 asked lo hi writer = record { range = record { lo = lo; hi = hi }; mode = mode_for writer }
 
--- a call that came to tries: the ends bound a range and the seat held nothing, and these are the tries' answer; each
--- try has its most steps, and the call has them so many times, or those in one list where the range takes one alone
-pub record IsTriedFor (lo hi : ℕ) (writer : Bool) (tries : ℕ) (answer : Answer) (before after : Behind) : Type 0 where
+-- a call that came to tries: the ends bound a range and the seat held nothing, so many tries were made, and this is
+-- their answer. All together asked for that range alone; they made as many times the steps of one, by the lists that the
+-- range takes, or those in one list where it takes one alone
+pub record IsTriedFor (lo hi : ℕ) (writer : Bool) (tries made : ℕ) (answer : Answer) (before after : Behind) : Type 0 where
   pub range : IsRange lo hi
   pub free : before.seat.held ≡ None
   pub kept : IsTrial before after
-  pub answered : IsTrialAnswer (asked lo hi writer) tries before after answer
-  pub bound : after.seat.trace.taken ≤ before.seat.trace.taken + tries * most_steps before.seats (list_count before.cut)
-  pub alone : TakesAlone before.cut (record { lo = lo; hi = hi }) → after.seat.trace.taken ≤ before.seat.trace.taken + tries * most_steps before.seats 1
+  pub answered : IsTrialAnswer (asked lo hi writer) tries made before after answer
+  pub few : made ≤ tries
+  pub asks : AsksOnly (asked lo hi writer) before.seat.trace.asked after.seat.trace.asked
+  pub bound : after.seat.trace.taken ≤ before.seat.trace.taken + made * most_steps before.seats (list_count before.cut)
+  pub alone : TakesAlone before.cut (record { lo = lo; hi = hi }) → after.seat.trace.taken ≤ before.seat.trace.taken + made * most_steps before.seats 1
+  pub each : (k : ℕ) → TakesMany before.cut (record { lo = lo; hi = hi }) k
+      → after.seat.trace.taken ≤ before.seat.trace.taken + made * try_steps before.seats k
 
--- what a call for a range answers and leaves
+-- what a call for a range that made so many tries answers and leaves
+abbrev pub IsTriedIn : ℕ → ℕ → Bool → ℕ → ℕ → Answer → Behind → Behind → Type 0
+IsTriedIn lo hi writer tries made HasOne before after = (made ≡ 0) × (before.seat.held ≢ None) × (after ≡ before)
+IsTriedIn lo hi writer tries made BadRange before after = (made ≡ 0) × (before.seat.held ≡ None) × ¬ (IsRange lo hi) × (after ≡ before)
+IsTriedIn lo hi writer tries made answer before after = IsTriedFor lo hi writer tries made answer before after
+
+-- the same, however many it made
 abbrev pub IsTried : ℕ → ℕ → Bool → ℕ → Answer → Behind → Behind → Type 0
-IsTried lo hi writer tries HasOne before after = (before.seat.held ≢ None) × (after ≡ before)
-IsTried lo hi writer tries BadRange before after = (before.seat.held ≡ None) × ¬ (IsRange lo hi) × (after ≡ before)
-IsTried lo hi writer tries answer before after = IsTriedFor lo hi writer tries answer before after
+IsTried lo hi writer tries answer before after = (made : ℕ) × IsTriedIn lo hi writer tries made answer before after
 
 -- what a release answers and leaves
 abbrev pub IsReleased : Answer → Behind → Behind → Type 0

@@ -1,13 +1,13 @@
 -- What a call answers and leaves of a handle, open or closed. Each relation lifts one of `Behind` to handles; that a
 -- closed handle is told and stays closed is said here once.
-use Rattle.std.specs.Prelude.{◌≡◌, ℕ, List, Option, Some, None, min, max}
+use Rattle.std.specs.Prelude.{◌≡◌, ℕ, Bool, List, Option, Some, None, min, max}
 use Rattle.list_cuts.specs.Cut.{IsCut}
 use Rattle.word_rows.specs.declared.backoff.TheConstants.{SHORTEST_WAIT, LONGEST_WAIT}
 use Rattle.range_c.specs.declared.answers.Answer.{Answer}
 use Rattle.range_c.specs.declared.answers.Answer.TheVariants.{Done, Closed, Open}
 use Rattle.range_c.specs.declared.answers.GzBusy.{GzBusy}
 use Rattle.range_c.specs.declared.recording.WordStep.{WordStep}
-use Rattle.range_c.specs.Behind.{Behind, IsNewBehind, IsNewBehindIn, IsNotOpened, IsNotCut, cut_into, IsShared, IsUnshared, IsLooked, IsStepped}
+use Rattle.range_c.specs.Behind.{Behind, IsNewBehind, IsNewBehindIn, IsNotOpened, IsNotCut, cut_into, IsShared, IsUnshared, IsTriedIn, IsLooked, IsStepped}
 use Rattle.range_c.specs.Codes.{nothing_shown}
 
 -- the handle is open before and after, and this is so of what is behind it
@@ -20,6 +20,12 @@ abbrev pub OnHandle : (Answer → Behind → Behind → Type 0) → Answer → O
 OnHandle R answer None None = answer ≡ Closed
 OnHandle R answer (Some before) (Some after) = R answer before after
 OnHandle R answer _ _ = ⊥
+
+-- a call for a range by a handle, and how many tries it made: where the handle is closed, none
+abbrev pub OnTries : ℕ → ℕ → Bool → ℕ → ℕ → Answer → Option Behind → Option Behind → Type 0
+OnTries lo hi writer tries made answer None None = (answer ≡ Closed) × (made ≡ 0)
+OnTries lo hi writer tries made answer (Some before) (Some after) = IsTriedIn lo hi writer tries made answer before after
+OnTries lo hi writer tries made answer _ _ = ⊥
 
 -- a look at what a handle holds: where it is closed, what is shown is nothing
 abbrev pub OnLook : GzBusy → Answer → Option Behind → Option Behind → Type 0

@@ -2,7 +2,7 @@
 //! on a closed handle being told and left as it is.
 ghost use Rattle.std.specs.Prelude.{◌≡◌, Some, IfOk, IfErr};
 ghost use Rattle.range_c.specs.Behind.{IsOpen, IsTried, IsReleased, IsShared, IsNotShared};
-ghost use Rattle.range_c.specs.Calls.{Between, OnHandle, OnLook, OnWord};
+ghost use Rattle.range_c.specs.Calls.{Between, OnHandle, OnLook, OnTries, OnWord};
 
 use crate::answers::{Answer, GzBusy, NOTHING};
 use crate::handle::GzRange;
@@ -11,21 +11,23 @@ use crate::state::{Asked, State};
 use core::mem::replace_with;
 use std::alloc::Global;
 
-fn try_behind(handle: GzRange, asked: Asked) -> (GzRange, Answer)
+fn try_behind(handle: GzRange, asked: Asked) -> (GzRange, (Answer, u32))
     requires open { IsOpen handle.pointer.behind }
-    ensures tried { OnHandle (IsTried asked.lo asked.hi asked.writer asked.tries) result.1 handle.pointer.behind result.0.pointer.behind }
+    ensures tried { OnHandle (IsTried asked.lo asked.hi asked.writer asked.tries) result.1.0 handle.pointer.behind result.0.pointer.behind }
+    ensures made { OnTries asked.lo asked.hi asked.writer asked.tries result.1.1 result.1.0 handle.pointer.behind result.0.pointer.behind }
 {
     let mut b = handle.into_box();
-    let answer = b.try_asked(asked);
-    (GzRange::over(b), answer)
+    let tried = b.try_asked(asked);
+    (GzRange::over(b), tried)
 }
 
-/// Tries for the range that C asks for.
-pub(crate) fn try_by(handle: &mut GzRange, asked: Asked) -> Answer
-    ensures tried { OnHandle (IsTried asked.lo asked.hi asked.writer asked.tries) result handle.old.pointer.behind handle.new.pointer.behind }
+/// Tries for the range that C asks for, and tells how many tries were made.
+pub(crate) fn try_by(handle: &mut GzRange, asked: Asked) -> (Answer, u32)
+    ensures tried { OnHandle (IsTried asked.lo asked.hi asked.writer asked.tries) result.0 handle.old.pointer.behind handle.new.pointer.behind }
+    ensures made { OnTries asked.lo asked.hi asked.writer asked.tries result.1 result.0 handle.old.pointer.behind handle.new.pointer.behind }
 {
     if !handle.is_open() {
-        return Answer::Closed;
+        return (Answer::Closed, 0);
     }
     replace_with(handle, asked, try_behind)
 }

@@ -5,7 +5,8 @@ ghost use Rattle.word_rows.specs.declared.backoff.TheConstants.{LONGEST_WAIT};
 ghost use Rattle.range_c.specs.declared.recording.WordStep.TheVariants.{Load, Store, Add, Exchange};
 ghost use Rattle.range_c.specs.Behind.{IsTried, IsReleased};
 ghost use Rattle.range_c.specs.Codes.{Says, shown_of};
-ghost use Rattle.range_c.specs.Calls.{OnHandle, OnLook, OnWord, IsFresh, IsFreshCut, IsOpenRefusal, IsCutRefusal, HandleShared, IsShareRefusal, IsEnd, wait_of};
+ghost use Rattle.range_c.specs.Calls.{OnHandle, OnLook, OnTries, OnWord, IsFresh, IsFreshCut, IsOpenRefusal, IsCutRefusal};
+ghost use Rattle.range_c.specs.Calls.{HandleShared, IsShareRefusal, IsEnd, wait_of};
 
 use crate::answers::{Answer, GzBusy};
 use crate::calls::{WordCall, look_by, release_by, share_by, step_by, try_by};
@@ -118,8 +119,34 @@ pub extern "C" fn gz_range_try(
         writer,
         tries,
     };
-    let answer = try_by(handle, asked);
+    let (answer, _) = try_by(handle, asked);
     *busy = answer.shown();
+    answer.code()
+}
+
+/// The same, and tells in `made` how many tries it made, with 0 after an answer that comes before the first one.
+#[unsafe(no_mangle)]
+pub extern "C" fn gz_range_try_counted(
+    handle: &mut GzRange,
+    lo: u64,
+    hi: u64,
+    writer: bool,
+    tries: u32,
+    busy: &mut GzBusy,
+    made: &mut u32,
+) -> u32
+    ensures tried { Says (λ answer. (busy.new ≡ shown_of answer)
+        × OnTries lo hi writer tries made.new answer handle.old.pointer.behind handle.new.pointer.behind) result }
+{
+    let asked = Asked {
+        lo,
+        hi,
+        writer,
+        tries,
+    };
+    let (answer, count) = try_by(handle, asked);
+    *busy = answer.shown();
+    *made = count;
     answer.code()
 }
 

@@ -2,7 +2,7 @@
 //! call of C's is a method here. A reader may rely on all the seats being of that table, and on those that are left to
 //! share being as they were at the opening.
 ghost use Rattle.std.specs.Prelude.{◌≡◌, None, IfOk, IfErr};
-ghost use Rattle.range_c.specs.Behind.{IsTried, IsReleased, IsStepped, IsTrial, IsGranted, IsRefused, IsTrialAnswer, IsLooked, mode_for};
+ghost use Rattle.range_c.specs.Behind.{IsTried, IsTriedIn, IsReleased, IsStepped, IsTrial, IsGranted, IsRefused, IsTrialAnswer, IsLooked, mode_for};
 
 use crate::answers::{Answer, GzBusy, NOTHING};
 use crate::recording::{Recording, WordStep};
@@ -33,7 +33,7 @@ pub(crate) struct State {
 }
 
 impl Model for State {
-    ghost use Rattle.std.specs.Prelude.{◌≡◌, ◌≤◌, ◌<◌, length};
+    ghost use Rattle.std.specs.Prelude.{◌≡◌, ◌≤◌, ◌<◌, None, length};
     ghost use Rattle.std.specs.Arc.{arc_value};
     ghost use Rattle.std.specs.List.{All};
     ghost use Rattle.list_cuts.specs.Cut.{list_count};
@@ -55,7 +55,8 @@ impl Model for State {
         × AreNewSeatsIn (list_count (arc_value s.lock).table.cut) (arc_value s.lock).table.table (begun s.seat.pass.opened) s.spare.items
         × ((arc_value s.lock).table.client ≡ s.words) × (s.seat.number ≡ s.number) × (length s.spare.items ≤ s.number)
         × (s.number < (arc_value s.lock).table.seats)
-        × All (IsPlaceOf (arc_value s.lock).table.table (arc_value s.lock).table.seats s.seat.pass.opened) (arc_value s.lock).shelf.places.items };
+        × All (IsPlaceOf (arc_value s.lock).table.table (arc_value s.lock).table.seats s.seat.pass.opened) (arc_value s.lock).shelf.places.items
+        × (s.seat.scan ≡ None) };
 }
 
 /// The range that a call of C's asks for, and how often it is to try.
@@ -101,38 +102,40 @@ impl State {
             .try_acquire_uncounted(&mut self.seat, range, mode)
     }
 
-    /// Tries at most so many times for the range. Between one try and the next it waits as `acquire` of `range_rw`
-    /// does, but without yielding the processor, which a static library can't. The seat holds nothing.
-    fn try_up_to(&mut self, range: Range, mode: Mode, tries: u32) -> Answer
+    /// Tries at most so many times for the range, and tells how many tries it made. Between one try and the next it
+    /// waits as `acquire` of `range_rw` does, but without yielding the processor, which a static library can't. The
+    /// seat holds nothing.
+    fn try_up_to(&mut self, range: Range, mode: Mode, tries: u32) -> (Answer, u32)
         requires free { self.old.seat.held ≡ None }
         ensures kept { IsTrial self.old self.new }
-        ensures answer { IsTrialAnswer (record { range = range; mode = mode }) tries self.old self.new result }
+        ensures answer { IsTrialAnswer (record { range = range; mode = mode }) tries result.1 self.old self.new result.0 }
     {
         let mut answer = Answer::NotTried;
-        let mut left = tries;
+        let mut made = 0;
         let mut backoff = Backoff::new();
-        'tries: while left > 0 {
+        'tries: while made < tries {
+            made += 1;
             match self.try_once(range, mode) {
-                Ok(()) => return Answer::Done,
+                Ok(()) => return (Answer::Done, made),
                 Err(why) => {
-                    left -= 1;
-                    pause_after(&why, left, &mut backoff);
+                    pause_after(&why, tries - made, &mut backoff);
                     answer = Answer::Refused(why);
                 }
             }
         }
-        answer
+        (answer, made)
     }
 
-    /// Tries for the range that C asks for.
-    pub(crate) fn try_asked(&mut self, asked: Asked) -> Answer
-        ensures tried { IsTried asked.lo asked.hi asked.writer asked.tries result self.old self.new }
+    /// Tries for the range that C asks for, and tells how many tries it made.
+    pub(crate) fn try_asked(&mut self, asked: Asked) -> (Answer, u32)
+        ensures tried { IsTried asked.lo asked.hi asked.writer asked.tries result.0 self.old self.new }
+        ensures made { IsTriedIn asked.lo asked.hi asked.writer asked.tries result.1 result.0 self.old self.new }
     {
         if self.lock.table.held(&self.seat).is_some() {
-            return Answer::HasOne;
+            return (Answer::HasOne, 0);
         }
         let Ok(range) = Range::of(asked.lo, asked.hi) else {
-            return Answer::BadRange;
+            return (Answer::BadRange, 0);
         };
         self.try_up_to(range, mode_of(asked.writer), asked.tries)
     }

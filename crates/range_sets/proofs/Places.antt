@@ -1,17 +1,21 @@
 -- The seats of a set from a place on: what is left of them by tries of one seat after the other, and what this says of
 -- the whole set. Each law is an induction on the wants, with the seats at their places.
-use Rattle.std.proofs.Common.{◌≡◌, ℕ, zero, suc, ◌+◌, ◌*◌, ◌<◌, ◌≤◌, List, [], ◌∷◌, length, take, Some, None, Result, Ok, Err, refl, sym, ap, subst, ◌∙◌, arith}
+use Rattle.std.proofs.Common.{◌≡◌, ◌≢◌, ℕ, zero, suc, ◌+◌, ◌*◌, ◌<◌, ◌≤◌, List, [], ◌∷◌, length, take}
+use Rattle.std.proofs.Common.{Some, None, Result, Ok, Err, inl, inr, refl, sym, ap, subst, ◌∙◌, arith}
 use Rattle.std.specs.Prelude.{All, IfErr, OnOk, OnErr, map, slice_get}
 use Rattle.std.specs.Option.{option_map}
 use Rattle.std.proofs.Math.Nat.{suc-mul, zero-mul}
 use Rattle.std.proofs.Math.Seq.{take-length}
+use Rattle.std.proofs.lemmas.List.{length-map}
 use Rattle.std.proofs.lemmas.List.Elements.{All-cons}
 use Rattle.std.proofs.lemmas.List.Sums.{sum_by-cons}
 use Rattle.std.proofs.lemmas.Option.{none-some, slice_get_past}
 use Rattle.atomic_table.specs.Seated.{TableId}
+use Rattle.list_cuts.specs.Cut.{Regions, Takes}
+use Rattle.lock_core.specs.Range.{Interval}
 use Rattle.lock_core.specs.declared.range.Held.{Held}
 use Rattle.range_rw.specs.declared.refusals.NotHeld.{NotHeld}
-use Rattle.range_rw.specs.Contract.{AsksOnly, SeatState, TableShape, IsLockCall, IsRelease, pass_in, try_steps}
+use Rattle.range_rw.specs.Contract.{AsksOnly, SeatState, TableShape, IsLockCall, IsRelease, StandsIn, WorksIn, pass_in, ready_in, try_steps}
 use Rattle.range_rw.specs.Several.{TakesAlone}
 use Rattle.range_rw.proofs.Asking.{asks_stay, asks_kept}
 use Rattle.range_rw.proofs.TakenLists.{alone_steps}
@@ -19,6 +23,7 @@ use Rattle.range_sets.specs.declared.taking.SetRefused.{SetRefused}
 use Rattle.range_sets.specs.declared.wants.Want.{Want}
 use Rattle.range_sets.specs.Wants.{want_held}
 use Rattle.range_sets.specs.Sets.{SetView, AllFree, AreHeld, AsksEach, EachIs, IsCauseAt, IsLetGo, TriesTake, held_in, passes_after, taken_by, taken_of}
+use Rattle.range_sets.specs.Sets.{KeepsBack, KeepsEach, KeepsFor, KeepsUpTo, StandEach, StaysOutside, TellsAt}
 use Rattle.range_sets.specs.Taking.{AreGranted, IsGranted, IsOneTry, IsRefused, IsRefusedAt, IsTakenBack}
 
 -- the steps of one granted try beside those of the others
@@ -52,6 +57,11 @@ alone_first t (suc i) (w ∷ ws) there alone = let one = alone_steps t.cut w.ran
 pub alone_take : (t : TableShape) (wants : List Want) → All (λ w. TakesAlone t.cut w.range) wants → TriesTake t wants (length wants * (64 + 386 * t.seats))
 alone_take t wants alone =
     subst (λ l. TriesTake t l (length wants * (64 + 386 * t.seats))) (take-length wants) (alone_first t (length wants) wants (omega arith) alone)
+
+-- the list that holds a range is one in which its try works
+works_there : (c : Regions) (range : Interval) (list : ℕ) → StandsIn c range list → WorksIn c range list
+works_there c range list (inl one) = inr one.takes
+works_there c range list (inr wide) = inl wide.1
 
 module _ {P : Type 0} where
   -- seats of which the first holds something aren't all free
@@ -93,6 +103,19 @@ module _ {P : Type 0} where
   same_free [] free = tt
   same_free (x ∷ xs) free =
       (record { back = record { table = refl; number = refl; held = free 0 x (omega arith) }; client = refl }, same_free xs (free_behind x xs free))
+
+  same_outside : (xs : List (SeatState P)) → EachIs StaysOutside xs xs
+  same_outside [] = tt
+  same_outside (x ∷ xs) = (λ none. none, same_outside xs)
+
+  -- a range that was got and given back: the lists in which its try doesn't work are as before
+  keeps_back : (rested : P → P) (c : Regions) (w : Want) (x z y : SeatState P) → StandsIn c w.range z.list → KeepsFor c w x z → IsRelease rested z y
+      → KeepsBack c w x y
+  keeps_back rested c w x z y stands keeps back outside j there few away =
+      let many : length y.further ≡ length z.further =
+      sym (length-map y.further ready_in) ∙ (ap length back.further ∙ length-map z.further ready_in) in
+      let other : j ≢ z.list = λ e. away (subst (WorksIn c w.range) (sym e) (works_there c w.range z.list stands)) in
+      back.only j (omega arith) other ∙ keeps outside j there away
 
   -- seats that are as before have asked for nothing
   same_asks : (wants : List Want) (xs : List (SeatState P)) → AsksEach wants xs xs
@@ -142,6 +165,27 @@ module _ {P : Type 0} where
     granted_asks (w ∷ ws) (x ∷ xs) [] g = absurd g
     granted_asks (w ∷ ws) (x ∷ xs) (y ∷ ys) g = (g.0.asks, granted_asks ws xs ys g.1)
 
+    -- each range stands where it takes one list alone, or in list 0
+    pub granted_stands : (wants : List Want) (xs ys : List (SeatState P)) → AreGranted t wants xs ys → StandEach t.cut wants ys
+    granted_stands [] xs ys e = tt
+    granted_stands (w ∷ ws) [] ys g = absurd g
+    granted_stands (w ∷ ws) (x ∷ xs) [] g = absurd g
+    granted_stands (w ∷ ws) (x ∷ xs) (y ∷ ys) g = (g.0.stands, granted_stands ws xs ys g.1)
+
+    -- each seat keeps the lists in which its try doesn't work
+    pub granted_keeps : (wants : List Want) (xs ys : List (SeatState P)) → AreGranted t wants xs ys → KeepsEach t.cut wants xs ys
+    granted_keeps [] xs ys e = e
+    granted_keeps (w ∷ ws) [] ys g = absurd g
+    granted_keeps (w ∷ ws) (x ∷ xs) [] g = absurd g
+    granted_keeps (w ∷ ws) (x ∷ xs) (y ∷ ys) g = (g.0.keeps, granted_keeps ws xs ys g.1)
+
+    -- no scan is open where none was
+    pub granted_outside : (wants : List Want) (xs ys : List (SeatState P)) → AreGranted t wants xs ys → EachIs StaysOutside xs ys
+    granted_outside [] xs ys e = subst (EachIs StaysOutside xs) (sym e) (same_outside xs)
+    granted_outside (w ∷ ws) [] ys g = absurd g
+    granted_outside (w ∷ ws) (x ∷ xs) [] g = absurd g
+    granted_outside (w ∷ ws) (x ∷ xs) (y ∷ ys) g = (λ none. g.0.outside, granted_outside ws xs ys g.1)
+
     -- where a want was granted something is held
     pub granted_some : (wants : List Want) (xs ys : List (SeatState P)) → 0 < length wants → AreGranted t wants xs ys → ¬ (AllFree ys)
     granted_some [] xs ys some g = absurd (omega arith)
@@ -165,16 +209,17 @@ module _ {P : Type 0} where
 
     module _ (rested : P → P) where
       -- a range that was got in one try and given back
-      pub taken_back : (w : Want) (x z y : SeatState P) → IsLockCall x z → IsOneTry t w x z → AsksOnly (want_held w) x.trace.asked z.trace.asked
-          → IsRelease rested z y → IsTakenBack t rested w x y
-      taken_back w x z y call bound asks back = record {
-        table = back.table ∙ call.table;
-        number = back.number ∙ call.number;
+      pub taken_back : (w : Want) (x z y : SeatState P) → IsGranted t w x z → IsRelease rested z y → IsTakenBack t rested w x y
+      taken_back w x z y one back = record {
+        table = back.table ∙ one.call.table;
+        number = back.number ∙ one.call.number;
         free = back.held;
-        pass = back.pass ∙ ap rested call.pass;
-        client = back.client ∙ call.client;
-        asks = asks_kept asks back.asked;
-        bound = λ k takes. let one = bound k takes in let two = back.most in omega arith;
+        pass = back.pass ∙ ap rested one.call.pass;
+        client = back.client ∙ one.call.client;
+        outside = back.scan ∙ one.outside;
+        keeps = keeps_back rested t.cut w x z y one.stands one.keeps back;
+        asks = asks_kept one.asks back.asked;
+        bound = λ k takes. let most = one.bound k takes in let two = back.most in omega arith;
       }
 
       -- the first want was refused
@@ -199,6 +244,48 @@ module _ {P : Type 0} where
       refused_asks [] xs ys i why r = absurd r
       refused_asks (w ∷ ws) [] ys i why r = absurd r
       refused_asks (w ∷ ws) (x ∷ xs) [] i why r = absurd r
+
+      -- the refusal tells a list in which the try of its want works
+      refused_told : (wants : List Want) (xs ys : List (SeatState P)) (i : ℕ) (why : NotHeld) → IsRefusedAt t rested wants xs ys i why
+          → TellsAt t.cut wants i why
+      refused_told (w ∷ ws) (x ∷ xs) (y ∷ ys) zero why r = r.0.told
+      refused_told (w ∷ ws) (x ∷ xs) (y ∷ ys) (suc i) why r = refused_told ws xs ys i why r.1
+      refused_told [] xs ys i why r = absurd r
+      refused_told (w ∷ ws) [] ys i why r = absurd r
+      refused_told (w ∷ ws) (x ∷ xs) [] i why r = absurd r
+
+      -- each seat that tried keeps the other lists
+      refused_keeps : (wants : List Want) (xs ys : List (SeatState P)) (i : ℕ) (why : NotHeld) → IsRefusedAt t rested wants xs ys i why
+          → KeepsUpTo t.cut wants i xs ys
+      refused_keeps (w ∷ ws) (x ∷ xs) (y ∷ ys) zero why r = (r.0.keeps, r.1)
+      refused_keeps (w ∷ ws) (x ∷ xs) (y ∷ ys) (suc i) why r = (r.0.keeps, refused_keeps ws xs ys i why r.1)
+      refused_keeps [] xs ys i why r = absurd r
+      refused_keeps (w ∷ ws) [] ys i why r = absurd r
+      refused_keeps (w ∷ ws) (x ∷ xs) [] i why r = absurd r
+
+      -- and has no open scan where it had none
+      refused_outside : (wants : List Want) (xs ys : List (SeatState P)) (i : ℕ) (why : NotHeld) → IsRefusedAt t rested wants xs ys i why
+          → EachIs StaysOutside xs ys
+      refused_outside (w ∷ ws) (x ∷ xs) (y ∷ ys) zero why r = (λ none. r.0.outside, subst (EachIs StaysOutside xs) (sym r.1) (same_outside xs))
+      refused_outside (w ∷ ws) (x ∷ xs) (y ∷ ys) (suc i) why r = (λ none. r.0.outside, refused_outside ws xs ys i why r.1)
+      refused_outside [] xs ys i why r = absurd r
+      refused_outside (w ∷ ws) [] ys i why r = absurd r
+      refused_outside (w ∷ ws) (x ∷ xs) [] i why r = absurd r
+
+      pub list_told : (wants : List Want) (xs ys : List (SeatState P)) (r : Result (Unit {0}) SetRefused)
+          → IfErr r (λ e. IsRefusedAt t rested wants xs ys e.index e.why) → IfErr r (λ e. TellsAt t.cut wants e.index e.why)
+      list_told wants xs ys (Ok x) refused = tt
+      list_told wants xs ys (Err e) refused = refused_told wants xs ys e.index e.why refused
+
+      pub keeps_told : (wants : List Want) (xs ys : List (SeatState P)) (r : Result (Unit {0}) SetRefused)
+          → IfErr r (λ e. IsRefusedAt t rested wants xs ys e.index e.why) → IfErr r (λ e. KeepsUpTo t.cut wants e.index xs ys)
+      keeps_told wants xs ys (Ok x) refused = tt
+      keeps_told wants xs ys (Err e) refused = refused_keeps wants xs ys e.index e.why refused
+
+      pub outside_told : (wants : List Want) (xs ys : List (SeatState P)) (r : Result (Unit {0}) SetRefused) → OnOk r (AreGranted t wants xs ys)
+          → IfErr r (λ e. IsRefusedAt t rested wants xs ys e.index e.why) → EachIs StaysOutside xs ys
+      outside_told wants xs ys (Ok x) granted refused = granted_outside wants xs ys granted
+      outside_told wants xs ys (Err e) granted refused = refused_outside wants xs ys e.index e.why refused
 
       -- whatever the answer is
       pub asks_told : (wants : List Want) (xs ys : List (SeatState P)) (r : Result (Unit {0}) SetRefused) → OnOk r (AreGranted t wants xs ys)

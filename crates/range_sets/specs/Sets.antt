@@ -1,12 +1,14 @@
 -- What contracts see of a set of seats, and what its calls leave of it: all the wants held, or nothing. What one try
 -- and one release leave of a seat is said by `range_rw`; that several ranges are taken together or not at all is this
 -- project's own profile.
-use Rattle.std.specs.Prelude.{◌≡◌, ◌⊎◌, ℕ, zero, suc, ◌+◌, ◌<◌, List, [], ◌∷◌, All, map, sum_by, slice_get, Option, Some, None, IsSome}
+use Rattle.std.specs.Prelude.{◌≡◌, ◌⊎◌, ℕ, zero, suc, ◌+◌, ◌<◌, ◌≤◌, List, [], ◌∷◌, All, length, map, sum_by, slice_get, Option, Some, None, IsSome}
 use Rattle.std.specs.Option.{option_and_then, option_map}
 use Rattle.atomic_table.specs.Seated.{TableId}
+use Rattle.list_cuts.specs.Cut.{Regions, list_count}
 use Rattle.lock_core.specs.declared.range.Held.{Held}
 use Rattle.range_rw.specs.declared.refusals.NotHeld.{NotHeld}
-use Rattle.range_rw.specs.Contract.{AsksOnly, SeatState, TableShape, IsCause, IsGivenBack, IsRelease, TakesMany, pass_in, try_steps}
+use Rattle.range_rw.specs.Contract.{AsksOnly, SeatState, TableShape, IsCause, IsGivenBack, IsRelease, KeepsOthers, StandsIn, TakesMany, TellsList, WorksIn}
+use Rattle.range_rw.specs.Contract.{pass_in, pools_at, try_steps}
 use Rattle.range_sets.specs.declared.wants.Want.{Want}
 use Rattle.range_sets.specs.Wants.{want_held}
 
@@ -20,6 +22,12 @@ pub record SetView (P : Type 0) : Type 0 where
 abbrev pub TriesTake : TableShape → List Want → ℕ → Type 0
 TriesTake t [] steps = steps ≡ 0
 TriesTake t (w ∷ ws) steps = (k : ℕ) × (rest : ℕ) × TakesMany t.cut w.range k × TriesTake t ws rest × (steps ≡ try_steps t.seats k + rest)
+
+-- the refusal of the want at that place tells a list, where it tells one, in which the try of that want works
+abbrev pub TellsAt : Regions → List Want → ℕ → NotHeld → Type 0
+TellsAt c [] index why = ⊥
+TellsAt c (w ∷ ws) zero why = TellsList c w.range why
+TellsAt c (w ∷ ws) (suc index) why = TellsAt c ws index why
 
 module _ {P : Type 0} where
   -- no seat holds anything
@@ -55,6 +63,38 @@ module _ {P : Type 0} where
   AsksEach [] (x ∷ xs) (y ∷ ys) = (y.trace.asked ≡ x.trace.asked) × AsksEach [] xs ys
   AsksEach (w ∷ ws) (x ∷ xs) (y ∷ ys) = AsksOnly (want_held w) x.trace.asked y.trace.asked × AsksEach ws xs ys
   AsksEach _ _ _ = ⊥
+
+  -- the seat of each place holds its range in the list that this takes alone, or in list 0 where it takes more
+  abbrev pub StandEach : Regions → List Want → List (SeatState P) → Type 0
+  StandEach c [] seats = Unit {0}
+  StandEach c (w ∷ ws) [] = ⊥
+  StandEach c (w ∷ ws) (s ∷ ss) = StandsIn c w.range s.list × StandEach c ws ss
+
+  -- a try for that want leaves what the seat has in each list in which it doesn't work, where the seat had no open scan
+  abbrev pub KeepsFor : Regions → Want → SeatState P → SeatState P → Type 0
+  KeepsFor c w before after = before.scan ≡ None → KeepsOthers c w.range before after
+
+  -- so do a try that is granted and a release behind it, in each of the lists in which the seat has pools
+  abbrev pub KeepsBack : Regions → Want → SeatState P → SeatState P → Type 0
+  KeepsBack c w before after = before.scan ≡ None → (j : ℕ) → j < list_count c → j ≤ length after.further → (WorksIn c w.range j → ⊥)
+      → pools_at after j ≡ pools_at before j
+
+  -- the seat of each place keeps the lists in which the try for its want doesn't work, and one without a want is as it
+  -- was
+  abbrev pub KeepsEach : Regions → List Want → List (SeatState P) → List (SeatState P) → Type 0
+  KeepsEach c [] before after = after ≡ before
+  KeepsEach c (w ∷ ws) (x ∷ xs) (y ∷ ys) = KeepsFor c w x y × KeepsEach c ws xs ys
+  KeepsEach c (w ∷ ws) _ _ = ⊥
+
+  -- so do the seat whose want was refused, at that place, and those before it, which gave their ranges back
+  abbrev pub KeepsUpTo : Regions → List Want → ℕ → List (SeatState P) → List (SeatState P) → Type 0
+  KeepsUpTo c (w ∷ ws) zero (x ∷ xs) (y ∷ ys) = KeepsFor c w x y × (ys ≡ xs)
+  KeepsUpTo c (w ∷ ws) (suc index) (x ∷ xs) (y ∷ ys) = KeepsBack c w x y × KeepsUpTo c ws index xs ys
+  KeepsUpTo c _ _ _ _ = ⊥
+
+  -- a seat without an open scan has none afterwards
+  abbrev pub StaysOutside : SeatState P → SeatState P → Type 0
+  StaysOutside before after = before.scan ≡ None → after.scan ≡ None
 
   -- the seat of each place holds what is wanted at that place, and nothing where nothing is wanted
   abbrev pub AreHeld : List Want → List (SeatState P) → Type 0

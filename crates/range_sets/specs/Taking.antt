@@ -3,8 +3,9 @@
 -- nobody waits for one range while it holds another is this project's own profile.
 use Rattle.std.specs.Prelude.{◌≡◌, ℕ, zero, suc, ◌+◌, ◌≤◌, List, [], ◌∷◌, Some, None}
 use Rattle.range_rw.specs.declared.refusals.NotHeld.{NotHeld}
-use Rattle.range_rw.specs.Contract.{AsksOnly, SeatState, TableShape, IsCause, IsLockCall, TakesMany, try_steps}
+use Rattle.range_rw.specs.Contract.{AsksOnly, SeatState, TableShape, IsCause, IsLockCall, StandsIn, TakesMany, TellsList, try_steps}
 use Rattle.range_sets.specs.declared.wants.Want.{Want}
+use Rattle.range_sets.specs.Sets.{KeepsBack, KeepsFor}
 use Rattle.range_sets.specs.Wants.{want_held}
 
 module _ {P : Type 0} where
@@ -16,6 +17,9 @@ module _ {P : Type 0} where
   pub record IsGranted (t : TableShape) (want : Want) (before after : SeatState P) : Type 0 where
     pub call : IsLockCall before after
     pub held : after.held ≡ Some (want_held want)
+    pub stands : StandsIn t.cut want.range after.list
+    pub outside : after.scan ≡ None
+    pub keeps : KeepsFor t.cut want before after
     pub asks : AsksOnly (want_held want) before.trace.asked after.trace.asked
     pub bound : IsOneTry t want before after
 
@@ -30,6 +34,9 @@ module _ {P : Type 0} where
     pub call : IsLockCall before after
     pub free : after.held ≡ None
     pub cause : IsCause before after (want_held want) why
+    pub told : TellsList t.cut want.range why
+    pub outside : after.scan ≡ None
+    pub keeps : KeepsFor t.cut want before after
     pub asks : AsksOnly (want_held want) before.trace.asked after.trace.asked
     pub bound : IsOneTry t want before after
 
@@ -40,6 +47,8 @@ module _ {P : Type 0} where
     pub free : after.held ≡ None
     pub pass : after.pass ≡ rested before.pass
     pub client : after.trace.client ≡ before.trace.client
+    pub outside : after.scan ≡ None
+    pub keeps : KeepsBack t.cut want before after
     pub asks : AsksOnly (want_held want) before.trace.asked after.trace.asked
     pub bound : (k : ℕ) → TakesMany t.cut want.range k → after.trace.taken ≤ before.trace.taken + try_steps t.seats k + 2
 

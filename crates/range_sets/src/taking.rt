@@ -2,10 +2,11 @@
 //! place; the first refusal ends the call, and the ranges before it are given back. A reader may rely on the cause of a
 //! refusal being that of one try of `range_rw`, and on a set at rest staying so.
 ghost use Rattle.std.specs.Prelude.{◌≡◌, ℕ, ◌+◌, ◌*◌, ◌<◌, ◌≤◌, ◌-◌, ◌∷◌, [], Some, None, All, IfErr, IfOk, OnOk, OnErr, IsSome, length, map, take};
-ghost use Rattle.range_rw.specs.Contract.{AsksOnly, IsCause, IsLockCall, IsRelease, pass_in};
+ghost use Rattle.range_rw.specs.Contract.{AsksOnly, IsCause, IsLockCall, IsRelease, StandsIn, TellsList, pass_in};
 ghost use Rattle.range_rw.specs.Several.{TakesAlone};
 ghost use Rattle.range_sets.specs.Wants.{NoClash, want_held};
 ghost use Rattle.range_sets.specs.Sets.{AllFree, AllRest, AreHeld, AsksEach, EachIs, IsLetGo, IsReleasedIfHeld, IsCauseAt, TriesTake, passes_after, taken_by};
+ghost use Rattle.range_sets.specs.Sets.{KeepsEach, KeepsFor, KeepsUpTo, StandEach, StaysOutside, TellsAt};
 ghost use Rattle.range_sets.specs.Taking.{AreGranted, IsOneTry, IsRefusedAt};
 
 use crate::set::{Place, SetSeat};
@@ -46,6 +47,10 @@ impl<G: Guard> Place<G> {
         ensures free { OnErr result (self.new.held ≡ None) }
         ensures first { IfErr result (λ r. r.index ≡ 0) }
         ensures cause { IfErr result (λ r. IsCause self.old self.new (want_held want) r.why) }
+        ensures stands { OnOk result (StandsIn table.now.cut want.range self.new.list) }
+        ensures told { IfErr result (λ r. TellsList table.now.cut want.range r.why) }
+        ensures outside { self.new.scan ≡ None }
+        ensures keeps { KeepsFor table.now.cut want self.old self.new }
         ensures each { IsOneTry table.now want self.old self.new }
         ensures counted { steps.new + self.old.trace.taken ≡ steps.old + self.new.trace.taken }
     {
@@ -234,9 +239,11 @@ fn try_four<G: Guard, L: Ledger>(
 /// place, and waits for nobody. From 1 to 4 wants, of which no two conflict (`clash` tells); the set is of this table
 /// and holds nothing, and its passes are at rest.
 /// `SetRefused` says which want's try was refused, and why; the ranges before it have then been given back, and seats
-/// behind it made no step. A try makes at most 64 steps and 386 for each seat of the table where its range takes one
-/// list, as every range does in a table of one, and for each further list 55 and 193 for each seat more; giving a range
-/// back makes one or two, and `steps` counts both.
+/// behind it made no step. Each seat asks for the want of its place alone, and works in list 0 and in the lists that
+/// this takes; afterwards it has no open scan if it had none before.
+/// A try makes at most 64 steps and 386 for each seat of the table where its range takes one list, as every range does
+/// in a table of one, and for each further list 55 and 193 for each seat more; giving a range back makes one or two,
+/// and `steps` counts both.
 pub fn try_set<G: Guard, L: Ledger>(
     table: &RangeTable<G>,
     set: &mut SetSeat<G>,
@@ -259,6 +266,11 @@ pub fn try_set<G: Guard, L: Ledger>(
     ensures let_go { OnErr result (EachIs IsLetGo set.old.seats set.new.seats) }
     ensures passes { IfErr result (λ r. map pass_in set.new.seats ≡ passes_after G.rested r.index set.old.seats) }
     ensures cause { IfErr result (λ r. IsCauseAt set.old.seats set.new.seats wants.now r.index r.why) }
+    ensures stands { OnOk result (StandEach table.now.cut wants.now set.new.seats) }
+    ensures only { OnOk result (KeepsEach table.now.cut wants.now set.old.seats set.new.seats) }
+    ensures told { IfErr result (λ r. TellsAt table.now.cut wants.now r.index r.why) }
+    ensures outside { EachIs StaysOutside set.old.seats set.new.seats }
+    ensures refused_only { IfErr result (λ r. KeepsUpTo table.now.cut wants.now r.index set.old.seats set.new.seats) }
     ensures bound { All (λ w. TakesAlone table.now.cut w.range) wants.now
         → OnOk result (taken_by set.new.seats ≤ taken_by set.old.seats + length wants.now * (64 + 386 * table.now.seats)) }
     ensures each { OnOk result ((n : ℕ) → TriesTake table.now wants.now n → taken_by set.new.seats ≤ taken_by set.old.seats + n) }

@@ -43,6 +43,7 @@ invariant_of-state c =
       least,
       below,
       places,
+      ap (λ (s : RecordingSeat). s.scan) all.0,
     )
 
 -- what is in the box is what is behind a new handle of a new table

@@ -1,7 +1,7 @@
 use Rattle.std.proofs.Common.{◌+◌, ◌*◌, length}
 use Rattle.std.proofs.lemmas.Result.{on_ok_weaker}
-use Rattle.range_sets.proofs.Places.{all_held, granted_calls, granted_some, granted_each, alone_take, free_told, let_go_told, passes_told, cause_told, each_told, bound_told}
-use Rattle.range_sets.proofs.Places.{asks_told}
+use Rattle.range_sets.proofs.Places.{all_held, granted_calls, granted_some, granted_each, alone_take, free_told, let_go_told, passes_told}
+use Rattle.range_sets.proofs.Places.{asks_told, bound_told, cause_told, each_told, granted_stands, granted_keeps, keeps_told, list_told, outside_told}
 use Rattle.range_sets.proofs.taking.try_set.Goals as goal
 
 -- what was granted is held, each want by the seat at its place
@@ -52,3 +52,23 @@ returns-clause-refused_bound g c = λ alone. bound_told _ _ _ _ _ c.requires.fre
 -- each seat asked for its own want
 pub returns-clause-asks : goal.returns-clause-asks
 returns-clause-asks g c = asks_told _ _ _ _ _ c.try_four.result c.try_four.ensures.granted c.try_four.ensures.refused
+
+-- each granted range stands in the list that it takes alone, or in list 0
+pub returns-clause-stands : goal.returns-clause-stands
+returns-clause-stands g c = on_ok_weaker c.try_four.result (granted_stands _ _ _ _) c.try_four.ensures.granted
+
+-- each seat keeps the lists in which its try doesn't work
+pub returns-clause-only : goal.returns-clause-only
+returns-clause-only g c = on_ok_weaker c.try_four.result (granted_keeps _ _ _ _) c.try_four.ensures.granted
+
+-- so do those that tried up to the refused one
+pub returns-clause-refused_only : goal.returns-clause-refused_only
+returns-clause-refused_only g c = keeps_told _ _ _ _ _ c.try_four.result c.try_four.ensures.refused
+
+-- a refusal tells a list in which the try works
+pub returns-clause-told : goal.returns-clause-told
+returns-clause-told g c = list_told _ _ _ _ _ c.try_four.result c.try_four.ensures.refused
+
+-- no scan is open where none was
+pub returns-clause-outside : goal.returns-clause-outside
+returns-clause-outside g c = outside_told _ _ _ _ _ c.try_four.result c.try_four.ensures.granted c.try_four.ensures.refused
