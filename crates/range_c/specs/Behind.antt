@@ -150,9 +150,10 @@ abbrev pub most_steps : ℕ → ℕ → ℕ
 most_steps seats lists = (64 + 386 * seats) * lists
 
 -- one try of a seat that holds nothing, in a table of so many seats over a cut, from one state of the seat to another.
--- It asks for that range alone, so it holds no other on the way. What the seat has in each list in which the try doesn't
--- work stays, and its ready nodes in each list, but perhaps for the first; it has no open scan afterwards. Its steps are
--- bounded by the lists that the range takes, and where that is one alone, they are those in a table of one list
+-- It asks for that range alone, so it holds no other on the way. What the seat has in each list in which the try
+-- doesn't work stays, and its ready nodes in each list, but perhaps for the first; it has no open scan afterwards. Its
+-- steps are bounded by the lists that the range takes, and where that is one alone, they are those in a table of one
+-- list
 pub record IsOneTry (seats : ℕ) (cut : Regions) (asked : Held) (entry after : RecordingSeat) : Type 0 where
   pub call : IsLockCall entry after
   pub free : entry.held ≡ None
@@ -185,8 +186,8 @@ AreRefused seats cut asked zero before after = after ≡ before
 AreRefused seats cut asked (suc n) before after = (entry : RecordingSeat) × (why : NotHeld)
     × AreRefused seats cut asked n before entry × IsRefused seats cut asked entry after why
 
--- what the tries that were made, at most as many as were asked for, came to: all but the last were refused, and the last
--- one was granted; or as many as were asked for were refused, the last one for that cause
+-- what the tries that were made, at most as many as were asked for, came to: all but the last were refused, and the
+-- last one was granted; or as many as were asked for were refused, the last one for that cause
 abbrev pub IsTrialAnswer : Held → ℕ → ℕ → Behind → Behind → Answer → Type 0
 IsTrialAnswer asked tries made before after Done = (n : ℕ) × (n + 1 ≡ made) × (made ≤ tries) × (entry : RecordingSeat)
     × AreRefused before.seats before.cut asked n before.seat entry × IsGranted before.seats before.cut asked entry after.seat
@@ -200,8 +201,8 @@ abbrev pub asked : ℕ → ℕ → Bool → Held
 asked lo hi writer = record { range = record { lo = lo; hi = hi }; mode = mode_for writer }
 
 -- a call that came to tries: the ends bound a range and the seat held nothing, so many tries were made, and this is
--- their answer. All together asked for that range alone; they made as many times the steps of one, by the lists that the
--- range takes, or those in one list where it takes one alone
+-- their answer. All together asked for that range alone; they made as many times the steps of one, by the lists that
+-- the range takes, or those in one list where it takes one alone
 pub record IsTriedFor (lo hi : ℕ) (writer : Bool) (tries made : ℕ) (answer : Answer) (before after : Behind) : Type 0 where
   pub range : IsRange lo hi
   pub free : before.seat.held ≡ None
