@@ -1,8 +1,8 @@
 -- When a block is split, and when two are merged. Blocks are small while few are in use, so that a change moves few
 -- rows, and larger where they get scarce. Both go by one limit: a block is split where it would have more rows than the
 -- limit, and two are merged where they have half of it at most. The limit is that for the blocks without the upper of
--- both, so half of its rows go or come between a split and the merge that undoes it. The limits are this project's own,
--- and measured.
+-- both, so a change undoes the split or the merge before it only by half of the limit's rows. The limits are this
+-- project's own, and measured.
 use Rattle.std.specs.Prelude.{ℕ, ◌≡◌, ◌<◌, ◌≤◌, ◌+◌, ◌-◌, ◌*◌, ◌==◌, nat_lt, if◌then◌else◌, ◌&&◌, ◌||◌, List}
 use Rattle.row_blocks.specs.Blocks.{blocks_of, rows_of, count_to}
 
@@ -49,8 +49,8 @@ pub data Replaces (nb : ℕ) (one two : List ℕ) (b more from end : ℕ) : Type
   keeps : ¬ AreTooMany nb one b more → blocks_of nb two ≡ blocks_of nb one → Replaces nb one two b more from end
 
 -- and of a whole change: a block that would have too many rows is split, and then, where no block would be free, two
--- others are merged; else blocks go of which no row stays; else a block and the one behind it are merged if they have
--- few rows, and if not, there are as many blocks as before
+-- are merged; else blocks go, all of whose rows go; else a block and the one behind it are merged if they have few rows,
+-- and if not, there are as many blocks as before
 pub data Settles (nb : ℕ) (one two : List ℕ) (b more from end : ℕ) : Type 0 where
   splits : AreTooMany nb one b more → blocks_of nb one + 1 < nb → blocks_of nb two ≡ blocks_of nb one + 1 → Settles nb one two b more from end
   frees : AreTooMany nb one b more → blocks_of nb one + 1 ≡ nb → blocks_of nb two ≡ blocks_of nb one → Settles nb one two b more from end
