@@ -508,14 +508,9 @@ pub data MayStore (plan : Splice) (place value : ℕ) (p after : Pass) : Type 0 
   store_layout : (index : ℕ) → index ≤ p.blocks → place ≡ 3 + 128 * p.blocks + index → after ≡ after_layout (suc index) value p
       → MayStore plan place value p after
 
--- a place in use: that of the row count, or of a slot in which a row stands. While the layout is being written it may
--- name slots that there aren't; none of these is meant
-abbrev pub IsInUse : List ℕ → ℕ → Type 0
-IsInUse words place = (place ≡ 2) ⊎ ((slot : ℕ) × (place ≡ 3 + slot) × (slot < 128 * nb_in words) × IsSlot words slot)
-
--- a word is new at its place: where that is in use, another word stands there
+-- a word is new at its place: another word stands there, whether or not that place is in use
 abbrev pub IsNew : List ℕ → ℕ → ℕ → Type 0
-IsNew words place value = IsInUse words place → slice_index words place ≢ value
+IsNew words place value = slice_index words place ≢ value
 
 -- what a caller that has something to write may store
 abbrev pub MayWrite : List ℕ → Pending → ℕ → ℕ → Pass → Pass → Type 0

@@ -22,7 +22,7 @@ use Rattle.area_guard.specs.declared.guard.Splice.{Splice}
 use Rattle.area_guard.specs.Rows.{nb_in, keeps_in, number_place, IsLayoutPlace}
 use Rattle.area_guard.specs.Reads.{everything}
 use Rattle.area_guard.specs.History.{Runs, StartsWith, whole_count, planned_count, RowsStandFor, Backs, HasHistory, HoldsFor, Allowed, entry_of, rest_of}
-use Rattle.area_guard.specs.History.{IsOwed, IsInUse, MayStore, rows_after}
+use Rattle.area_guard.specs.History.{IsOwed, IsNew, MayStore, rows_after}
 
 -- the caller of that number has the entry at that place among its own
 abbrev pub Stores : List Pass → ℕ → ℕ → Entry → Type 0
@@ -84,13 +84,12 @@ LayoutIsOfWhole = (grants : Grants) (words : List ℕ) (passes : List Pass) (wor
     → (plan : Splice) × IsOfWhole grants passes worker plan
 
 -- while a call under everything is to be written, its caller stores rows that stood before it or that it leaves, in
--- slots, their count, the gap word, and words of the layout; and none of the rows, where they are in use, and no count
--- that stands there already
+-- slots, their count, the gap word, and words of the layout; and no word that stands there already
 abbrev pub StoresAreNew : Type 0
 StoresAreNew = (grants : Grants) (words : List ℕ) (passes : List Pass) (worker place value : ℕ) (note : Note) (pass after : Pass)
     (plan : Splice) → get_elem? passes worker ≡ some pass → pass.pending ≡ Planned plan
     → Allowed grants words passes worker (stores place value) note after
-    → MayStore plan place value pass after × (IsInUse words place → slice_index words place ≢ value)
+    → MayStore plan place value pass after × IsNew words place value
 
 -- a run is legal, and leaves its last state
 abbrev pub RunsAreLegal : Type 0

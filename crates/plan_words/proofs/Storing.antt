@@ -226,34 +226,35 @@ module _ (seat : ℕ) {held : Option Held} {pass : Pass} (all : held ≡ Some ev
           (
             here,
             may_write words (3 + slot) value (after_store slot value pass) (store_row slot lt refl is refl)
-                (λ used same. differs (word_now grants words passes m.met m.grant m.own slot (omega arith) ∙ same)),
+                (λ same. differs (word_now grants words passes m.met m.grant m.own slot (omega arith) ∙ same)),
           ),
         )
 
     -- the store of a word of the layout
-    pub may_store_layout : (place value : ℕ) → 128 * pass.blocks ≤ place → place < 129 * pass.blocks + 1
+    pub may_store_layout : (place value : ℕ) → 128 * pass.blocks ≤ place → place < 129 * pass.blocks + 1 → slice_index (known_words pass) place ≢ value
         → IsAllowed HasHistory Allowed no_note seat held pass (stores (3 + place) value)
-    may_store_layout place value ge lt grants words passes m there small =
+    may_store_layout place value ge lt differs grants words passes m there small =
         let here = here_at m in
-        let index : ℕ = place - 128 * pass.blocks in
-        let nb = (part_at grants words passes seat pass m.met m.own).room.0 in (
+        let index : ℕ = place - 128 * pass.blocks in (
           after_layout (suc index) value pass,
           (
             here,
             may_write words (3 + place) value (after_layout (suc index) value pass) (store_layout index (omega arith) (omega arith) refl)
-                (λ used. absurd (⊎_elim (λ two. omega arith) (λ t. omega arith) used)),
+                (λ same. differs (word_now grants words passes m.met m.grant m.own place lt ∙ same)),
           ),
         )
 
-    -- the store of the gap word
-    pub may_store_gap : (value : ℕ) → IsAllowed HasHistory Allowed no_note seat held pass (stores 0 value)
-    may_store_gap value grants words passes m there small = (
-      after_gap value pass,
-      (
-        here_at m,
-        may_write words 0 value (after_gap value pass) (store_gap refl refl) (λ used. absurd (⊎_elim (λ two. omega arith) (λ t. omega arith) used)),
-      ),
-    )
+    -- the store of the gap word, where it isn't the one that was noted
+    pub may_store_gap : (value : ℕ) → (n : ℕ) × (pass.gap ≡ Some n) → pass.gap ≢ Some value
+        → IsAllowed HasHistory Allowed no_note seat held pass (stores 0 value)
+    may_store_gap value noted differs grants words passes m there small =
+        let stands = (part_at grants words passes seat pass m.met m.own).gap noted.0 noted.1 in (
+          after_gap value pass,
+          (
+            here_at m,
+            may_write words 0 value (after_gap value pass) (store_gap refl refl) (λ same. differs (noted.1 ∙ ap Some (sym stands ∙ same))),
+          ),
+        )
 
     -- and the store of how many rows the splice leaves, where there are more or fewer
     pub may_store_count : (value : ℕ) → value ≡ length (rows_after plan) → known_count pass ≢ value
@@ -264,7 +265,7 @@ module _ (seat : ℕ) {held : Option Held} {pass : Pass} (all : held ≡ Some ev
           (
             here,
             may_write words 2 value (after_layout 0 value pass) (store_count refl is refl)
-                (λ used same. differs (count_now grants words passes m.met m.grant m.own ∙ same)),
+                (λ same. differs (count_now grants words passes m.met m.grant m.own ∙ same)),
           ),
         )
 

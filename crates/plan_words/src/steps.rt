@@ -82,7 +82,7 @@ pub(crate) fn store_row(
     table.store_as_uncounted::<Plain>(seat, FIRST_ROW + slot, word);
 }
 
-/// Stores a word of the layout, but for the row count.
+/// Stores a word of the layout, but for the row count, where another word stands.
 pub(crate) fn store_layout(
     table: &RangeTable<RowGuard>,
     seat: &mut Seat<RowGuard>,
@@ -92,6 +92,7 @@ pub(crate) fn store_layout(
     requires writes { WritesPlan table.now seat.old }
     requires layout { 128 * seat.old.pass.blocks ≤ place }
     requires place { place < 129 * seat.old.pass.blocks + 1 }
+    requires differs { slice_index (known_words seat.old.pass) place ≢ word }
     ensures words { known_words seat.new.pass ≡ slice_set (known_words seat.old.pass) place word }
     ensures count { known_count seat.new.pass ≡ known_count seat.old.pass }
     ensures gap { KeepsGap seat.old.pass seat.new.pass }
@@ -117,9 +118,11 @@ pub(crate) fn store_count(table: &RangeTable<RowGuard>, seat: &mut Seat<RowGuard
     table.store_as_uncounted::<Plain>(seat, ROW_COUNT, count as u64);
 }
 
-/// Stores the gap word.
+/// Stores the gap word, where it isn't the one that was noted.
 pub(crate) fn store_gap(table: &RangeTable<RowGuard>, seat: &mut Seat<RowGuard>, word: u64)
     requires writes { WritesPlan table.now seat.old }
+    requires noted { (n : ℕ) × (seat.old.pass.gap ≡ Some n) }
+    requires differs { seat.old.pass.gap ≢ Some word }
     ensures gap { seat.new.pass.gap ≡ Some word }
     ensures words { known_words seat.new.pass ≡ known_words seat.old.pass }
     ensures count { known_count seat.new.pass ≡ known_count seat.old.pass }

@@ -1,6 +1,6 @@
 //! The splice that a call under everything makes of the rows is written: first the rows, by `row_blocks`, then the row
 //! count, where it differs, and the gap word, and then the sequence word is raised.
-ghost use Rattle.std.specs.Prelude.{ℕ, [], ◌≡◌, ◌<◌, ◌≤◌, ◌+◌, ◌*◌, length};
+ghost use Rattle.std.specs.Prelude.{ℕ, Some, [], ◌≡◌, ◌<◌, ◌≤◌, ◌+◌, ◌*◌, length};
 ghost use Rattle.area_guard.specs.Rows.{room_of};
 ghost use Rattle.area_guard.specs.History.{rows_after};
 ghost use Rattle.space_model.specs.Areas.{kind_at};
@@ -11,7 +11,7 @@ ghost use Rattle.plan_words.specs.Laws.{HasWritten};
 ghost use Rattle.plan_words.specs.Places.{number_at, splice_at};
 ghost use Rattle.plan_words.specs.Writing.{KeepsGap, WritesPlan, IsWriting, IsWritten, plan_at};
 
-use crate::steps::{raise_sequence, store_count, store_gap};
+use crate::steps::{load_gap, raise_sequence, store_count, store_gap};
 use crate::words::PlanWords;
 use area_guard::RowGuard;
 use range_rw::{RangeTable, Seat};
@@ -43,7 +43,7 @@ fn write_rows(
     ensures rows { known_rows seat.new.pass ≡ rows_after (plan_at seat.old) }
     ensures writes { WritesPlan table.now seat.new }
     ensures writing { HasWritten seat.old seat.new }
-    ensures steps { seat.new.trace.taken ≤ seat.old.trace.taken + (2 * length more.now + 13 * blocks + 1830) }
+    ensures steps { seat.new.trace.taken ≤ seat.old.trace.taken + (2 * length more.now + 13 * blocks + 1829) }
     ensures none { gone ≡ 0 → length more.now ≡ 0 → seat.new.trace.taken ≡ seat.old.trace.taken }
 {
     if gone == 0 && more.is_empty() {
@@ -78,7 +78,7 @@ fn write_count(table: &RangeTable<RowGuard>, seat: &mut Seat<RowGuard>, count: u
     store_count(table, seat, left);
 }
 
-/// Stores the gap word where a row goes or one comes; else it is right as it stands.
+/// Stores the gap word where a row goes or one comes, and another one stands there; else it is right as it stands.
 fn write_gap(
     table: &RangeTable<RowGuard>,
     seat: &mut Seat<RowGuard>,
@@ -90,6 +90,7 @@ fn write_gap(
     requires stands { KnowsBlocks seat.old.pass }
     requires rows { known_rows seat.old.pass ≡ rows_after (plan_at seat.old) }
     requires right { IsGapWord (kind_at (areas_from (rows_after (plan_at seat.old)))) gap }
+    requires noted { (n : ℕ) × (seat.old.pass.gap ≡ Some n) }
     requires stood { gone ≡ 0 → length more.now ≡ 0 → HasGap seat.old.pass (rows_after (plan_at seat.old)) }
     ensures gap { HasGap seat.new.pass (rows_after (plan_at seat.old)) }
     ensures stands { KnowsBlocks seat.new.pass }
@@ -97,10 +98,13 @@ fn write_gap(
     ensures count { known_count seat.new.pass ≡ known_count seat.old.pass }
     ensures writes { WritesPlan table.now seat.new }
     ensures writing { IsWriting seat.old seat.new }
-    ensures taken { seat.new.trace.taken ≤ seat.old.trace.taken + 1 }
+    ensures taken { seat.new.trace.taken ≤ seat.old.trace.taken + 2 }
     ensures none { gone ≡ 0 → length more.now ≡ 0 → seat.new.trace.taken ≡ seat.old.trace.taken }
 {
     if gone == 0 && more.is_empty() {
+        return;
+    }
+    if load_gap(table, seat) == gap {
         return;
     }
     store_gap(table, seat, gap);

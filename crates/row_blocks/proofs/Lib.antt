@@ -16,6 +16,7 @@ pub mod Lays
 pub mod Halves
 pub mod Comings
 pub mod Cuts
+pub mod Settlings
 pub mod Pairs
 pub mod Writes
 pub mod Fills

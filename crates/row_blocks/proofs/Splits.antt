@@ -209,6 +209,19 @@ module _ {nb : ℕ} {one loaded : List ℕ} {i packed count free : ℕ} (r : Has
   split_copied {copy} place copied =
       coe 0 1 (j. IsCopied (r.same j) copy (nb + 127 * (r.read j / 128) + place) (nb + 127 * (body_read j / 128)) (r.read j % 128 - place)) copied
 
+  -- a word of the layout before the body words that move stands as it stood
+  pub layout_still : (copy heads : List ℕ) {again told : List ℕ} (place head word s : ℕ) → IsLaidOut nb one → blocks_of nb one < nb → 128 * nb ≤ s
+      → IsCopied loaded copy (nb + 127 * (packed / 128) + place) (nb + 127 * (free / 128)) (packed % 128 - place) → again ≡ copy
+      → IsPushed again heads (i + 1) count head → IsPushed heads told (128 * nb + 1 + (i + 1)) (128 * nb + 1 + count) word
+      → s < 128 * nb + 1 + (i + 1) → slice_index told s ≡ slice_index one s
+  layout_still copy heads place head word s laid spare low copied same h t below =
+      let body = laid.bodies (blocks_of nb one) spare in
+      let read = body_read in
+      let counted = r.counted in
+      t.below s below
+      ∙ (h.above s (omega arith)
+      ∙ (ap (λ (l : List ℕ). slice_index l s) same ∙ (copied.above s (omega arith) ∙ ap (λ (l : List ℕ). slice_index l s) r.same)))
+
   -- and what stands after all stores
   pub split_done : {copy again heads told three two : List ℕ} {place head : ℕ} → IsLaidOut nb one → i < blocks_of nb one → blocks_of nb one < nb
       → 0 < place → place ≤ rows_of nb one i

@@ -3,6 +3,7 @@
 ghost use Rattle.std.specs.Prelude.{ℕ, All, [], ◌≡◌, ◌≢◌, ◌+◌, ◌-◌, ◌*◌, ◌/◌, ◌<◌, ◌≤◌, length, slice_index};
 ghost use Rattle.std.specs.List.{splice};
 ghost use Rattle.row_blocks.specs.Blocks.{IsLaidOut, blocks_of, rows_of, rows_in, count_to, rank, told};
+ghost use Rattle.row_blocks.specs.Limits.{limit_of};
 
 use crate::inserting::insert;
 use crate::positions::Position;
@@ -23,6 +24,7 @@ fn insert_all<W: Words>(words: &W, hand: &mut W::Hand, blocks: usize, at: Positi
     ensures laid { IsLaidOut blocks (W.words words.now hand.new) }
     ensures spliced { rows_in blocks (W.words words.now hand.new) ≡ splice (rows_in blocks (W.words words.now hand.old))
         (rank blocks (W.words words.now hand.old) at.block at.place) (rank blocks (W.words words.now hand.old) at.block at.place) more.now }
+    ensures count { blocks_of blocks (W.words words.now hand.new) ≡ blocks_of blocks (W.words words.now hand.old) }
     ensures grown { rows_of blocks (W.words words.now hand.new) at.block ≡ rows_of blocks (W.words words.now hand.old) at.block + length more.now }
     ensures others { (k : ℕ) → k < blocks → k ≢ at.block → told blocks (W.words words.now hand.new) k ≡ told blocks (W.words words.now hand.old) k }
     ensures all { All (W.is_row words.now hand.new) (rows_in blocks (W.words words.now hand.new)) }
@@ -60,6 +62,12 @@ pub(crate) fn come<W: Words>(
     ensures laid { IsLaidOut blocks (W.words words.now hand.new) }
     ensures spliced { rows_in blocks (W.words words.now hand.new) ≡ splice (rows_in blocks (W.words words.now hand.old))
         (rank blocks (W.words words.now hand.old) at.block at.place) (rank blocks (W.words words.now hand.old) at.block at.place) more.now }
+    ensures split { limit_of blocks (blocks_of blocks (W.words words.now hand.old)) at.block
+        < rows_of blocks (W.words words.now hand.old) at.block + 1 + length more.now
+        → blocks_of blocks (W.words words.now hand.new) ≡ blocks_of blocks (W.words words.now hand.old) + 1 }
+    ensures stays { rows_of blocks (W.words words.now hand.old) at.block + 1 + length more.now
+        ≤ limit_of blocks (blocks_of blocks (W.words words.now hand.old)) at.block
+        → blocks_of blocks (W.words words.now hand.new) ≡ blocks_of blocks (W.words words.now hand.old) }
     ensures short { rows_of blocks (W.words words.now hand.new) 0 < 64 }
     ensures all { All (W.is_row words.now hand.new) (rows_in blocks (W.words words.now hand.new)) }
     ensures may { W.may_store words.now hand.new }

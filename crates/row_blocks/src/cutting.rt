@@ -1,8 +1,9 @@
 //! Rows that go from a position on: the end of one block, whole blocks, and the beginning of another one. A reader may
 //! rely on blocks going where the last of their rows goes, and on those before the position being left alone.
-ghost use Rattle.std.specs.Prelude.{ℕ, All, [], ◌≡◌, ◌+◌, ◌-◌, ◌*◌, ◌<◌, ◌≤◌, length};
+ghost use Rattle.std.specs.Prelude.{ℕ, All, [], ◌≡◌, ◌≢◌, ◌+◌, ◌-◌, ◌*◌, ◌<◌, ◌≤◌, length};
 ghost use Rattle.std.specs.List.{splice};
 ghost use Rattle.row_blocks.specs.Blocks.{IsLaidOut, blocks_of, rows_of, rows_in, count_to, rank, told};
+ghost use Rattle.row_blocks.specs.Limits.{HaveGone};
 
 use crate::deleting::delete;
 use crate::positions::{Position, body_of};
@@ -33,7 +34,8 @@ fn cut_first<W: Words>(
     ensures rest { 0 < result → count_to blocks (W.words words.now hand.new) (at.block + 1) ≡ rank blocks (W.words words.now hand.old) at.block at.place }
     ensures count { blocks_of blocks (W.words words.now hand.new) ≡ blocks_of blocks (W.words words.now hand.old) }
     ensures before { (k : ℕ) → k < at.block → told blocks (W.words words.now hand.new) k ≡ told blocks (W.words words.now hand.old) k }
-    ensures less { rows_of blocks (W.words words.now hand.new) at.block ≤ rows_of blocks (W.words words.now hand.old) at.block }
+    ensures less { rows_of blocks (W.words words.now hand.new) at.block + (gone - result) ≡ rows_of blocks (W.words words.now hand.old) at.block }
+    ensures others { (k : ℕ) → k < blocks → k ≢ at.block → told blocks (W.words words.now hand.new) k ≡ told blocks (W.words words.now hand.old) k }
     ensures may { W.may_store words.now hand.new }
     ensures rows { (w : ℕ) → W.is_row words.now hand.old w → W.is_row words.now hand.new w }
     ensures kept { W.kept words.now hand.old hand.new }
@@ -67,6 +69,7 @@ fn cut_blocks<W: Words>(
     ensures laid { IsLaidOut blocks (W.words words.now hand.new) }
     ensures spliced { rows_in blocks (W.words words.now hand.new) ≡ splice (rows_in blocks (W.words words.now hand.old))
         (count_to blocks (W.words words.now hand.new) result) (count_to blocks (W.words words.now hand.old) first + gone) [] }
+    ensures whole { count_to blocks (W.words words.now hand.old) result ≤ count_to blocks (W.words words.now hand.old) first + gone }
     ensures from { first ≤ result }
     ensures there { result ≤ blocks_of blocks (W.words words.now hand.new) }
     ensures count { blocks_of blocks (W.words words.now hand.new) ≡ blocks_of blocks (W.words words.now hand.old) }
@@ -103,6 +106,8 @@ fn cut_on<W: Words>(words: &W, hand: &mut W::Hand, blocks: usize, first: usize, 
     ensures laid { IsLaidOut blocks (W.words words.now hand.new) }
     ensures spliced { rows_in blocks (W.words words.now hand.new) ≡ splice (rows_in blocks (W.words words.now hand.old))
         (count_to blocks (W.words words.now hand.old) first) (count_to blocks (W.words words.now hand.old) first + gone) [] }
+    ensures went { HaveGone blocks (W.words words.now hand.old) (W.words words.now hand.new) (count_to blocks (W.words words.now hand.old) first)
+        (count_to blocks (W.words words.now hand.old) first + gone) }
     ensures count { blocks_of blocks (W.words words.now hand.new) ≤ blocks_of blocks (W.words words.now hand.old) }
     ensures before { (k : ℕ) → k < first → told blocks (W.words words.now hand.new) k ≡ told blocks (W.words words.now hand.old) k }
     ensures may { W.may_store words.now hand.new }
@@ -136,6 +141,9 @@ pub(crate) fn cut<W: Words>(words: &W, hand: &mut W::Hand, blocks: usize, at: Po
         (rank blocks (W.words words.now hand.old) at.block at.place)
         (rank blocks (W.words words.now hand.old) at.block at.place + gone) [] }
     ensures count { blocks_of blocks (W.words words.now hand.new) ≤ blocks_of blocks (W.words words.now hand.old) }
+    ensures went { blocks_of blocks (W.words words.now hand.new) < blocks_of blocks (W.words words.now hand.old)
+        → HaveGone blocks (W.words words.now hand.old) (W.words words.now hand.new)
+        (rank blocks (W.words words.now hand.old) at.block at.place) (rank blocks (W.words words.now hand.old) at.block at.place + gone) }
     ensures short { rows_of blocks (W.words words.now hand.new) 0 < 64 }
     ensures may { W.may_store words.now hand.new }
     ensures rows { (w : ℕ) → W.is_row words.now hand.old w → W.is_row words.now hand.new w }

@@ -1,5 +1,5 @@
-//! Words that move: up by one, where one comes before them, and down or away, one after another. A row is stored where
-//! another word stands, so each of these loads what stands first.
+//! Words that move: up by one, where one comes before them, and down or away, one after another. A word is stored where
+//! another one stands, so each of these loads what stands first.
 ghost use Rattle.std.specs.Prelude.{ℕ, ◌≡◌, ◌<◌, ◌≤◌, ◌+◌, ◌-◌, ◌*◌, ◌^◌, ◌⊎◌, length, slice_index, slice_set};
 ghost use Rattle.row_blocks.specs.Moves.{IsPushed, IsCopied};
 
@@ -44,6 +44,9 @@ pub(crate) fn exchange_layout<W: Words>(
     ensures steps { W.steps words.now hand.new ≤ W.steps words.now hand.old + 2 }
 {
     let stood = words.load(hand, place);
+    if stood == word {
+        return stood;
+    }
     words.store_layout(hand, place, word);
     stood
 }

@@ -1,6 +1,6 @@
 //! Blocks that go: their heads make room, and their bodies become free. By exchanges of two body words a removal takes
 //! no memory, and after each of them every body still is of one block or free.
-ghost use Rattle.std.specs.Prelude.{ℕ, All, [], ◌≡◌, ◌+◌, ◌-◌, ◌*◌, ◌<◌, ◌≤◌, length};
+ghost use Rattle.std.specs.Prelude.{ℕ, All, [], ◌≡◌, ◌≢◌, ◌+◌, ◌-◌, ◌*◌, ◌<◌, ◌≤◌, length};
 ghost use Rattle.std.specs.List.{splice};
 ghost use Rattle.row_blocks.specs.Blocks.{AreBodies, IsLaidOut, blocks_of, count_to, rows_in, told};
 ghost use Rattle.row_blocks.specs.Moves.{IsSwapped, IsRotated};
@@ -16,6 +16,7 @@ fn swap<W: Words>(words: &W, hand: &mut W::Hand, blocks: usize, one: usize, othe
     requires bodies { AreBodies blocks (W.words words.now hand.old) }
     requires one { one < blocks }
     requires other { other < blocks }
+    requires apart { one ≢ other }
     requires wide { 129 * blocks + 1 ≤ length (W.words words.now hand.old) }
     ensures bodies { AreBodies blocks (W.words words.now hand.new) }
     ensures swapped { IsSwapped (W.words words.now hand.old) (W.words words.now hand.new) (128 * blocks + 1 + one) (128 * blocks + 1 + other) }

@@ -4,6 +4,7 @@
 ghost use Rattle.std.specs.Prelude.{ℕ, All, [], ◌≡◌, ◌≢◌, ◌+◌, ◌-◌, ◌*◌, ◌/◌, ◌<◌, ◌≤◌, length, slice_index};
 ghost use Rattle.std.specs.List.{splice};
 ghost use Rattle.row_blocks.specs.Blocks.{IsLaidOut, blocks_of, rows_of, rows_in, count_to, rank, told};
+ghost use Rattle.row_blocks.specs.Limits.{limit_of};
 
 use crate::positions::{Position, body_of};
 use crate::splitting::split;
@@ -17,6 +18,7 @@ pub(crate) fn most_rows(blocks: usize, count: usize, block: usize) -> usize
     ensures low { 32 ≤ result }
     ensures high { result ≤ 128 }
     ensures first { block ≡ 0 → result ≤ 64 }
+    ensures limit { result ≡ limit_of blocks count block }
 {
     if count < 256 && 2 * count < blocks {
         return 32;
@@ -116,6 +118,10 @@ pub(crate) fn make_room<W: Words>(
     ensures rank { rank blocks (W.words words.now hand.new) result.block result.place ≡ rank blocks (W.words words.now hand.old) at.block at.place }
     ensures room { rows_of blocks (W.words words.now hand.new) result.block + more < 128 }
     ensures first { result.block ≡ 0 → rows_of blocks (W.words words.now hand.new) 0 + more < 64 }
+    ensures split { limit_of blocks (blocks_of blocks (W.words words.now hand.old)) at.block < rows_of blocks (W.words words.now hand.old) at.block + 1 + more
+        → blocks_of blocks (W.words words.now hand.new) ≡ blocks_of blocks (W.words words.now hand.old) + 1 }
+    ensures stays { rows_of blocks (W.words words.now hand.old) at.block + 1 + more ≤ limit_of blocks (blocks_of blocks (W.words words.now hand.old)) at.block
+        → blocks_of blocks (W.words words.now hand.new) ≡ blocks_of blocks (W.words words.now hand.old) }
     ensures may { W.may_store words.now hand.new }
     ensures rows { (w : ℕ) → W.is_row words.now hand.old w → W.is_row words.now hand.new w }
     ensures kept { W.kept words.now hand.old hand.new }

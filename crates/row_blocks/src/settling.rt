@@ -3,6 +3,7 @@
 //! behind block 0, there were more rows than room. A reader may rely on the rows being the same.
 ghost use Rattle.std.specs.Prelude.{ℕ, All, ◌≡◌, ◌≢◌, ◌+◌, ◌-◌, ◌*◌, ◌<◌, ◌≤◌, length};
 ghost use Rattle.row_blocks.specs.Blocks.{IsLaidOut, blocks_of, rows_of, rows_in};
+ghost use Rattle.row_blocks.specs.Limits.{AreFew, IsMerged};
 
 use crate::merging::merge;
 use crate::positions::body_of;
@@ -52,6 +53,7 @@ fn free_one<W: Words>(words: &W, hand: &mut W::Hand, blocks: usize)
     ensures same { rows_in blocks (W.words words.now hand.new) ≡ rows_in blocks (W.words words.now hand.old) }
     ensures free { blocks_of blocks (W.words words.now hand.new) < blocks }
     ensures first { rows_of blocks (W.words words.now hand.new) 0 ≡ rows_of blocks (W.words words.now hand.old) 0 }
+    ensures count { blocks_of blocks (W.words words.now hand.new) + 1 ≡ blocks }
     ensures may { W.may_store words.now hand.new }
     ensures rows { (w : ℕ) → W.is_row words.now hand.old w → W.is_row words.now hand.new w }
     ensures kept { W.kept words.now hand.old hand.new }
@@ -74,6 +76,8 @@ fn merge_few<W: Words>(words: &W, hand: &mut W::Hand, blocks: usize, count: usiz
     ensures laid { IsLaidOut blocks (W.words words.now hand.new) }
     ensures same { rows_in blocks (W.words words.now hand.new) ≡ rows_in blocks (W.words words.now hand.old) }
     ensures count { blocks_of blocks (W.words words.now hand.new) ≤ count }
+    ensures few { AreFew blocks (W.words words.now hand.old) near → IsMerged blocks (W.words words.now hand.old) (W.words words.now hand.new) near }
+    ensures many { ¬ AreFew blocks (W.words words.now hand.old) near → W.words words.now hand.new ≡ W.words words.now hand.old }
     ensures short { rows_of blocks (W.words words.now hand.new) 0 < 64 }
     ensures may { W.may_store words.now hand.new }
     ensures rows { (w : ℕ) → W.is_row words.now hand.old w → W.is_row words.now hand.new w }
@@ -85,7 +89,7 @@ fn merge_few<W: Words>(words: &W, hand: &mut W::Hand, blocks: usize, count: usiz
     }
     let one = body_of(words, hand, blocks, near);
     let other = body_of(words, hand, blocks, near + 1);
-    if 2 * (one.rows + other.rows + 2) > most_rows(blocks, count, near) {
+    if 2 * (one.rows + other.rows + 2) > most_rows(blocks, count - 1, near) {
         return;
     }
     merge(words, hand, blocks, near);
@@ -112,6 +116,13 @@ pub(crate) fn settle<W: Words>(
     ensures same { rows_in blocks (W.words words.now hand.new) ≡ rows_in blocks (W.words words.now hand.old) }
     ensures free { blocks_of blocks (W.words words.now hand.new) < blocks }
     ensures short { rows_of blocks (W.words words.now hand.new) 0 < 64 }
+    ensures freed { blocks_of blocks (W.words words.now hand.old) ≡ blocks → blocks_of blocks (W.words words.now hand.new) + 1 ≡ blocks }
+    ensures left { blocks_of blocks (W.words words.now hand.old) ≢ blocks → blocks_of blocks (W.words words.now hand.old) ≢ before
+        → W.words words.now hand.new ≡ W.words words.now hand.old }
+    ensures few { blocks_of blocks (W.words words.now hand.old) ≢ blocks → blocks_of blocks (W.words words.now hand.old) ≡ before
+        → AreFew blocks (W.words words.now hand.old) near → IsMerged blocks (W.words words.now hand.old) (W.words words.now hand.new) near }
+    ensures many { blocks_of blocks (W.words words.now hand.old) ≢ blocks → ¬ AreFew blocks (W.words words.now hand.old) near
+        → W.words words.now hand.new ≡ W.words words.now hand.old }
     ensures may { W.may_store words.now hand.new }
     ensures rows { (w : ℕ) → W.is_row words.now hand.old w → W.is_row words.now hand.new w }
     ensures kept { W.kept words.now hand.old hand.new }

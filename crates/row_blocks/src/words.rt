@@ -1,7 +1,7 @@
 //! Words that are loaded and stored one by one by a hand, and whose steps are counted. Whoever keeps them says what the
 //! hand is: a caller of a shared space loads and stores words of its table while it holds all pages, and a test has a
 //! list. A reader may rely on each store being of a row that the change has before or after it, at the place of a row,
-//! where another word stands; or of a word of the layout.
+//! or of a word of the layout; and on another word standing there.
 ghost use Rattle.std.specs.Prelude.{ℕ, List, ◌≡◌, ◌≢◌, ◌<◌, ◌≤◌, ◌+◌, ◌*◌, length, slice_index, slice_set};
 
 /// Words that a hand may load. It then says what that leaves of the hand.
@@ -60,11 +60,12 @@ pub trait Words: Loads {
         ensures kept { Self.kept self.now hand.old hand.new }
         ensures step { Self.steps self.now hand.new ≡ Self.steps self.now hand.old + 1 };
 
-    /// Stores a word of the layout: the block count, or a body word.
+    /// Stores a word of the layout, the block count or a body word, where another word stands.
     fn store_layout(&self, hand: &mut Self::Hand, place: usize, word: u64)
         requires may { Self.may_store self.now hand.old }
         requires layout { 128 * Self.blocks self.now ≤ place }
         requires there { place < length (Self.words self.now hand.old) }
+        requires differs { slice_index (Self.words self.now hand.old) place ≢ word }
         ensures words { Self.words self.now hand.new ≡ slice_set (Self.words self.now hand.old) place word }
         ensures may { Self.may_store self.now hand.new }
         ensures rows { (w : ℕ) → Self.is_row self.now hand.old w → Self.is_row self.now hand.new w }

@@ -1,9 +1,10 @@
 //! A splice of the rows, written: rows are laid over those that go, and then either more come or the rest goes. At
 //! most one block is split, and where all blocks are in use then, two are merged. A reader may rely on a splice taking
 //! no memory, and on a block being free again behind it.
-ghost use Rattle.std.specs.Prelude.{ℕ, All, ◌≡◌, ◌+◌, ◌-◌, ◌*◌, ◌<◌, ◌≤◌, length};
+ghost use Rattle.std.specs.Prelude.{ℕ, All, ◌≡◌, ◌+◌, ◌-◌, ◌*◌, ◌<◌, ◌≤◌, length, min};
 ghost use Rattle.std.specs.List.{splice};
 ghost use Rattle.row_blocks.specs.Blocks.{IsLaidOut, blocks_of, rows_of, rows_in, rank};
+ghost use Rattle.row_blocks.specs.Limits.{HasSettled, IsPlaceIn, Replaces};
 
 use crate::coming::come;
 use crate::cutting::cut;
@@ -38,7 +39,11 @@ fn replace<W: Words>(
     ensures spliced { rows_in blocks (W.words words.now hand.new) ≡ splice (rows_in blocks (W.words words.now hand.old))
         (rank blocks (W.words words.now hand.old) at.block at.place)
         (rank blocks (W.words words.now hand.old) at.block at.place + gone) more.now }
-    ensures near { result < blocks }
+    ensures near { IsPlaceIn blocks (W.words words.now hand.old) result
+        (rank blocks (W.words words.now hand.old) at.block at.place + min gone (length more.now)) }
+    ensures grew { Replaces blocks (W.words words.now hand.old) (W.words words.now hand.new) result (length more.now - gone)
+        (rank blocks (W.words words.now hand.old) at.block at.place + min gone (length more.now))
+        (rank blocks (W.words words.now hand.old) at.block at.place + gone) }
     ensures short { rows_of blocks (W.words words.now hand.new) 0 < 64 }
     ensures may { W.may_store words.now hand.new }
     ensures rows { (w : ℕ) → W.is_row words.now hand.old w → W.is_row words.now hand.new w }
@@ -86,12 +91,15 @@ pub fn write<W: Words>(
     ensures spliced { rows_in blocks (W.words words.now hand.new) ≡ splice (rows_in blocks (W.words words.now hand.old))
         (rank blocks (W.words words.now hand.old) at.block at.place)
         (rank blocks (W.words words.now hand.old) at.block at.place + gone) more.now }
+    ensures settled { HasSettled blocks (W.words words.now hand.old) (W.words words.now hand.new) (length more.now - gone)
+        (rank blocks (W.words words.now hand.old) at.block at.place + min gone (length more.now))
+        (rank blocks (W.words words.now hand.old) at.block at.place + gone) }
     ensures free { blocks_of blocks (W.words words.now hand.new) < blocks }
     ensures short { rows_of blocks (W.words words.now hand.new) 0 < 64 }
     ensures may { W.may_store words.now hand.new }
     ensures rows { (w : ℕ) → W.is_row words.now hand.old w → W.is_row words.now hand.new w }
     ensures kept { W.kept words.now hand.old hand.new }
-    ensures steps { W.steps words.now hand.new ≤ W.steps words.now hand.old + (2 * length more.now + 13 * blocks + 1830) }
+    ensures steps { W.steps words.now hand.new ≤ W.steps words.now hand.old + (2 * length more.now + 13 * blocks + 1829) }
 {
     let before = words.load(hand, 128 * blocks) as usize;
     let near = replace(words, hand, blocks, at, gone, more);

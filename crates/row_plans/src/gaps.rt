@@ -2,7 +2,7 @@
 //! search for a place needn't begin higher up. Linux kept the like with each address space up to version 3.7. Here is
 //! what a search makes of the word, and what becomes of it where a call changes pages. A reader may rely on the word
 //! being right for the kinds before a search, and for those after a change.
-ghost use Rattle.std.specs.Prelude.{ℕ, ◌≢◌, ◌<◌, ◌≤◌, ◌-◌, Option, None, IsTrue, IsFalse};
+ghost use Rattle.std.specs.Prelude.{ℕ, ◌≡◌, ◌≢◌, ◌<◌, ◌≤◌, ◌-◌, Option, None, IsTrue, IsFalse};
 ghost use Rattle.page_types.specs.declared.TheConstants.{LIMIT, LOW};
 ghost use Rattle.page_types.specs.declared.calls.Kind.{Kind};
 ghost use Rattle.space_model.specs.declared.judged.Judged.TheVariants.{Changes};
@@ -24,6 +24,7 @@ pub(crate) const GAP_PAGES: u64 = 268_435_456;
 fn write_gap(pages: u64, end: u64) -> u64
     requires end { end ≤ LOW }
     ensures right { (kinds : ℕ → Option Kind) → NoneEndsAbove kinds LOW pages end → IsGapWord kinds result }
+    ensures names { pages < 268435456 → (gap_pages result ≡ pages) × (gap_end result ≡ end) }
 {
     if pages >= GAP_PAGES {
         return 0;

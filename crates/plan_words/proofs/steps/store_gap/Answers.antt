@@ -5,7 +5,7 @@ use Rattle.plan_words.proofs.steps.store_gap.Goals as goal
 -- the guard allows the store of the gap word
 pub store_as_uncounted-requires-clause-allowed : goal.store_as_uncounted-requires-clause-allowed
 store_as_uncounted-requires-clause-allowed c = let s = c.args.seat.now in let w = c.requires.writes in
-    may_store_gap s.number w.holds.held w.holds.knows (plan_at s) w.pending c.args.word
+    may_store_gap s.number w.holds.held w.holds.knows (plan_at s) w.pending c.args.word c.requires.noted c.requires.differs
 
 -- it was one step, with which the caller notes that word
 pub returns : goal.returns

@@ -6,6 +6,7 @@ use Rattle.plan_words.proofs.steps.store_layout.Goals as goal
 pub store_as_uncounted-requires-clause-allowed : goal.store_as_uncounted-requires-clause-allowed
 store_as_uncounted-requires-clause-allowed c = let s = c.args.seat.now in let w = c.requires.writes in
     may_store_layout s.number w.holds.held w.holds.knows (plan_at s) w.pending c.args.place c.args.word c.requires.layout c.requires.place
+    c.requires.differs
 
 -- it was one step, which left that word among those that the seat knows
 pub returns : goal.returns

@@ -55,6 +55,11 @@ write_count-requires-clause-left c =
     let long = length-splice (known_rows s.pass) c.args.more.now from (from + c.args.gone) (omega arith) (omega arith) in
     omega arith
 
+-- the seat has noted the gap word
+pub write_gap-requires-clause-noted : goal.write_gap-requires-clause-noted
+write_gap-requires-clause-noted c =
+    let gap = c.requires.stood in (gap.0, c.write_count.ensures.gap gap.0 (c.write_rows.ensures.writing.2 gap.0 gap.1))
+
 -- where no row goes and none comes the gap word that the seat has noted is right for the rows after the splice
 pub write_gap-requires-clause-stood : goal.write_gap-requires-clause-stood
 write_gap-requires-clause-stood c = λ none no_more.

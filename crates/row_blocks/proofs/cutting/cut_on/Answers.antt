@@ -1,4 +1,4 @@
-use Rattle.std.proofs.Common.{[], refl, ap, ◌∙◌, arith}
+use Rattle.std.proofs.Common.{[], ◌≡◌, ◌+◌, ◌-◌, refl, ap, ◌∙◌, arith}
 use Rattle.row_blocks.specs.Blocks.{count_to}
 use Rattle.row_blocks.proofs.RowSplices.{same_splice}
 use Rattle.row_blocks.proofs.Cuts.{count_told, blocks_gone}
@@ -11,6 +11,34 @@ returns-then-end-first-clause-spliced g c =
     let one = g.W.Loads.words c.args.words.now c.args.hand.now in
     let begin = count_told c.args.blocks _ _ _ was.before ∙ ap (count_to c.args.blocks one) c.if-end-first.true in
     same_splice [] was.spliced refl begin refl
+
+-- no block has gone
+pub returns-then-end-first-clause-went : goal.returns-then-end-first-clause-went
+returns-then-end-first-clause-went g c =
+    let was = c.cut_blocks-end.ensures in
+    let none = c.requires.there in
+    let e : c.args.first + 0 ≡ c.args.first = omega arith in
+    let same = ap (count_to c.args.blocks (g.W.Loads.words c.args.words.now c.args.hand.now)) e in
+    record { first = c.args.first; count = 0; there = omega arith; begin = omega arith; whole = omega arith; went = omega arith }
+
+-- or those up to the first of which rows are left
+pub returns-clause-went : goal.returns-clause-went
+returns-clause-went g c =
+    let was = c.cut_blocks-end.ensures in
+    let e : c.args.first + (c.cut_blocks-end.result - c.args.first) ≡ c.cut_blocks-end.result = omega arith in
+    let same = ap (count_to c.args.blocks (g.W.Loads.words c.args.words.now c.args.hand.now)) e in
+    let whole = was.whole in
+    let there = was.there in
+    let out = c.take_out.ensures.count in
+    let count = was.count in
+    record {
+      first = c.args.first;
+      count = c.cut_blocks-end.result - c.args.first;
+      there = omega arith;
+      begin = omega arith;
+      whole = omega arith;
+      went = omega arith;
+    }
 
 -- or of whole blocks, and of the one behind them
 pub returns-clause-spliced : goal.returns-clause-spliced

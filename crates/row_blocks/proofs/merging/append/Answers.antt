@@ -1,5 +1,7 @@
-use Rattle.std.proofs.Common.{ℕ, ◌≡◌, ◌+◌, ◌*◌, ◌/◌, List, refl, sym, ap, subst, ◌∙◌, arith}
+use Rattle.std.proofs.Common.{ℕ, ◌≡◌, ◌+◌, ◌*◌, ◌/◌, ◌%◌, List, refl, sym, ap, subst, ◌∙◌, arith}
 use Rattle.std.specs.Prelude.{slice_index}
+use Rattle.std.proofs.lemmas.List.{get_or-set_other}
+use Rattle.row_blocks.proofs.Settlings.{stands_other}
 use Rattle.row_blocks.proofs.Puts.{still_laid, count_stays, body_word_stays, other_block}
 use Rattle.row_blocks.proofs.Appends.{is_appended, started_stays, append_only, append_more, both}
 use Rattle.row_blocks.proofs.Places.{first_loaded, others_loaded}
@@ -30,6 +32,20 @@ copy-requires-clause-rows g c =
     (c.exchange.ensures.rows _ (c.load-head.ensures.rows _ (c.load-other.ensures.rows _ (c.load-packed.ensures.rows _
     (others_loaded nb one (c.args.i + 1) c.requires.laid c.requires.there (g.W.Loads.is_row ws c.args.hand.now) (g.W.Loads.is_row ws c.args.hand.now)
     (λ w r. r) refl other c.requires.rows s (omega arith) (omega arith))))))
+
+-- more rows are another body word
+pub store_layout-requires-clause-differs : goal.store_layout-requires-clause-differs
+store_layout-requires-clause-differs g c =
+    let nb = c.args.blocks in
+    let body = c.requires.laid.bodies c.args.i (omega arith) in
+    let told : ℕ = 128 * nb + 1 + c.args.i in
+    let loaded = c.load-head.ensures.words ∙ (c.load-other.ensures.words ∙ c.load-packed.ensures.words) in
+    let other = c.load-other.ensures.word ∙ ap (λ (l : List ℕ). slice_index l (128 * nb + 1 + (c.args.i + 1))) c.load-packed.ensures.words in
+    let room = c.requires.room in
+    let mid = g.W.Loads.words c.args.words.now c.load-head.new.hand in
+    let head = ap (λ (l : List ℕ). slice_index l told) c.exchange.ensures.words
+    ∙ get_or-set_other mid (nb + 127 * (c.load-packed.result / 128) + c.load-packed.result % 128) told c.load-head.result 0 (λ e. omega arith) in
+    stands_other _ told loaded c.load-packed.ensures.word (c.copy.ensures.copied.above told (omega arith) ∙ head) (λ e. omega arith)
 
 -- what stands after all stores: only the lower block has changed, and has the rows of both
 pub returns : goal.returns

@@ -1,15 +1,25 @@
-use Rattle.std.proofs.Common.{[], ◌≡◌, ◌+◌, ◌-◌, refl, ap, arith}
+use Rattle.std.proofs.Common.{ℕ, [], ◌≡◌, ◌+◌, ◌-◌, ◌*◌, ◌∙◌, refl, ap, arith}
 use Rattle.row_blocks.specs.Blocks.{count_to}
 use Rattle.row_blocks.specs.Moves.{IsCopied}
 use Rattle.row_blocks.proofs.RowSplices.{same_splice}
 use Rattle.row_blocks.proofs.Removals.{is_out, rows_taken}
 use Rattle.row_blocks.proofs.Places.{first_loaded}
+use Rattle.row_blocks.proofs.Settlings.{stands_other}
 use Rattle.row_blocks.proofs.removing.take_out.Goals as goal
 
 -- heads are rows
 pub copy-requires-clause-rows : goal.copy-requires-clause-rows
 copy-requires-clause-rows g c =
     λ m lt. first_loaded _ _ (c.args.end + m) c.requires.laid (omega arith) _ _ c.load-count.ensures.rows c.load-count.ensures.words c.requires.rows
+
+-- there are fewer blocks
+pub store_layout-requires-clause-differs : goal.store_layout-requires-clause-differs
+store_layout-requires-clause-differs g c =
+    let load = c.load-count.ensures in
+    let place : ℕ = 128 * c.args.blocks in
+    let still = c.rotate.ensures.rotated.below place (omega arith) ∙ c.copy.ensures.copied.above place (omega arith) in
+    let there = c.requires.there in
+    stands_other _ place load.words load.word still (λ e. omega arith)
 
 -- what stands after the stores
 pub returns : goal.returns

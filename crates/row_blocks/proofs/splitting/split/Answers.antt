@@ -2,7 +2,8 @@ use Rattle.std.proofs.Common.{ℕ, ◌≡◌, ◌+◌, ◌-◌, ◌*◌, ◌/◌
 use Rattle.std.specs.Prelude.{slice_index}
 use Rattle.std.proofs.lemmas.Grind.{common_steps}
 use Rattle.row_blocks.specs.Blocks.{body_at}
-use Rattle.row_blocks.proofs.Splits.{HasRead, split_copied, lower_stays, split_done, laid_split, rows_split, split_lower, split_upper}
+use Rattle.std.proofs.lemmas.List.{get_or-set_other}
+use Rattle.row_blocks.proofs.Splits.{HasRead, layout_still, split_copied, lower_stays, split_done, laid_split, rows_split, split_lower, split_upper}
 use Rattle.row_blocks.proofs.Places.{head_is_row, body_is_row, others_loaded}
 use Rattle.row_blocks.proofs.splitting.split.Given.{Over}
 use Rattle.row_blocks.proofs.splitting.split.Goals.{After-load-free, After-load-head}
@@ -62,6 +63,31 @@ raise-requires-clause-rows g c =
     ∙ (c.copy.ensures.copied.below s (omega arith) ∙ ap (λ (l : List ℕ). slice_index l s) (loaded g h.After-load-free).same) in
     subst (g.W.Loads.is_row ws c.load-head.new.hand) (sym here) (row_still g h.After-load-head _
     (head_is_row _ one s c.requires.laid (omega arith) (g.W.Loads.is_row ws c.args.hand.now) c.requires.rows))
+
+-- the lower half's body word is another one
+pub store_layout-requires-clause-differs : goal.store_layout-requires-clause-differs
+store_layout-requires-clause-differs g c =
+    let h = goal.at.store_layout-requires-clause-differs g c in
+    let nb = c.args.blocks in
+    let told : ℕ = 128 * nb + 1 + c.args.i in
+    let found = loaded g h.After-load-free in
+    let still = layout_still found _ _ c.args.place _ _ told c.requires.laid c.requires.free (omega arith) c.copy.ensures.copied c.load-head.ensures.words
+    c.raise.ensures.pushed c.raise_layout.ensures.pushed (omega arith) in
+    λ e. let read = found.read in let within = c.requires.place in omega arith
+
+-- and there is one block more
+pub store_layout-requires-2-clause-differs : goal.store_layout-requires-2-clause-differs
+store_layout-requires-2-clause-differs g c =
+    let h = goal.at.store_layout-requires-2-clause-differs g c in
+    let ws = c.args.words.now in
+    let nb = c.args.blocks in
+    let place : ℕ = 128 * nb in
+    let found = loaded g h.After-load-free in
+    let still = layout_still found _ _ c.args.place _ _ place c.requires.laid c.requires.free (omega arith) c.copy.ensures.copied c.load-head.ensures.words
+    c.raise.ensures.pushed c.raise_layout.ensures.pushed (omega arith) in
+    let less = ap (λ (l : List ℕ). slice_index l place) c.store_layout.ensures.words
+    ∙ get_or-set_other (g.W.Loads.words ws c.raise_layout.new.hand) (128 * nb + 1 + c.args.i) place _ 0 (λ e. omega arith) in
+    λ e. let counted = found.counted in omega arith
 
 -- what stands then: the same rows, in one block more
 pub returns : goal.returns

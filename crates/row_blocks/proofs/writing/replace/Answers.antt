@@ -2,6 +2,7 @@ use Rattle.std.proofs.Common.{ℕ, [], ◌≡◌, ◌-◌, List, ◌++◌, lengt
 use Rattle.std.proofs.lemmas.List.{append-nil, take-append-drop, length-take-le, length-drop, take_all}
 use Rattle.std.proofs.lemmas.List.Elements.{All-weaker, All-take, All-drop}
 use Rattle.row_blocks.proofs.Lays.{same_layout, rows_long}
+use Rattle.row_blocks.proofs.Settlings.{place_in, grows_or_keeps, shrinks_or_keeps}
 use Rattle.row_blocks.proofs.Writes.{all_written, laid_then}
 use Rattle.row_blocks.proofs.writing.replace.Goals as goal
 
@@ -19,6 +20,27 @@ come-requires-clause-new g c =
     let rest : List ℕ = drop c.args.gone more in
     All-weaker P (g.W.Loads.is_row c.args.words.now c.lay-to.new.hand) c.lay-to.ensures.rows (take (length more - c.args.gone) rest)
     (All-take P (length more - c.args.gone) rest (All-drop P c.args.gone more c.requires.new))
+
+-- the place behind those that were laid is in the block that is given
+pub returns-then-gone-more-clause-near : goal.returns-then-gone-more-clause-near
+returns-then-gone-more-clause-near g c =
+    let lay = c.lay-to.ensures in
+    let less = c.if-gone-more.true in
+    let long = length-take-le c.args.gone c.args.more.now (omega arith) in
+    let rank_two = lay.rank in
+    place_in lay.there lay.place (omega arith)
+
+-- which is split where rows that come are too many for it
+pub returns-then-gone-more-clause-grew : goal.returns-then-gone-more-clause-grew
+returns-then-gone-more-clause-grew g c =
+    let more = c.args.more.now in
+    let gone = c.args.gone in
+    let come = c.come.ensures in
+    let less = c.if-gone-more.true in
+    let same = same_layout c.lay-to.ensures.layout in
+    let rest : length (take (length more - gone) (drop gone more)) ≡ length more - gone =
+    length-take-le (length more - gone) (drop gone more) (let l = length-drop gone more in omega arith) in
+    grows_or_keeps _ _ (omega arith) same.count (same.rows c.lay-to.result.block) rest come.split come.stays
 
 -- others stand over all rows that go, and more have come behind them
 pub returns-then-gone-more-clause-spliced : goal.returns-then-gone-more-clause-spliced
@@ -54,6 +76,24 @@ cut-requires-clause-fits g c =
     let fits = c.requires.fits in
     let all = c.if-gone-more.false in
     omega arith
+
+-- the place behind those that were laid is in the block that is given
+pub returns-clause-near : goal.returns-clause-near
+returns-clause-near g c =
+    let lay = c.lay-to-2.ensures in
+    let all = c.if-gone-more.false in
+    let rank_two = lay.rank in
+    place_in lay.there lay.place (omega arith)
+
+-- and blocks go where all of their rows go
+pub returns-clause-grew : goal.returns-clause-grew
+returns-clause-grew g c =
+    let lay = c.lay-to-2.ensures in
+    let all = c.if-gone-more.false in
+    let same = same_layout lay.layout in
+    let before = same.before c.lay-to-2.result.block in
+    let rank_two = lay.rank in
+    shrinks_or_keeps _ _ _ (omega arith) same.count same.before (omega arith) (omega arith) c.cut.ensures.count c.cut.ensures.went
 
 -- others stand over some rows that go, and the rest has gone
 pub returns-clause-spliced : goal.returns-clause-spliced

@@ -6,4 +6,5 @@ use Rattle.row_plans.proofs.gaps.write_gap.Goals as goal
 pub returns : goal.returns
 returns c = record {
   right = λ kinds ended. let few = c.if-pages-ge-GAP_PAGES.false in gap_written kinds c.args.pages c.args.end _ (omega arith) refl ended;
+  names = λ few. (omega arith, omega arith);
 }
