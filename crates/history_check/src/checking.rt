@@ -10,32 +10,44 @@ use crate::rest::rest_verdict;
 use crate::taking::Seen;
 use crate::verdict::Verdict;
 use line_parts::{What, begins, next_line, skip_digits};
-use space_model::PlainSpace;
+use space_model::{PlainSpace, ReservedSpace};
 use std::alloc::AllocError;
 
 /// Says whether the text is a good log from this space, and how many entries it has, or its first wrong line and why.
 ///
 /// The text has at most 2^26 bytes. Its lines are counted from 1, and a last line that lacks its newline counts as
-/// whole. `AllocError`: the space couldn't grow for a call of the log; nothing else takes memory.
+/// whole. `AllocError`: there was no room for a space that judges; the text wasn't read then. `judged` has no such
+/// answer, for a space whose room was reserved before.
 pub fn check(start: PlainSpace, text: &[u8]) -> Result<Verdict, AllocError>
     requires { length text.now ≤ 2 ^ 26 }
     ensures found { IfOk result (IsVerdict start (lines_of text.now)) }
     ensures only { (v : Verdict) → IsVerdict start (lines_of text.now) v → IfOk result (λ w. w ≡ v) }
+{
+    let space = start.reserved()?;
+    Ok(judged(space, text))
+}
+
+/// The same from a space whose room is reserved. It takes no memory, so each text of at most 2^26 bytes has its verdict.
+pub fn judged(start: ReservedSpace, text: &[u8]) -> Verdict
+    requires { length text.now ≤ 2 ^ 26 }
+    ensures found { IsVerdict start (lines_of text.now) result }
+    ensures only { (v : Verdict) → IsVerdict start (lines_of text.now) v → result ≡ v }
 {
     let mut space = start;
     let mut seen = Seen::new();
     let mut rest = text;
     'log: while let Some((line, behind)) = next_line(rest) {
         if !begins_log(line) {
-            return Ok(rest_verdict(space.areas(), seen.next, rest));
+            let areas = space.into_areas();
+            return rest_verdict(areas.as_slice(), seen.next, rest);
         }
         let number = seen.next + 1;
-        if let Some(why) = seen.take(&mut space, line)? {
-            return Ok(Verdict::Wrong { line: number, why });
+        if let Some(why) = seen.take(&mut space, line) {
+            return Verdict::Wrong { line: number, why };
         }
         rest = behind;
     }
-    Ok(Verdict::Legal { entries: seen.next })
+    Verdict::Legal { entries: seen.next }
 }
 
 /// Whether the line begins as one of a log, with decimal digits and a space.

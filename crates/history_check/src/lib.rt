@@ -16,7 +16,7 @@ mod rest;
 mod taking;
 mod verdict;
 
-pub use checking::check;
+pub use checking::{check, judged};
 pub use holding::fits;
 pub use laws::printed_logs_are_good;
 pub use line::read_log_line;

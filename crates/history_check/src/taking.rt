@@ -1,7 +1,7 @@
 //! One line of the log after another: what is remembered of the entries before, and whether the next line goes on
 //! rightly behind them. Of the entries only their number and the last line of each worker are kept, and the space that
 //! they leave; so a check takes no memory but the space's own. Its causes are asked in the order of `WrongLog`.
-ghost use Rattle.std.specs.Prelude.{◌≡◌, ◌+◌, ◌<◌, ◌^◌, [], ◌∷◌, ◌++◌, List, ℕ, IfOk, IsTrue, ◌↔◌};
+ghost use Rattle.std.specs.Prelude.{◌≡◌, ◌+◌, ◌<◌, ◌^◌, [], ◌∷◌, ◌++◌, List, ℕ, IsTrue, ◌↔◌};
 ghost use Rattle.page_types.specs.Named.{IsNamedCall};
 ghost use Rattle.space_model.specs.declared.entries.Entry.{Entry};
 ghost use Rattle.history_check.specs.Checking.{IsInPlace, IsSeen, IsTaken, TellsCall, TellsPlace};
@@ -10,8 +10,7 @@ use crate::holding::may_be;
 use crate::line::read_log_line;
 use crate::verdict::WrongLog;
 use page_types::Reply;
-use space_model::{Entry, PlainSpace};
-use std::alloc::AllocError;
+use space_model::{Entry, ReservedSpace};
 
 /// How many workers a log may name.
 const WORKERS: usize = 16;
@@ -37,26 +36,21 @@ impl Seen {
     }
 
     /// Takes the next line of the log, whose call changes the space; or says why it is wrong there.
-    pub(crate) fn take(
-        &mut self,
-        space: &mut PlainSpace,
-        text: &[u8],
-    ) -> Result<Option<WrongLog>, AllocError>
+    pub(crate) fn take(&mut self, space: &mut ReservedSpace, text: &[u8]) -> Option<WrongLog>
         requires { self.old.next + 1 < 2 ^ 32 }
-        ensures { IfOk result (λ wrong. (before : List Entry) → IsSeen before self.old →
-            IsTaken before space.old text.now wrong space.new self.new) }
+        ensures { (before : List Entry) → IsSeen before self.old → IsTaken before space.old text.now result space.new self.new }
     {
         let Some(entry) = read_log_line(text) else {
-            return Ok(Some(WrongLog::Form));
+            return Some(WrongLog::Form);
         };
         if let Some(why) = self.wrong_place(&entry) {
-            return Ok(Some(why));
+            return Some(why);
         }
-        if let Some(why) = wrong_call(space, &entry)? {
-            return Ok(Some(why));
+        if let Some(why) = wrong_call(space, &entry) {
+            return Some(why);
         }
         self.add(&entry);
-        Ok(None)
+        None
     }
 
     /// Whether the entry's number isn't that of its place, or its line isn't above the last one of its worker.
@@ -86,19 +80,18 @@ impl Seen {
 }
 
 /// Makes the entry's call, and says whether what it held doesn't fit there, or its reply isn't the space's.
-fn wrong_call(space: &mut PlainSpace, entry: &Entry) -> Result<Option<WrongLog>, AllocError>
+fn wrong_call(space: &mut ReservedSpace, entry: &Entry) -> Option<WrongLog>
     requires { IsNamedCall entry.now.call }
-    ensures { IfOk result (λ wrong. TellsCall space.old entry.now wrong space.new) }
+    ensures { TellsCall space.old entry.now result space.new }
 {
-    let _areas = space.areas();
-    let (reply, exact) = space.step_under(&entry.call)?;
+    let (reply, exact) = space.step_under(&entry.call);
     if !may_be(exact, entry.under) {
-        return Ok(Some(WrongLog::Held));
+        return Some(WrongLog::Held);
     }
     if !same_reply(entry.reply, reply) {
-        return Ok(Some(WrongLog::Reply));
+        return Some(WrongLog::Reply);
     }
-    Ok(None)
+    None
 }
 
 fn same_reply(one: Reply, other: Reply) -> bool

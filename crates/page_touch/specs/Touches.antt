@@ -1,7 +1,7 @@
 -- What a caller sees of a set of touched pages: its table, its seats, when it is opened, what a touch answers, and what
 -- the closing gives. A touch is First where it put the page there itself, and Seen where it read it; that each page's
 -- First comes once over all threads is `AreFirstTouches` of `Touched`. The limits are this project's own profile.
-use Rattle.std.specs.Prelude.{◌≡◌, ℕ, ◌^◌, ◌<◌, ◌≤◌, ◌+◌, List, [], ◌∷◌, ◌++◌, true, Option, Some, None, AllPairs, length, sum}
+use Rattle.std.specs.Prelude.{◌≡◌, ℕ, ◌^◌, ◌<◌, ◌≤◌, ◌+◌, ◌*◌, min, max, List, [], ◌∷◌, ◌++◌, true, Option, Some, None, AllPairs, length, sum}
 use Rattle.atomic_table.specs.Seated.{TableId}
 use Rattle.page_touch.specs.declared.table.TouchFault.{TouchFault}
 use Rattle.page_touch.specs.declared.table.TouchFault.TheVariants.{Seats, Room, Memory}
@@ -45,6 +45,10 @@ abbrev pub IsTouchFault : List ℕ → TouchFault → Type 0
 IsTouchFault quotas (Seats n) = (n ≡ length quotas) × ¬ (IsQuotaCount (length quotas))
 IsTouchFault quotas (Room n) = IsQuotaCount (length quotas) × (n ≡ sum quotas) × (2 ^ 20 < n)
 IsTouchFault quotas Memory = IsQuotaCount (length quotas) × (sum quotas ≤ 2 ^ 20)
+
+-- how many words a set has for so many touches: an odd number of about twice as many, at most 2^20
+abbrev pub room_for : ℕ → ℕ
+room_for total = max (min (2 * total + 1) 1048575) total
 
 -- a seat of a new table
 abbrev pub new_seat : TableId → ℕ → TouchView

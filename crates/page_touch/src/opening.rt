@@ -1,8 +1,8 @@
 //! Opening a set of touched pages, with a seat for each quota. All memory but that of the closing is taken here. A
 //! reader may rely on a refusal that names the number of seats or the room being exact; want of memory has no other
 //! cause.
-ghost use Rattle.std.specs.Prelude.{◌≡◌, ◌<◌, ◌≤◌, ◌^◌, ◌*◌, IfOk, IfErr, length, map, sum, max};
-ghost use Rattle.page_touch.specs.Touches.{IsQuotaCount, IsTouchFault, new_seat};
+ghost use Rattle.std.specs.Prelude.{◌≡◌, ◌<◌, ◌≤◌, ◌^◌, ◌*◌, IfOk, IfErr, length, map, sum};
+ghost use Rattle.page_touch.specs.Touches.{IsQuotaCount, IsTouchFault, new_seat, room_for};
 
 use crate::rule::TouchRule;
 use crate::table::{Token, TouchFault, TouchSeat, Touches};
@@ -27,6 +27,15 @@ fn total_of(quotas: &[u32]) -> u64
         i += 1;
     }
     total
+}
+
+/// How many words a set has for so many touches: an odd number, about twice as many, so that pages a power of two apart
+/// or as far apart as there are touches begin at different words; at most `MOST_ROOM`.
+fn room_for(total: u64) -> u32
+    requires { total ≤ 2 ^ 20 }
+    ensures { result ≡ room_for total }
+{
+    (2 * total + 1).min(MOST_ROOM - 1).max(total) as u32
 }
 
 impl Touches {
@@ -60,14 +69,14 @@ impl Touches {
     }
 
     /// An empty set with one seat for each quota, in their order. Each seat may touch as many pages as its quota says;
-    /// the set has one word for each of these, and at least one.
+    /// the set has about twice as many words, and at most 2^20.
     ///
     /// `Seats` comes exactly where the number of quotas is 0 or above 16, and otherwise `Room` exactly where their sum
     /// is above 2^20.
     pub fn open(alloc: Global, quotas: &[u32]) -> Result<(Touches, Vec<TouchSeat>), TouchFault>
         requires { length quotas.now < 2 ^ 32 }
         ensures count { IfOk result (λ _. IsQuotaCount (length quotas.now) × (sum quotas.now ≤ 2 ^ 20)) }
-        ensures shape { IfOk result (λ r. (r.0.seats ≡ length quotas.now) × (r.0.room ≡ max (sum quotas.now) 1) × (r.0.total ≡ sum quotas.now)) }
+        ensures shape { IfOk result (λ r. (r.0.seats ≡ length quotas.now) × (r.0.room ≡ room_for (sum quotas.now)) × (r.0.total ≡ sum quotas.now)) }
         ensures seats { IfOk result (λ r. r.1.items ≡ map (new_seat r.0.table) quotas.now) }
         ensures refused { IfErr result (IsTouchFault quotas.now) }
     {
@@ -78,7 +87,7 @@ impl Touches {
         if total > MOST_ROOM {
             return Err(TouchFault::Room(total));
         }
-        match Touches::open_at(alloc, quotas, total.max(1) as u32) {
+        match Touches::open_at(alloc, quotas, room_for(total)) {
             Ok(opened) => Ok(opened),
             Err(_) => Err(TouchFault::Memory),
         }

@@ -10,7 +10,7 @@ use Rattle.space_model.specs.declared.areas.Area.{Area}
 use Rattle.space_model.specs.Areas.{IsAreaList, kind_at}
 use Rattle.space_model.specs.Places.{FitsAt, IsHighestFit}
 use Rattle.space_model.specs.Building.{no_area}
-use Rattle.space_model.specs.Cutting.{start_of}
+use Rattle.space_model.specs.Cutting.{start_of, NoneAbove}
 use Rattle.space_model.proofs.AreaKinds.{kind_at-after, kind_at-below, IsAbove}
 use Rattle.space_model.proofs.Searching.{drop_at}
 use Rattle.space_model.proofs.Simple.{member_in_range, kind_at-member}
@@ -33,15 +33,6 @@ free_between (x ∷ front) a rest p w l h =
     kind_at-after x (front ++ a ∷ rest) p
     (omega (arith, starts_after x (front ++ a ∷ rest) a w m, (member_in_range (front ++ a ∷ rest) a w.2 m).has_page)) ∙
     free_between front a rest p w.2 l h
-
--- each place ends at or before a page that no area from an index on starts before
-pub record NoneAbove (A : List Area) (window pages i to : ℕ) : Type 0 where
-  -- it isn't above the start of the first area that was passed
-  pub at : to ≤ start_of (drop i A)
-  -- it isn't above the window's end
-  pub high : to ≤ window
-  -- each place ends at or below it
-  pub ends : (start : ℕ) → FitsAt (kind_at A) window pages start → start + pages ≤ to
 
 -- at the start each place ends at or below the window's end
 pub none_above_all : (A : List Area) (window pages : ℕ) → window ≤ LIMIT → NoneAbove A window pages (length A) window

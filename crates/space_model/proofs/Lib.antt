@@ -25,3 +25,6 @@ pub mod Halving
 pub mod Highest
 pub mod Splicing
 pub mod SealedStay
+pub mod InBlocks
+pub mod InPlaces
+pub mod InRoom

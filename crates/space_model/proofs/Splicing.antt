@@ -25,7 +25,8 @@ pub areas_right : (A B : List Area) → IsAreaList (A ++ B) → IsAreaList B
 areas_right [] B w = w
 areas_right (a ∷ A) B w = areas_right A B w.2
 
-areas_left : (A B : List Area) → IsAreaList (A ++ B) → IsAreaList A
+-- so is the first part
+pub areas_left : (A B : List Area) → IsAreaList (A ++ B) → IsAreaList A
 areas_left [] B w = tt
 areas_left (a ∷ []) B w = (w.0, tt, tt)
 areas_left (a ∷ b ∷ A) B w = (w.0, w.1, areas_left (b ∷ A) B w.2)
@@ -60,7 +61,7 @@ append_areas (a ∷ c ∷ A) b B v w free differs =
     (v.0, v.1, append_areas (c ∷ A) b B v.2 w (λ p l. sym (kind_at-after a (c ∷ A) p (omega arith)) ∙ free p l) more)
 
 -- areas that give a page no kind may be left out
-kind_at-without : (A B : List Area) (p : ℕ) → kind_at B p ≡ None → kind_at (A ++ B) p ≡ kind_at A p
+pub kind_at-without : (A B : List Area) (p : ℕ) → kind_at B p ≡ None → kind_at (A ++ B) p ≡ kind_at A p
 kind_at-without A B p none =
     kind_at-append A B p ∙ ap (first_of (kind_at A p)) none ∙ first_of-none (kind_at A p)
 
@@ -100,7 +101,8 @@ module _ (A N : List Area) (from : ℕ) (patches : List Patch) (r : AreRising fr
             sym (patched-behind from patches (kind_at (A ++ B)) p r ge)
       ]
 
-  back_kinds : (B : List Area) → IsAreaList (A ++ B) → All (λ b. last_end from patches < b.lo) B → HasKinds (patched patches (kind_at (A ++ B))) (N ++ B)
+  -- so do the kinds
+  pub back_kinds : (B : List Area) → IsAreaList (A ++ B) → All (λ b. last_end from patches < b.lo) B → HasKinds (patched patches (kind_at (A ++ B))) (N ++ B)
   back_kinds B w all = record { areas = back_areas B w all; kinds_are = λ p. back_kind B p w all }
 
 -- what follows an area may follow it still, where the pages up to a later one have the same kinds
@@ -142,7 +144,8 @@ front_area a A N from patches r w l k =
           ];
     }
 
-front_kinds : (front A N : List Area) (from : ℕ) (patches : List Patch) → AreRising from patches → IsAreaList (front ++ A) →
+-- areas below the place stay before it
+pub front_kinds : (front A N : List Area) (from : ℕ) (patches : List Patch) → AreRising from patches → IsAreaList (front ++ A) →
     All (λ a. a.hi ≤ from - 1) front → HasKinds (patched patches (kind_at A)) N → HasKinds (patched patches (kind_at (front ++ A))) (front ++ N)
 front_kinds [] A N from patches r w all k = k
 front_kinds (a ∷ front) A N from patches r w all k =
@@ -151,7 +154,7 @@ front_kinds (a ∷ front) A N from patches r w all k =
     (front_kinds front A N from patches r w.2 (All-tail (λ b. b.hi ≤ from - 1) a front all) k)
 
 -- patches that rise rise from the first page of the first one on
-rising_own : (q : Patch) (rest : List Patch) → AreRising 0 (q ∷ rest) → AreRising q.lo (q ∷ rest)
+pub rising_own : (q : Patch) (rest : List Patch) → AreRising 0 (q ∷ rest) → AreRising q.lo (q ∷ rest)
 rising_own q rest r = (omega arith, r.1, r.2)
 
 -- the list with the middle built anew

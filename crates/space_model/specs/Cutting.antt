@@ -1,7 +1,7 @@
 -- How the bodies of this crate find the areas round a page, and leave those alone that a change doesn't touch: the list
 -- is cut by halving, the areas at the place become others, and the rows are counted between the two cuts. This is the
 -- project's own way; only private functions speak of it, and what callers see is the kinds of pages.
-use Rattle.std.specs.Prelude.{ℕ, ◌+◌, ◌<◌, ◌≤◌, ◌≡◌, ◌⊎◌, true, false, max, Option, Some, None, MatchOption, List, [], ◌∷◌, ◌++◌, length, All}
+use Rattle.std.specs.Prelude.{ℕ, ◌+◌, ◌<◌, ◌≤◌, ◌≡◌, ◌⊎◌, true, false, max, Option, Some, None, MatchOption, List, [], ◌∷◌, ◌++◌, length, drop, All}
 use Rattle.std.specs.List.{splice}
 use Rattle.page_types.specs.declared.TheConstants.{LIMIT}
 use Rattle.space_model.specs.declared.areas.Area.{Area}
@@ -10,6 +10,7 @@ use Rattle.space_model.specs.declared.sorts.Sort.{Sort}
 use Rattle.space_model.specs.Sorts.{is_sort}
 use Rattle.space_model.specs.Areas.{gap_between, row_count, kind_at, HasKinds}
 use Rattle.space_model.specs.Effect.{patched}
+use Rattle.space_model.specs.Places.{FitsAt}
 
 -- the list in two parts: the areas up to a page, by a number of each, and those above it
 pub record IsCutBy (number : Area → ℕ) (A : List Area) (page : ℕ) (front rest : List Area) : Type 0 where
@@ -63,3 +64,12 @@ pub record IsPlan (A : List Area) (patches : List Patch) (first end rows : ℕ) 
   pub within : end ≤ length A
   pub list : HasKinds (patched patches (kind_at A)) (splice A first end middle)
   pub counted : rows ≡ row_count (splice A first end middle)
+
+-- each place of so many free pages ends at or before a page that no area from an index on starts before
+pub record NoneAbove (A : List Area) (window pages i to : ℕ) : Type 0 where
+  -- it isn't above the start of the first area that was passed
+  pub at : to ≤ start_of (drop i A)
+  -- it isn't above the window's end
+  pub high : to ≤ window
+  -- each place ends at or below it
+  pub ends : (start : ℕ) → FitsAt (kind_at A) window pages start → start + pages ≤ to

@@ -10,6 +10,7 @@ pub mod Held
 pub mod History
 pub mod Building
 pub mod Cutting
+pub mod Blocks
 pub mod Faults
 pub mod Laws
 pub use Rattle.page_types.specs.Named

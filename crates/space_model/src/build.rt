@@ -2,7 +2,7 @@
 //! the place, what the place gets, and the parts after it, appended in order. An area that touches the last and is of
 //! its kind lengthens it, so the result is the one area list with the kinds of the change.
 
-ghost use Rattle.std.specs.Prelude.{◌≡◌, ◌≤◌, [], length, OnOk, IfOk};
+ghost use Rattle.std.specs.Prelude.{◌≡◌, ◌≤◌, ◌<◌, ◌+◌, ◌*◌, [], length, OnOk, OnErr, IfOk, vec_capacity};
 ghost use Rattle.space_model.specs.Areas.{IsAreaList};
 ghost use Rattle.space_model.specs.Starts.{same_kind};
 ghost use Rattle.space_model.specs.Judges.{patches_of};
@@ -44,7 +44,10 @@ pub fn repainted(kind: Kind, paint: Option<Paint>) -> Kind
 
 /// Appends an area, or lengthens the last one where the two touch and are of one kind.
 fn join(list: &mut Vec<Area>, area: Area) -> Result<(), AllocError>
-    ensures { OnOk result (list.new.items ≡ joined list.old.items area) }
+    ensures items { OnOk result (list.new.items ≡ joined list.old.items area) }
+    ensures longer { OnOk result (length list.new.items ≤ length list.old.items + 1) }
+    ensures capacity { vec_capacity list.old ≤ vec_capacity list.new }
+    ensures full { OnErr result (vec_capacity list.old < length list.old.items + 1) }
 {
     match list.pop() {
         None => list.push(area)?,
@@ -71,7 +74,10 @@ fn join_parts(
     to: u64,
     paint: Option<Paint>,
 ) -> Result<(), AllocError>
-    ensures { OnOk result (list.new.items ≡ join_all list.old.items (parts from to paint areas.now)) }
+    ensures items { OnOk result (list.new.items ≡ join_all list.old.items (parts from to paint areas.now)) }
+    ensures longer { OnOk result (length list.new.items ≤ length list.old.items + length areas.now) }
+    ensures capacity { vec_capacity list.old ≤ vec_capacity list.new }
+    ensures full { OnErr result (vec_capacity list.old < length list.old.items + length areas.now) }
 {
     for area in areas {
         let lo = area.lo.max(from);
@@ -92,7 +98,10 @@ fn join_parts(
 
 /// Appends what a patch makes of its pages.
 fn join_patch(list: &mut Vec<Area>, areas: &[Area], patch: Patch) -> Result<(), AllocError>
-    ensures { OnOk result (list.new.items ≡ join_all list.old.items (pieces_at areas.now patch.lo patch.hi patch.paint)) }
+    ensures items { OnOk result (list.new.items ≡ join_all list.old.items (pieces_at areas.now patch.lo patch.hi patch.paint)) }
+    ensures longer { OnOk result (length list.new.items ≤ length list.old.items + length areas.now + 1) }
+    ensures capacity { vec_capacity list.old ≤ vec_capacity list.new }
+    ensures full { OnErr result (vec_capacity list.old < length list.old.items + length areas.now + 1) }
 {
     let Patch { lo, hi, paint } = patch;
     match paint {
@@ -114,15 +123,22 @@ fn join_up_to(
     from: u64,
     patch: Patch,
 ) -> Result<(), AllocError>
-    ensures { OnOk result (list.new.items ≡ with_next list.old.items from patch areas.now) }
+    ensures items { OnOk result (list.new.items ≡ with_next list.old.items from patch areas.now) }
+    ensures longer { OnOk result (length list.new.items ≤ length list.old.items + 2 * length areas.now + 1) }
+    ensures capacity { vec_capacity list.old ≤ vec_capacity list.new }
+    ensures full { OnErr result (vec_capacity list.old < length list.old.items + 2 * length areas.now + 1) }
 {
     join_parts(list, areas, from, patch.lo, None)?;
     join_patch(list, areas, patch)
 }
 
-/// Puts into `list` the areas after a change, from left to right.
+/// Puts into `list` the areas after a change, from left to right. It fails only where there was no room in `list` for
+/// five times as many and two, which is more than they can be.
 pub fn changed(list: &mut Vec<Area>, areas: &[Area], change: Change) -> Result<(), AllocError>
-    ensures { OnOk result (list.new.items ≡ changed_list areas.now (patches_of change)) }
+    ensures items { OnOk result (list.new.items ≡ changed_list areas.now (patches_of change)) }
+    ensures longer { OnOk result (length list.new.items ≤ 5 * length areas.now + 2) }
+    ensures capacity { vec_capacity list.old ≤ vec_capacity list.new }
+    ensures full { OnErr result (vec_capacity list.old < 5 * length areas.now + 2) }
 {
     list.clear();
     join_up_to(list, areas, 0, change.first)?;

@@ -6,11 +6,13 @@
 #![tactic(auto)]
 
 mod areas;
+mod blocks;
 mod build;
 mod calls;
 mod counts;
 mod entries;
 mod faults;
+mod fits;
 mod heap;
 mod held;
 mod history;
@@ -20,10 +22,12 @@ mod laws;
 mod moving;
 mod order;
 mod paint;
+mod reserved;
 mod search;
 mod sorts;
 mod space;
 mod splice;
+mod stored;
 
 pub use areas::{Area, have_named_kinds};
 pub use calls::judge;
@@ -43,5 +47,6 @@ pub use laws::{
     unmap_twice_is_once,
 };
 pub use paint::{Paint, Patch};
+pub use reserved::ReservedSpace;
 pub use sorts::{Sort, is_sort};
 pub use space::PlainSpace;

@@ -22,9 +22,11 @@ use crate::held::protect_under;
 use crate::judged::{Change, Judged, full_reply};
 use crate::judging::Pages;
 use crate::order::first_wrong;
+use crate::reserved::ReservedSpace;
 use crate::search::{end_of, highest_fit, kind_of};
 use crate::sorts::Sort;
 use crate::splice::{planned, replace};
+use crate::stored::stored_in_blocks;
 use page_types::{Call, Kind, PAGE, ROWS, Reply, Span, plain};
 use std::alloc::{AllocError, Global};
 use std::marker::Model;
@@ -151,6 +153,15 @@ impl PlainSpace {
             spare: Vec::new(alloc),
             row_total,
         })
+    }
+
+    /// The same address space with room reserved, so that its calls take no memory.
+    pub fn reserved(&self) -> Result<ReservedSpace, AllocError>
+        ensures { IfOk result (λ space. space ≡ self.now) }
+    {
+        let alloc = *self.areas.allocator();
+        let stored = stored_in_blocks(alloc, self.areas.as_slice())?;
+        Ok(ReservedSpace { stored })
     }
 
     /// The areas, in order.

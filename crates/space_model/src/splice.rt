@@ -2,7 +2,7 @@
 //! are built anew, and those after it move as one where there are more or fewer areas then. So a call costs what it
 //! touches and at most a copy of what lies above, whatever lies below. `build` makes the areas in the middle.
 
-ghost use Rattle.std.specs.Prelude.{◌≡◌, ◌^◌, ◌<◌, ◌≤◌, ◌++◌, length, take, IfOk, OnOk, OnErr, vec_len};
+ghost use Rattle.std.specs.Prelude.{◌≡◌, ◌⊎◌, ◌^◌, ◌<◌, ◌≤◌, ◌+◌, ◌*◌, ◌++◌, length, take, IfOk, OnOk, OnErr, vec_len, vec_capacity};
 ghost use Rattle.std.specs.List.{splice};
 ghost use Rattle.space_model.specs.Areas.{IsAreaList, row_count};
 ghost use Rattle.space_model.specs.Cutting.{end_of, start_of, IsPlan};
@@ -29,6 +29,7 @@ pub struct Plan {
 }
 
 /// Puts into `middle` the areas that a change makes of those that it touches. `rows` is the number of rows before it.
+/// It fails only where there was no room in `middle` for five times as many as all areas and two.
 pub fn planned(
     middle: &mut Vec<Area>,
     areas: &[Area],
@@ -39,7 +40,10 @@ pub fn planned(
     requires few { length areas.now < 2 ^ 30 }
     requires counted { rows ≡ row_count areas.now }
     requires rising { AreRising 0 (patches_of change) }
-    ensures { IfOk result (λ plan. IsPlan areas.now (patches_of change) plan.first plan.end plan.rows middle.new.items) }
+    ensures plan { IfOk result (λ plan. IsPlan areas.now (patches_of change) plan.first plan.end plan.rows middle.new.items) }
+    ensures longer { OnOk result (length middle.new.items ≤ 5 * length areas.now + 2) }
+    ensures capacity { vec_capacity middle.old ≤ vec_capacity middle.new }
+    ensures full { OnErr result (vec_capacity middle.old < 5 * length areas.now + 2) }
 {
     let (front, rest) = cut_by_end(areas, change.first.lo.saturating_sub(1));
     let (touched, back) = cut_by_start(rest, change.end());
@@ -63,7 +67,7 @@ fn recounted(rows: u32, front: &[Area], old: &[Area], new: &[Area], back: &[Area
 }
 
 /// The page behind the last area, or 0.
-fn end_of(areas: &[Area]) -> u64
+pub fn end_of(areas: &[Area]) -> u64
     ensures { result ≡ end_of 0 areas.now }
 {
     match areas.last() {
@@ -73,7 +77,7 @@ fn end_of(areas: &[Area]) -> u64
 }
 
 /// The first page of the first area, or `LIMIT`.
-fn start_of(areas: &[Area]) -> u64
+pub fn start_of(areas: &[Area]) -> u64
     ensures { result ≡ start_of areas.now }
 {
     match areas.first() {
@@ -94,6 +98,10 @@ pub fn replace(
     requires within { end ≤ vec_len list.old }
     ensures items { OnOk result (list.new.items ≡ splice list.old.items first end new.old.items) }
     ensures memory { OnErr result (list.new.items ≡ list.old.items) }
+    ensures list_capacity { vec_capacity list.old ≤ vec_capacity list.new }
+    ensures new_capacity { vec_capacity new.old ≤ vec_capacity new.new }
+    ensures full { OnErr result ((vec_capacity list.old < length (splice list.old.items first end new.old.items))
+        ⊎ (vec_capacity new.old < length new.old.items + length list.old.items)) }
 {
     if new.len() == end - first {
         list.as_mut_slice()[first..end].copy_from_slice(new.as_slice());
@@ -109,6 +117,8 @@ fn replace_tail(list: &mut Vec<Area>, first: usize, tail: &[Area]) -> Result<(),
     requires { first ≤ vec_len list.old }
     ensures items { OnOk result (list.new.items ≡ take first list.old.items ++ tail.now) }
     ensures memory { OnErr result (list.new.items ≡ list.old.items) }
+    ensures capacity { vec_capacity list.old ≤ vec_capacity list.new }
+    ensures full { OnErr result (vec_capacity list.old < length (take first list.old.items ++ tail.now)) }
 {
     let left = list.len() - first;
     list.reserve(tail.len().saturating_sub(left))?;

@@ -145,35 +145,35 @@ fn touches_answer_as_worked_by_hand(rt: HostRuntime) {
         &rt,
         alloc,
         (3, 0),
-        &[(0, 3), (0, 6), (0, 9), (0, 12)],
+        &[(0, 7), (0, 14), (0, 21), (0, 28)],
         &[first(0), first(1), first(2), None],
         (0, 0),
-        &[3, 6, 9],
+        &[7, 14, 21],
     );
     shows(
         &rt,
         alloc,
         (3, 0),
-        &[(0, 2), (0, 5), (0, 8)],
-        &[first(2), first(0), first(1)],
+        &[(0, 6), (0, 13), (0, 20)],
+        &[first(6), first(0), first(1)],
         (0, 0),
-        &[2, 5, 8],
+        &[6, 13, 20],
     );
     shows(
         &rt,
         alloc,
         (2, 2),
-        &[(0, 1), (1, 5), (0, 5)],
+        &[(0, 1), (1, 10), (0, 10)],
         &[first(1), first(2), seen(2)],
         (0, 1),
-        &[1, 5],
+        &[1, 10],
     );
     shows(
         &rt,
         alloc,
         (1, 1),
         &[(0, 5), (1, 5)],
-        &[first(1), seen(1)],
+        &[first(0), seen(0)],
         (0, 0),
         &[5],
     );
@@ -182,7 +182,7 @@ fn touches_answer_as_worked_by_hand(rt: HostRuntime) {
         alloc,
         (0, 2),
         &[(1, 7), (1, 7)],
-        &[first(1), seen(1)],
+        &[first(2), seen(2)],
         (0, 0),
         &[7],
     );
@@ -191,7 +191,7 @@ fn touches_answer_as_worked_by_hand(rt: HostRuntime) {
         alloc,
         (2, 0),
         &[(0, LIMIT - 1), (0, 0)],
-        &[first(0), first(1)],
+        &[first(4), first(0)],
         (0, 0),
         &[0, LIMIT - 1],
     );
@@ -199,10 +199,10 @@ fn touches_answer_as_worked_by_hand(rt: HostRuntime) {
         &rt,
         alloc,
         (2, 0),
-        &[(0, 4), (0, 2)],
-        &[first(0), first(1)],
+        &[(0, 4), (0, 9)],
+        &[first(4), first(0)],
         (0, 0),
-        &[2, 4],
+        &[4, 9],
     );
 }
 

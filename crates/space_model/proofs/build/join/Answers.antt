@@ -5,8 +5,8 @@ use Rattle.space_model.proofs.Joining.{joined-append, pair-true, pair-false}
 use Rattle.space_model.proofs.build.join.Goals as goal
 
 -- where the area goes on with the last, the lengthened one stands in its place
-pub returns-in_ok-push-in-Some : goal.returns-in_ok-push-in-Some
-returns-in_ok-push-in-Some c =
+pub returns-in_ok-push-in-Some-clause-items : goal.returns-in_ok-push-in-Some-clause-items
+returns-in_ok-push-in-Some-clause-items c =
     let front = c.pop.new.self.items in
     c.in_ok-push-in-Some.ensures.items ∙
     ap (λ pair. front ++ pair) (sym (pair-true c.in-Some.last c.args.area (sym c.if-goes_on.ensures))) ∙
@@ -14,8 +14,8 @@ returns-in_ok-push-in-Some c =
     ap (λ list. joined list c.args.area) (sym c.in-Some.ensures.items)
 
 -- where it doesn't, it stands behind the last
-pub returns-in_ok-push-in-Some-3 : goal.returns-in_ok-push-in-Some-3
-returns-in_ok-push-in-Some-3 c =
+pub returns-in_ok-push-in-Some-3-clause-items : goal.returns-in_ok-push-in-Some-3-clause-items
+returns-in_ok-push-in-Some-3-clause-items c =
     let front = c.pop.new.self.items in
     c.in_ok-push-in-Some-3.ensures.items ∙
     ap (λ list. list ++ c.args.area ∷ []) c.in_ok-push-in-Some-2.ensures.items ∙

@@ -1,6 +1,7 @@
 -- The first gap from above that is long enough has the highest place.
 use Rattle.std.proofs.Common.{◌≡◌, ◌-◌, sym, subst, refl, arith}
-use Rattle.space_model.proofs.Highest.{NoneAbove, none_above_all, none_above_next, highest_here, highest_below, no_fit}
+use Rattle.space_model.specs.Cutting.{NoneAbove}
+use Rattle.space_model.proofs.Highest.{none_above_all, none_above_next, highest_here, highest_below, no_fit}
 use Rattle.space_model.proofs.search.highest_fit.Goals as goal
 
 -- at the start each place ends at or below the window's end

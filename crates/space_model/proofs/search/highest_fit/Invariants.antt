@@ -1,4 +1,4 @@
-use Rattle.space_model.proofs.Highest.{NoneAbove}
+use Rattle.space_model.specs.Cutting.{NoneAbove}
 use Rattle.space_model.proofs.search.highest_fit.Given as goal
 
 -- each place ends below the areas so far

@@ -27,13 +27,13 @@ recounted-rows-requires-clause-fits c =
     (rows-fit A (front ++ (N ++ back)) change c.requires.in_order c.requires.few c.requires.rising
     (spliced A front c.cut_by_end.result.1.now c.cut_by_start.result.0.now back N change.first (second_of change.second) _ _
     c.saturating_sub.ensures c.end.ensures c.requires.in_order c.requires.rising c.cut_by_end.ensures
-    c.cut_by_start.ensures c.in_ok-changed.ensures))
+    c.cut_by_start.ensures c.in_ok-changed.ensures.items))
 
 -- the new areas between the cuts, with the rows counted, are a plan of the change
-pub returns : goal.returns
-returns c =
+pub returns-clause-plan : goal.returns-clause-plan
+returns-clause-plan c =
     let front = c.cut_by_end.result.0.now in let back = c.cut_by_start.result.1.now in let change = c.args.change in
     plan_of c.args.areas.now front c.cut_by_end.result.1.now c.cut_by_start.result.0.now back c.changed.new.list.items
     change.first (second_of change.second) _ _ _ _ _ c.saturating_sub.ensures c.end.ensures c.requires.in_order
-    c.requires.rising c.cut_by_end.ensures c.cut_by_start.ensures c.in_ok-changed.ensures refl refl
+    c.requires.rising c.cut_by_end.ensures c.cut_by_start.ensures c.in_ok-changed.ensures.items refl refl
     (c.recounted-rows.ensures ∙ ap (λ X. row_count (front ++ (X ++ back))) c.as_slice.ensures.value)

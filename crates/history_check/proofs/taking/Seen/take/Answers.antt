@@ -14,6 +14,6 @@ returns c before seen =
       c.in-Some.entry,
       c.in-Some.ensures.found,
       place,
-      subst (λ (w : Option WrongLog). TellsCall c.args.space.now c.in-Some.entry w c.wrong_call.new.space) c.in_default-2.is c.in_ok-why.ensures,
+      subst (λ (w : Option WrongLog). TellsCall c.args.space.now c.in-Some.entry w c.wrong_call.new.space) c.in_default-wrong_call.is c.wrong_call.ensures,
       c.add.ensures before seen place,
     )

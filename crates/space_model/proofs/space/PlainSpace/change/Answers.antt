@@ -15,7 +15,7 @@ use Rattle.space_model.proofs.space.PlainSpace.change.Goals as goal
 -- where the plan has more than ROWS rows, the reply is the full one
 pub returns-then-rows-gt-ROWS-clause-made : goal.returns-then-rows-gt-ROWS-clause-made
 returns-then-rows-gt-ROWS-clause-made c =
-    let plan = plan_for _ _ _ _ _ _ _ (c.as_slice-areas.ensures.value ∙ c.self.view_is) c.in_ok-plan.ensures in
+    let plan = plan_for _ _ _ _ _ _ _ (c.as_slice-areas.ensures.value ∙ c.self.view_is) c.in_ok-plan.ensures.plan in
     beyond _ plan.list (subst (λ n. ROWS < n) plan.counted c.if-rows-gt-ROWS.true)
     (c.full_reply.ensures ∙ ap (full_reply c.args.change.full) plan.counted) c.self.view_is
 
@@ -28,7 +28,7 @@ returns-then-rows-gt-ROWS-clause-named c =
 pub invariant_of-self-2 : goal.invariant_of-self-2
 invariant_of-self-2 c =
     let A = c.self.inside.areas.items in let B = c.replace.new.list.items in
-    let plan = plan_for _ A _ _ _ _ _ c.as_slice-areas.ensures.value c.in_ok-plan.ensures in
+    let plan = plan_for _ A _ _ _ _ _ c.as_slice-areas.ensures.value c.in_ok-plan.ensures.plan in
     let list : HasKinds (patched (patches_of c.args.change) (kind_at A)) B =
     subst (HasKinds (patched (patches_of c.args.change) (kind_at A))) (sym c.in_ok-replace.ensures.items) plan.list in
     let counted : c.in_ok-plan.plan.rows ≡ row_count B = plan.counted ∙ ap row_count (sym c.in_ok-replace.ensures.items) in (
@@ -42,7 +42,7 @@ invariant_of-self-2 c =
 pub returns-clause-made : goal.returns-clause-made
 returns-clause-made c =
     let A = c.self.inside.areas.items in let B = c.replace.new.list.items in
-    let plan = plan_for _ A _ _ _ _ _ c.as_slice-areas.ensures.value c.in_ok-plan.ensures in
+    let plan = plan_for _ A _ _ _ _ _ c.as_slice-areas.ensures.value c.in_ok-plan.ensures.plan in
     let list : HasKinds (patched (patches_of c.args.change) (kind_at A)) B =
     subst (HasKinds (patched (patches_of c.args.change) (kind_at A))) (sym c.in_ok-replace.ensures.items) plan.list in
     let counted : c.in_ok-plan.plan.rows ≡ row_count B = plan.counted ∙ ap row_count (sym c.in_ok-replace.ensures.items) in

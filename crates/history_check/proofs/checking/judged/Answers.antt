@@ -1,8 +1,8 @@
-use Rattle.std.proofs.Common.{arith, refl, ap}
+use Rattle.std.proofs.Common.{◌∙◌, arith, refl, ap}
 use Rattle.line_parts.specs.Lines.{lines_of}
 use Rattle.history_check.proofs.OneVerdict.{one_verdict}
 use Rattle.history_check.proofs.Reaching.{reached_end, reached_more, reached_none, reached_rest, reached_wrong}
-use Rattle.history_check.proofs.checking.check.Goals as goal
+use Rattle.history_check.proofs.checking.judged.Goals as goal
 
 -- at first no line is right
 pub log-init : goal.log-init
@@ -11,7 +11,8 @@ log-init c = (reached_none _ _ _ c.new-seen.ensures, omega (arith, c.new-seen.en
 -- a line that begins otherwise ends the log
 pub returns-then-not-begins_log-clause-found : goal.returns-then-not-begins_log-clause-found
 returns-then-not-begins_log-clause-found c =
-    reached_rest _ _ _ c.in-Some.line.now _ c.log.seen c.log.space _ _ c.in-Some.ensures.line c.areas.ensures.list c.log.invariant.0
+    reached_rest _ _ _ c.in-Some.line.now _ c.log.seen c.log.space _ _ c.in-Some.ensures.line
+    (c.as_slice.ensures.value ∙ c.into_areas-areas.ensures.list) c.log.invariant.0
     (λ b. let yes = c.begins_log.ensures.1 b in absurd cc) c.rest_verdict.ensures
 
 -- and no other verdict is right
@@ -19,20 +20,20 @@ pub returns-then-not-begins_log-clause-only : goal.returns-then-not-begins_log-c
 returns-then-not-begins_log-clause-only c v = one_verdict _ _ _ v (returns-then-not-begins_log-clause-found c)
 
 -- the line is wrong
-pub returns-in-Some-2-clause-found : goal.returns-in-Some-2-clause-found
-returns-in-Some-2-clause-found c =
-    reached_wrong _ _ _ c.in-Some.line.now _ c.log.seen _ c.log.space _ _ c.in-Some-2.why c.in-Some.ensures.line c.log.invariant.0
-    (c.begins_log.ensures.0 c.if-not-begins_log.false) c.in-Some-2.is c.in_ok-why.ensures
+pub returns-in-Some-take-clause-found : goal.returns-in-Some-take-clause-found
+returns-in-Some-take-clause-found c =
+    reached_wrong _ _ _ c.in-Some.line.now _ c.log.seen _ c.log.space _ _ c.in-Some-take.why c.in-Some.ensures.line c.log.invariant.0
+    (c.begins_log.ensures.0 c.if-not-begins_log.false) c.in-Some-take.is c.take.ensures
 
 -- and no other verdict is right
-pub returns-in-Some-2-clause-only : goal.returns-in-Some-2-clause-only
-returns-in-Some-2-clause-only c v = one_verdict _ _ _ v (returns-in-Some-2-clause-found c)
+pub returns-in-Some-take-clause-only : goal.returns-in-Some-take-clause-only
+returns-in-Some-take-clause-only c v = one_verdict _ _ _ v (returns-in-Some-take-clause-found c)
 
 -- one more line is right
 pub log-preserved : goal.log-preserved
 log-preserved c =
     let more = reached_more _ _ _ c.in-Some.line.now _ c.log.seen _ c.log.space _ _ c.in-Some.ensures.line c.log.invariant.0
-    (c.begins_log.ensures.0 c.if-not-begins_log.false) c.in_default-2.is c.in_ok-why.ensures in
+    (c.begins_log.ensures.0 c.if-not-begins_log.false) c.in_default-take.is c.take.ensures in
     (more.0, omega (arith, more.1, c.log.invariant.1, c.in-Some.ensures.shorter))
 
 -- the text ends with the log

@@ -1,7 +1,7 @@
 use Rattle.std.proofs.Common.{◌+◌, ◌≤◌, length}
 use Rattle.line_parts.specs.Lines.{lines_of}
 use Rattle.history_check.proofs.Reaching.{Reached}
-use Rattle.history_check.proofs.checking.check.Given as goal
+use Rattle.history_check.proofs.checking.judged.Given as goal
 
 -- the lines before are right, and no more entries are counted than there are bytes
 abbrev pub invariant-log : goal.invariant-log
