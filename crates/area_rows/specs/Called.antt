@@ -13,10 +13,12 @@ use Rattle.space_model.specs.Areas.{IsAreaList, row_count}
 use Rattle.space_model.specs.declared.entries.Entry.{Entry}
 use Rattle.space_model.specs.declared.entries.Under.{Under}
 use Rattle.space_model.specs.declared.entries.Under.TheVariants.{Nothing, Reader, Area, Whole}
-use Rattle.range_rw.specs.Contract.{SeatState}
+use Rattle.range_rw.specs.Contract.{SeatState, AsksFor}
+use Rattle.lock_core.specs.declared.range.Held.{Held}
 use Rattle.area_guard.specs.declared.guard.Pass.{Pass}
 use Rattle.area_rows.specs.declared.answer.Answer.{Answer}
 use Rattle.area_rows.specs.declared.answer.Answer.TheVariants.{Given, Spent}
+use Rattle.area_guard.specs.Reads.{everything}
 use Rattle.area_guard.specs.Rows.{blocks_by, number_place}
 use Rattle.area_guard.specs.History.{Runs, IsAtRest}
 use Rattle.area_rows.specs.Callers.{CallerView, IsNumbered, entry_in}
@@ -82,3 +84,9 @@ abbrev pub TakesSteps : SeatState Pass → Call → Answer → SeatState Pass �
 TakesSteps before call (Given e) after =
     MatchOption (plain_reply call) (EndsSoon before e after) (λ _. after.trace.taken ≡ before.trace.taken + 1)
 TakesSteps before call Spent after = after.trace.taken ≡ before.trace.taken
+
+-- which ranges a call asks for that may have to hold everything: that, once or more often, or none where its arguments
+-- decide it or no number is left. What is held was asked for, so it holds nothing else on its way
+abbrev pub AsksAtCall : Call → Answer → List Held → List Held → Type 0
+AsksAtCall call (Given e) before after = MatchOption (plain_reply call) (AsksFor everything before after) (λ _. after ≡ before)
+AsksAtCall call Spent before after = after ≡ before

@@ -17,7 +17,7 @@ ghost use Rattle.page_types.specs.Classes.{IsFault};
 ghost use Rattle.area_guard.specs.History.{IsAtRest};
 ghost use Rattle.plan_words.specs.Places.{number_at};
 ghost use Rattle.area_rows.specs.Callers.{HasPlanned, IsKnown, IsReading, MayPlan};
-ghost use Rattle.area_rows.specs.Called.{IsAnswered, IsCalled, EndsAtOnce, EndsSoon, TakesSteps};
+ghost use Rattle.area_rows.specs.Called.{AsksAtCall, IsAnswered, IsCalled, EndsAtOnce, EndsSoon, TakesSteps};
 
 use crate::answer::Answer;
 use crate::space::{Caller, Space};
@@ -179,9 +179,10 @@ impl Space {
 
     /// Makes a call that is no fault, such as a Map or a Remap; a Protect holds all pages then. The caller is of this
     /// space and holds nothing, and the call has named bits alone; `line` is the line of the input that names it,
-    /// counted from 1. It waits until the caller holds all pages; a call that its arguments decide holds nothing.
-    /// From its draw on its steps are bounded as those of `call_whole`; a call that its arguments decide takes one.
-    /// `Spent` comes exactly where the caller has no number left, and nothing has changed then.
+    /// counted from 1. It waits until the caller holds all pages, and asks for no other range; a call that its
+    /// arguments decide holds nothing. From its draw on its steps are bounded as those of `call_whole`; a call that its
+    /// arguments decide takes one. `Spent` comes exactly where the caller has no number left, and nothing has changed
+    /// then.
     pub fn call<R: Wait>(&self, wait: &R, caller: &mut Caller, line: u32, call: Call) -> Answer
         requires table { caller.old.seat.table ≡ self.now.table }
         requires free { caller.old.seat.held ≡ None }
@@ -189,6 +190,7 @@ impl Space {
         requires named { IsNamedCall call }
         ensures answer { IsAnswered caller.old line call result caller.new }
         ensures steps { TakesSteps caller.old.seat call result caller.new.seat }
+        ensures asks { AsksAtCall call result caller.old.seat.trace.asked caller.new.seat.trace.asked }
     {
         if caller.left() == 0 {
             return Answer::Spent;

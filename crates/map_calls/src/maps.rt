@@ -5,7 +5,7 @@
 ghost use Rattle.std.specs.Prelude.{◌≡◌, None};
 ghost use Rattle.page_types.specs.declared.calls.Call.TheVariants.{Map, Unmap, Seal};
 ghost use Rattle.page_types.specs.Named.{IsNamedCall};
-ghost use Rattle.area_rows.specs.Called.{IsAnswered, TakesSteps};
+ghost use Rattle.area_rows.specs.Called.{AsksAtCall, IsAnswered, TakesSteps};
 
 use area_rows::{Answer, Caller, Space};
 use page_types::{Call, MapFlags, Prot};
@@ -31,6 +31,7 @@ pub fn map<R: Wait>(
     requires named { IsNamedCall (Map addr len prot flags) }
     ensures answer { IsAnswered caller.old line (Map addr len prot flags) result caller.new }
     ensures steps { TakesSteps caller.old.seat (Map addr len prot flags) result caller.new.seat }
+    ensures asks { AsksAtCall (Map addr len prot flags) result caller.old.seat.trace.asked caller.new.seat.trace.asked }
 {
     let call = Call::Map {
         addr,
@@ -57,6 +58,7 @@ pub fn unmap<R: Wait>(
     requires free { caller.old.seat.held ≡ None }
     ensures answer { IsAnswered caller.old line (Unmap addr len) result caller.new }
     ensures steps { TakesSteps caller.old.seat (Unmap addr len) result caller.new.seat }
+    ensures asks { AsksAtCall (Unmap addr len) result caller.old.seat.trace.asked caller.new.seat.trace.asked }
 {
     space.call(wait, caller, line, Call::Unmap { addr, len })
 }
@@ -80,6 +82,7 @@ pub fn seal<R: Wait>(
     requires free { caller.old.seat.held ≡ None }
     ensures answer { IsAnswered caller.old line (Seal addr len flags) result caller.new }
     ensures steps { TakesSteps caller.old.seat (Seal addr len flags) result caller.new.seat }
+    ensures asks { AsksAtCall (Seal addr len flags) result caller.old.seat.trace.asked caller.new.seat.trace.asked }
 {
     space.call(wait, caller, line, Call::Seal { addr, len, flags })
 }

@@ -4,7 +4,7 @@
 //! calls that give an entry.
 ghost use Rattle.std.specs.Prelude.{◌≡◌, None};
 ghost use Rattle.page_types.specs.declared.calls.Call.TheVariants.{Brk, Remap};
-ghost use Rattle.area_rows.specs.Called.{IsAnswered, TakesSteps};
+ghost use Rattle.area_rows.specs.Called.{AsksAtCall, IsAnswered, TakesSteps};
 
 use area_rows::{Answer, Caller, Space};
 use page_types::Call;
@@ -29,6 +29,7 @@ pub fn brk<R: Wait>(
     requires free { caller.old.seat.held ≡ None }
     ensures answer { IsAnswered caller.old line (Brk base addr) result caller.new }
     ensures steps { TakesSteps caller.old.seat (Brk base addr) result caller.new.seat }
+    ensures asks { AsksAtCall (Brk base addr) result caller.old.seat.trace.asked caller.new.seat.trace.asked }
 {
     space.call(wait, caller, line, Call::Brk { base, addr })
 }
@@ -56,6 +57,7 @@ pub fn remap<R: Wait>(
     requires free { caller.old.seat.held ≡ None }
     ensures answer { IsAnswered caller.old line (Remap addr old_len new_len may_move hint) result caller.new }
     ensures steps { TakesSteps caller.old.seat (Remap addr old_len new_len may_move hint) result caller.new.seat }
+    ensures asks { AsksAtCall (Remap addr old_len new_len may_move hint) result caller.old.seat.trace.asked caller.new.seat.trace.asked }
 {
     let call = Call::Remap {
         addr,
