@@ -1,7 +1,10 @@
 -- What holds of each entry of the steps, and of those that wait, holds of each line in the order.
 use Rattle.std.proofs.Common.{ℕ, zero, suc, Bool, true, false, List, [], ◌∷◌, ◌++◌, subst}
-use Rattle.std.specs.Prelude.{◌==◌}
-use Rattle.raw_trace.specs.Order.{Entry, Step, Begins, Ends, Comes, Written, write_due, turns, does, order}
+use Rattle.std.specs.Prelude.{◌==◌, if◌then◌else◌}
+use Rattle.std.specs.declared.cmp.Ordering.{Ordering}
+use Rattle.std.specs.Ordering.{match_ordering}
+use Rattle.std.specs.declared.cmp.Ordering.TheVariants.{Less, Equal, Greater}
+use Rattle.raw_trace.specs.Order.{Entry, Step, Begins, Ends, Comes, Written, stand, pair_cmp, put, of_others, write_due, turns, does, order}
 use Rattle.raw_logs.specs.Log.{Numbered}
 use Rattle.raw_trace.specs.Places.{Part, Whole, Front, Back, IsEntry, IsDone}
 use Rattle.raw_trace.specs.Stages.{EachEntry}
@@ -66,9 +69,28 @@ due_each P zero f due ws d w = record { lines = tt; waiting = w }
 due_each P (suc n) f [] ws d w = record { lines = tt; waiting = w }
 due_each P (suc n) f (x ∷ due) ws d w = each_turn P n f x due ws (due_each P n f) d w (picks (λ other. f other x) ws)
 
+-- of those of other processes
+others_each : (P : Entry → Type 0) (p : ℕ) (ws : List Entry) → EachEntry P ws → EachEntry P (of_others p ws)
+others_each P p [] w = tt
+others_each P p (x ∷ ws) w = by (others_each P p ws w.1) (x.process == p)
+  where
+    by : EachEntry P (of_others p ws) → (t : Bool) → EachEntry P (if t then of_others p ws else x ∷ of_others p ws)
+    by rest true = rest
+    by rest false = (w.0, rest)
+
+-- with one more at its place
+put_each : (P : Entry → Type 0) (e : Entry) (ws : List Entry) → P e → EachEntry P ws → EachEntry P (put e ws)
+put_each P e [] h w = (h, tt)
+put_each P e (x ∷ ws) h w = by (put_each P e ws h w.1) (pair_cmp (stand e) (stand x))
+  where
+    by : EachEntry P (put e ws) → (o : Ordering) → EachEntry P (match_ordering o (e ∷ (x ∷ ws)) (e ∷ ws) (x ∷ put e ws))
+    by rest Less = (h, w)
+    by rest Equal = (h, w.1)
+    by rest Greater = (w.0, rest)
+
 does_each : (P : Entry → Type 0) (f : Entry → Entry → Bool) (step : Step) (steps : List Step) (ws : List Entry) → EachEntry P ws
     → EachStep P (step ∷ steps) → EachWritten P (does f step ws)
-does_each P f (Begins e) steps ws w h = record { lines = tt; waiting = each_both P ws (e ∷ []) w (h.0, tt) }
+does_each P f (Begins e) steps ws w h = record { lines = tt; waiting = put_each P e (of_others e.process ws) h.0 (others_each P e.process ws w) }
 does_each P f (Comes e) steps ws w h = due_each P (turns (e ∷ []) ws) f (e ∷ []) ws (h.0, tt) w
 does_each P f (Ends q) steps ws w h = by (picks (λ e. e.process == q) ws)
   where

@@ -11,7 +11,7 @@ use Rattle.raw_trace.specs.Order.{Entry, Step, frees_for, does, order}
 use Rattle.raw_trace.specs.Places.{ReadText, IsReadText, IsStep, AreSteps}
 use Rattle.raw_trace.specs.declared.tally.Tally.{Tally}
 use Rattle.raw_trace.specs.Rewriting.{text_of, lines_as, counted_all, no_calls, calls_after}
-use Rattle.raw_trace.specs.Stages.{entries, fed_by, EachEntry, MayBeWritten, WroteDue, EndsDue, WroteAll, EndsAll, DidSome, StandsAt, AreRoles}
+use Rattle.raw_trace.specs.Stages.{fed_by, EachEntry, MayBeWritten, WroteDue, EndsDue, WroteAll, EndsAll, DidSome, StandsAt, AreRoles}
 use Rattle.raw_trace.proofs.EachEntries.{each_both}
 use Rattle.raw_trace.proofs.OneFault.{first_more, first_behind}
 use Rattle.raw_trace.proofs.Turns.{text_both, counted_both, calls_both}
@@ -29,7 +29,7 @@ steps_more fed xs x later steps step are is = absurd are
 -- ---- the loop
 
 -- nothing was done yet
-pub did_none : (strict : Bool) (lines : List Numbered) (roles : List Role) (counts : Counts) (now : Ordering) → AreRoles lines roles → now.waiting.items ≡ []
+pub did_none : (strict : Bool) (lines : List Numbered) (roles : List Role) (counts : Counts) (now : Ordering) → AreRoles lines roles → now.waiting ≡ []
     → now.written.out.items ≡ [] → now.written.counts ≡ counts → now.written.calls ≡ no_calls → DidSome strict lines 0 counts now
 did_none strict lines roles counts now r w o c n =
     record {
@@ -40,7 +40,7 @@ did_none strict lines roles counts now r w o c n =
       steps = [];
       are = tt;
       written = [];
-      follows = λ more. ap (λ (z : List Entry). order frees_for z more) (sym (ap entries w));
+      follows = λ more. ap (λ (z : List Entry). order frees_for z more) (sym w);
       out = o;
       sum = c;
       calls = n;
@@ -63,9 +63,9 @@ stands_at strict lines roles old left gone more place counts now r w (d, is, b) 
 -- what a text more gives
 pub did_more : (strict : Bool) (lines : List Numbered) (place : ℕ) (counts : Counts) (old new : Ordering) (d : DidSome strict lines place counts old)
     (role : Role) (x : RoleAt lines place d.fed d.later role) (step : Step) → IsStep (fed_by [] d.fed) x.text x.rest step
-    → WroteDue strict old (does frees_for step (entries old.waiting.items)) new → DidSome strict lines (place + 1) counts new
+    → WroteDue strict old (does frees_for step old.waiting) new → DidSome strict lines (place + 1) counts new
 did_more strict lines place counts old new d role x step is did =
-    let found = does frees_for step (entries old.waiting.items) in
+    let found = does frees_for step old.waiting in
     record {
       fed = d.fed ++ (x.text ∷ []);
       later = x.rest;
@@ -77,7 +77,7 @@ did_more strict lines place counts old new d role x step is did =
       follows = λ more.
           ap (λ (z : List Step). order frees_for [] z) (append_assoc d.steps (step ∷ []) more) ∙ d.follows (step ∷ more)
           ∙ ap (λ (z : List Entry). d.written ++ (found.lines ++ order frees_for z more)) (sym did.waits)
-          ∙ sym (append_assoc d.written found.lines (order frees_for (entries new.waiting.items) more));
+          ∙ sym (append_assoc d.written found.lines (order frees_for new.waiting more));
       out = did.wrote.out ∙ ap (λ (z : List ℕ). z ++ text_of (lines_as found.lines)) d.out ∙ sym (text_both d.written found.lines);
       sum = did.wrote.counts ∙ ap (λ (z : Counts). counted_all z found.lines) d.sum ∙ sym (counted_both counts d.written found.lines);
       calls = did.wrote.calls ∙ ap (λ (z : Tally). calls_after z found.lines) d.calls ∙ sym (calls_both no_calls d.written found.lines);
@@ -87,10 +87,10 @@ did_more strict lines place counts old new d role x step is did =
 -- the writing ends at a text
 pub did_end : (strict : Bool) (lines : List Numbered) (place : ℕ) (counts : Counts) (old : Ordering) (d : DidSome strict lines place counts old)
     (role : Role) (x : RoleAt lines place d.fed d.later role) (step : Step) (fault : Fault) → IsStep (fed_by [] d.fed) x.text x.rest step
-    → EndsDue strict (does frees_for step (entries old.waiting.items)).lines fault → EndsAll strict lines fault
+    → EndsDue strict (does frees_for step old.waiting).lines fault → EndsAll strict lines fault
 did_end strict lines place counts old d role x step fault is (inl h) = inl h
 did_end strict lines place counts old d role x step fault is (inr h) =
-    let found = does frees_for step (entries old.waiting.items) in
+    let found = does frees_for step old.waiting in
     inr (record {
       fed = d.fed ++ (x.text ∷ []);
       later = x.rest;

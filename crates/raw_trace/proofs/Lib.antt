@@ -18,4 +18,5 @@ pub mod StepOrders
 pub mod TakenTexts
 pub mod TextPlaces
 pub mod Turns
+pub mod Waits
 pub mod WholeLogs

@@ -5,7 +5,12 @@ use Rattle.std.specs.Prelude.{◌==◌}
 use Rattle.std.proofs.lemmas.List.{append-nil}
 use Rattle.std.proofs.lemmas.Bool.Decides.{eqb_tells}
 use Rattle.raw_trace.specs.declared.calls.ReadCall.{ReadCall}
-use Rattle.raw_trace.specs.Order.{Entry, Step, Begins, Ends, Comes, pick, turns, write_entry, order}
+use Rattle.std.specs.Prelude.{if◌then◌else◌}
+use Rattle.std.specs.declared.cmp.Ordering.{Ordering}
+use Rattle.std.specs.Ordering.{match_ordering}
+use Rattle.std.specs.declared.cmp.Ordering.TheVariants.{Less, Equal, Greater}
+use Rattle.raw_trace.specs.Order.{Entry, Step, Begins, Ends, Comes, pick, stand, pair_cmp, put, of_others, turns, write_entry, order}
+use Rattle.raw_trace.proofs.Waits.{pair_exact}
 use Rattle.raw_trace.specs.Laws.{of_process}
 use Rattle.raw_trace.proofs.OwnCalls.{own, none_picked, one_picked, Apart, OneOf, of_both, own_apart, apart_both, Picks, picks_one, picks_none, picks}
 use Rattle.raw_trace.proofs.OwnCalls.{IsPickedOf, is_it, is_other, picked_of, due_apart, WroteOne, waits_still, was_written, due_one}
@@ -62,18 +67,99 @@ shifted p ahead more lines rest e =
     ap (λ (z : List ReadCall). ahead ++ z) (of_both p lines rest) ∙ sym (append_assoc ahead (of_process p lines) (of_process p rest))
     ∙ ap (λ (z : List ReadCall). z ++ of_process p rest) e
 
+-- those of others are no more of a process
+others_apart_too : (p q : ℕ) (ws : List Entry) → Apart p ws → Apart p (of_others q ws)
+others_apart_too p q [] h = tt
+others_apart_too p q (x ∷ ws) h = by (others_apart_too p q ws h.1) (x.process == q)
+  where
+    by : Apart p (of_others q ws) → (t : Bool) → Apart p (if t then of_others q ws else x ∷ of_others q ws)
+    by rest true = rest
+    by rest false = (h.0, rest)
+
+-- the one of a process is among those of others than another
+others_one : (p q : ℕ) (one : Entry) (a b : List Entry) → (one.process == p) ≡ true → (q == p) ≡ false → Apart p a → Apart p b
+    → OneOf p one (of_others q (a ++ (one ∷ b)))
+others_one p q one [] b t n ha hb = rw differ (record { before = []; after = of_others q b; parts = refl; none_before = tt; none_after = others_apart_too p q b hb })
+  where
+    differ : (one.process == q) ≡ false
+    differ = elim (eqb_tells one.process q) [
+      | inl h ↦ (let k : (one.process == p) ≡ false = subst (λ (z : ℕ). (z == p) ≡ false) (sym h.1) n in absurd cc)
+      | inr h ↦ h.0
+    ]
+others_one p q one (x ∷ a) b t n ha hb = by (others_one p q one a b t n ha.1 hb) (x.process == q)
+  where
+    by : OneOf p one (of_others q (a ++ (one ∷ b))) → (k : Bool)
+        → OneOf p one (if k then of_others q (a ++ (one ∷ b)) else x ∷ of_others q (a ++ (one ∷ b)))
+    by rest true = rest
+    by rest false = record {
+      before = x ∷ rest.before;
+      after = rest.after;
+      parts = ap (λ (z : List Entry). x ∷ z) rest.parts;
+      none_before = (ha.0, rest.none_before);
+      none_after = rest.none_after;
+    }
+
+-- one of another process is put in
+put_apart : (p : ℕ) (e : Entry) (ws : List Entry) → (e.process == p) ≡ false → Apart p ws → Apart p (put e ws)
+put_apart p e [] n h = (n, tt)
+put_apart p e (x ∷ ws) n h = by (put_apart p e ws n h.1) (pair_cmp (stand e) (stand x))
+  where
+    by : Apart p (put e ws) → (o : Ordering) → Apart p (match_ordering o (e ∷ (x ∷ ws)) (e ∷ ws) (x ∷ put e ws))
+    by rest Less = (n, h)
+    by rest Equal = (n, h.1)
+    by rest Greater = (h.0, rest)
+
+-- one of the process is put in among others
+put_one : (p : ℕ) (e : Entry) (ws : List Entry) → Apart p ws → OneOf p e (put e ws)
+put_one p e [] h = record { before = []; after = []; parts = refl; none_before = tt; none_after = tt }
+put_one p e (x ∷ ws) h = by (put_one p e ws h.1) (pair_cmp (stand e) (stand x))
+  where
+    by : OneOf p e (put e ws) → (o : Ordering) → OneOf p e (match_ordering o (e ∷ (x ∷ ws)) (e ∷ ws) (x ∷ put e ws))
+    by rest Less = record { before = []; after = x ∷ ws; parts = refl; none_before = tt; none_after = h }
+    by rest Equal = record { before = []; after = ws; parts = refl; none_before = tt; none_after = h.1 }
+    by rest Greater = record {
+      before = x ∷ rest.before;
+      after = rest.after;
+      parts = ap (λ (z : List Entry). x ∷ z) rest.parts;
+      none_before = (h.0, rest.none_before);
+      none_after = rest.none_after;
+    }
+
+-- two lines that stand at one place are of one process
+same_place : (e x : Entry) → pair_cmp (stand e) (stand x) ≡ Equal → e.process ≡ x.process
+same_place e x o = ap (λ (q : ℕ × ℕ). q.1) (pair_exact (stand e) (stand x) o)
+
+-- one of another process is put in beside it
+put_beside : (p : ℕ) (e one : Entry) (a b : List Entry) → (e.process == p) ≡ false → (one.process == p) ≡ true → Apart p a → Apart p b
+    → OneOf p one (put e (a ++ (one ∷ b)))
+put_beside p e one [] b n t ha hb = by (pair_cmp (stand e) (stand one)) refl
+  where
+    by : (o : Ordering) → pair_cmp (stand e) (stand one) ≡ o → OneOf p one (match_ordering o (e ∷ (one ∷ b)) (e ∷ b) (one ∷ put e b))
+    by Less o = record { before = e ∷ []; after = b; parts = refl; none_before = (n, tt); none_after = hb }
+    by Equal o = let k = ap (λ (z : ℕ). z == p) (same_place e one o) in absurd cc
+    by Greater o = record { before = []; after = put e b; parts = refl; none_before = tt; none_after = put_apart p e b n hb }
+put_beside p e one (x ∷ a) b n t ha hb = by (put_beside p e one a b n t ha.1 hb) (pair_cmp (stand e) (stand x))
+  where
+    by : OneOf p one (put e (a ++ (one ∷ b))) → (o : Ordering) → OneOf p one (match_ordering o (e ∷ (x ∷ (a ++ (one ∷ b)))) (e ∷ (a ++ (one ∷ b))) (x ∷ put e (a ++ (one ∷ b))))
+    by rest Less = record { before = e ∷ (x ∷ a); after = b; parts = refl; none_before = (n, ha); none_after = hb }
+    by rest Equal = record { before = e ∷ a; after = b; parts = refl; none_before = (n, ha.1); none_after = hb }
+    by rest Greater = record {
+      before = x ∷ rest.before;
+      after = rest.after;
+      parts = ap (λ (z : List Entry). x ∷ z) rest.parts;
+      none_before = (ha.0, rest.none_before);
+      none_after = rest.none_after;
+    }
+
 begun_holds : (p : ℕ) (one : Option Entry) (ws : List Entry) (ahead : List ReadCall) (entry : Entry) → (entry.process == p) ≡ false
-    → Holds p one ws ahead → Holds p one (ws ++ (entry ∷ [])) ahead
-begun_holds p one ws ahead entry n (holds_none h) = holds_none (apart_both p ws (entry ∷ []) h (n, tt))
-begun_holds p one ws ahead entry n (holds_gone h) = holds_gone (apart_both p ws (entry ∷ []) h (n, tt))
+    → Holds p one ws ahead → Holds p one (put entry (of_others entry.process ws)) ahead
+begun_holds p one ws ahead entry n (holds_none h) = holds_none (put_apart p entry (of_others entry.process ws) n (others_apart_too p entry.process ws h))
+begun_holds p one ws ahead entry n (holds_gone h) = holds_gone (put_apart p entry (of_others entry.process ws) n (others_apart_too p entry.process ws h))
 begun_holds p one ws ahead entry n (holds_waiting {one = x} t h) =
-    holds_waiting t (record {
-      before = h.before;
-      after = h.after ++ (entry ∷ []);
-      parts = ap (λ (z : List Entry). z ++ (entry ∷ [])) h.parts ∙ append_assoc h.before (x ∷ h.after) (entry ∷ []);
-      none_before = h.none_before;
-      none_after = apart_both p h.after (entry ∷ []) h.none_after (n, tt);
-    })
+    let left = subst (λ (z : List Entry). OneOf p x (of_others entry.process z)) (sym h.parts)
+    (others_one p entry.process x h.before h.after t n h.none_before h.none_after) in
+    holds_waiting t (subst (λ (z : List Entry). OneOf p x (put entry z)) (sym left.parts)
+    (put_beside p entry x left.before left.after n t left.none_before left.none_after))
 
 -- lines of other processes without one of them
 without : (p : ℕ) (a b : List Entry) (x : Entry) → Apart p (a ++ (x ∷ b)) → Apart p (a ++ b)
@@ -124,10 +210,10 @@ order_fits p f one ws steps ahead calls (fits_between {one = x} {entry = e} {ste
     let w = write_entry f e ws in
     shifted p ahead r.0 w.lines (order f w.waiting ss) r.1 ∙ order_fits p f (Some x) w.waiting ss r.0 calls more r.2
 order_fits p f one ws steps ahead calls (fits_begins {entry = e} {steps = ss} t more) (holds_none h) =
-    order_fits p f (Some e) (ws ++ (e ∷ [])) ss [] calls more
-    (holds_waiting t (record { before = ws; after = []; parts = refl; none_before = h; none_after = tt }))
+    order_fits p f (Some e) (put e (of_others e.process ws)) ss [] calls more
+    (holds_waiting t (put_one p e (of_others e.process ws) (others_apart_too p e.process ws h)))
 order_fits p f one ws steps ahead calls (fits_other_begins {one = x} {entry = e} {steps = ss} n more) h =
-    order_fits p f x (ws ++ (e ∷ [])) ss ahead calls more (begun_holds p x ws ahead e n h)
+    order_fits p f x (put e (of_others e.process ws)) ss ahead calls more (begun_holds p x ws ahead e n h)
 order_fits p f one ws steps ahead calls (fits_ends {entry = e} {steps = ss} {calls = k} more) (holds_gone h) =
     rw (none_picked (λ x. x.process == p) ws h) (ap (λ (z : List ReadCall). own p e ++ z) (order_fits p f None ws ss [] k more (holds_none h)))
 order_fits p f one ws steps ahead calls (fits_ends {entry = e} {steps = ss} {calls = k} more) (holds_waiting t h) =

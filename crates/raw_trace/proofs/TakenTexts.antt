@@ -16,16 +16,17 @@ use Rattle.raw_trace.specs.declared.fault.Fault.{Fault}
 use Rattle.raw_trace.specs.declared.halves.Role.{Role}
 use Rattle.raw_trace.specs.declared.halves.Role.TheVariants.{Alone, First, Second}
 use Rattle.raw_trace.specs.declared.order.Ordering.{Ordering}
-use Rattle.raw_trace.specs.declared.order.Piece.{Piece}
+use Rattle.raw_trace.specs.declared.piece.Piece.{Piece}
 use Rattle.raw_trace.specs.declared.settling.Ending.{Ending}
 use Rattle.raw_trace.specs.declared.settling.Ending.TheVariants.{AsUnread}
 use Rattle.raw_trace.specs.declared.writing.Written.{Written}
-use Rattle.raw_trace.specs.Order.{Entry, Begins, Ends, Comes, frees_for, write_entry, does}
+use Rattle.raw_trace.specs.Order.{Entry, Begins, Ends, Comes, frees_for, put, of_others, write_entry, does}
 use Rattle.strace_reader.specs.declared.item.Recorded.{Recorded}
 use Rattle.page_types.specs.declared.calls.Call.{Call}
 use Rattle.raw_trace.specs.Places.{Becomes, becomes_itself, becomes_mended, becomes_unreturned, becomes_undone, becomes_unread, IsReadAs, Changes, IsOtherForm, doubles, IsCause, IsTrouble, other_form, IsEntry}
 use Rattle.raw_trace.specs.Places.{HasReading, ReadText, Part, Whole, Back, part, IsDone, IsStep}
-use Rattle.raw_trace.specs.Stages.{entry, entries, fed_by, IsRole, AreRoles, WroteLines, WroteDue, EndsDue, DidSome, EndsAll}
+use Rattle.raw_trace.specs.Waiting.{entry, entries}
+use Rattle.raw_trace.specs.Stages.{fed_by, IsRole, AreRoles, WroteLines, WroteDue, EndsDue, DidSome, EndsAll}
 use Rattle.raw_trace.proofs.FoundHalves.{fed_length}
 use Rattle.raw_trace.proofs.GivenSteps.{did_more, did_end}
 use Rattle.raw_trace.proofs.LineCalls.{unread_passes}
@@ -187,7 +188,7 @@ module _ (strict : Bool) (lines : List Numbered) (place : ℕ) (roles : List Rol
 
   -- a text alone came
   pub alone_did : (number : ℕ) (shown : List ℕ) (e : Entry) (new : Ordering) → role ≡ Alone → IsShown lines place number shown
-      → IsEntry number false shown e → WroteDue strict old (write_entry frees_for e (entries old.waiting.items)) new
+      → IsEntry number false shown e → WroteDue strict old (write_entry frees_for e old.waiting) new
       → (counts : Counts) → DidSome strict lines place counts old → DidSome strict lines (place + 1) counts new
   alone_did number shown e new r s en w counts d =
       let x = here counts d in
@@ -195,7 +196,7 @@ module _ (strict : Bool) (lines : List Numbered) (place : ℕ) (roles : List Rol
 
   -- the writing ended at it
   pub alone_ends : (number : ℕ) (shown : List ℕ) (e : Entry) (fault : Fault) → role ≡ Alone → IsShown lines place number shown
-      → IsEntry number false shown e → EndsDue strict (write_entry frees_for e (entries old.waiting.items)).lines fault
+      → IsEntry number false shown e → EndsDue strict (write_entry frees_for e old.waiting).lines fault
       → (counts : Counts) × DidSome strict lines place counts old → EndsAll strict lines fault
   alone_ends number shown e fault r s en w (counts, d) =
       let x = here counts d in
@@ -204,7 +205,7 @@ module _ (strict : Bool) (lines : List Numbered) (place : ℕ) (roles : List Rol
   -- a first half began its call
   pub first_did : (number other to behind n : ℕ) (shown second line : List ℕ) (e : Entry) (new : Ordering) → role ≡ First other to behind
       → IsShown lines place number shown → IsShown lines other n second → line ≡ take to shown ++ drop behind second
-      → IsEntry number true line e → entries new.waiting.items ≡ entries old.waiting.items ++ (e ∷ []) → new.written ≡ old.written
+      → IsEntry number true line e → new.waiting ≡ put e (of_others e.process old.waiting) → new.written ≡ old.written
       → (counts : Counts) → DidSome strict lines place counts old → DidSome strict lines (place + 1) counts new
   first_did number other to behind n shown second line e new r s t le en w same counts d =
       let x = here counts d in
@@ -213,14 +214,14 @@ module _ (strict : Bool) (lines : List Numbered) (place : ℕ) (roles : List Rol
       (record { wrote = subst (λ (z : Written). WroteLines strict old.written [] z) (sym same) (wrote_none strict old.written); waits = w })
 
   -- a second half ended it
-  pub second_did : (p : ℕ) (new : Ordering) → role ≡ Second p → WroteDue strict old (does frees_for (Ends p) (entries old.waiting.items)) new
+  pub second_did : (p : ℕ) (new : Ordering) → role ≡ Second p → WroteDue strict old (does frees_for (Ends p) old.waiting) new
       → (counts : Counts) → DidSome strict lines place counts old → DidSome strict lines (place + 1) counts new
   second_did p new r w counts d =
       let x = here counts d in
       did_more strict lines place counts old new d role x (Ends p) (second_step lines place p d.fed d.later role x r) w
 
   -- the writing ended at it
-  pub second_ends : (p : ℕ) (fault : Fault) → role ≡ Second p → EndsDue strict (does frees_for (Ends p) (entries old.waiting.items)).lines fault
+  pub second_ends : (p : ℕ) (fault : Fault) → role ≡ Second p → EndsDue strict (does frees_for (Ends p) old.waiting).lines fault
       → (counts : Counts) × DidSome strict lines place counts old → EndsAll strict lines fault
   second_ends p fault r w (counts, d) =
       let x = here counts d in

@@ -1,4 +1,4 @@
--- Which waiting entry is picked, and what a turn of an entry that is due comes to.
+-- What a turn of an entry that is due comes to.
 use Rattle.std.proofs.Common.{◌≡◌, ℕ, zero, suc, ◌+◌, ◌*◌, ◌<◌, ◌≤◌, Bool, true, false, List, [], ◌∷◌, ◌++◌, length, take, get_or, Option, Some, None, refl, sym, ap, subst, ◌∙◌, append_assoc, inl, inr, arith}
 use Rattle.std.specs.Prelude.{reverse, remove}
 use Rattle.std.proofs.Common.{drop, take-append-drop}
@@ -8,74 +8,17 @@ use Rattle.raw_logs.specs.declared.counts.Counts.{Counts}
 use Rattle.raw_logs.proofs.TextLists.{item_of}
 use Rattle.raw_trace.specs.declared.fault.Fault.{Fault}
 use Rattle.raw_trace.specs.declared.order.Ordering.{Ordering}
-use Rattle.raw_trace.specs.declared.order.Piece.{Piece}
+use Rattle.raw_trace.specs.declared.piece.Piece.{Piece}
 use Rattle.raw_trace.specs.declared.writing.Written.{Written}
 use Rattle.raw_trace.specs.Order.{Entry, Picked, Written as WrittenOf, frees_for, pick, turns, write_due, write_entry}
 use Rattle.raw_trace.specs.Faults.{IsFirstFault}
 use Rattle.raw_trace.specs.declared.tally.Tally.{Tally}
 use Rattle.raw_trace.specs.Rewriting.{text_of, lines_as, counted_entry, counted_call, counted_all, calls_after}
-use Rattle.raw_trace.specs.Stages.{entry, entries, due_of, IsPicked, MayBeWritten, WroteLines, WroteDue, EndsDue, TookTurn, wrote_one, made_due, EndsTurn, DueSome}
+use Rattle.raw_trace.specs.Waiting.{entry, entries}
+use Rattle.raw_trace.specs.Stages.{due_of, MayBeWritten, WroteLines, WroteDue, EndsDue, TookTurn, wrote_one, made_due, EndsTurn, DueSome}
 use Rattle.raw_trace.proofs.EachEntries.{each_both}
 use Rattle.raw_trace.proofs.OneFault.{first_behind}
 use Rattle.raw_trace.proofs.OwnCalls.{NoneIn, none_both, none_picked, one_picked, Picks, picks_one, picks_none, picks}
-
--- ---- what is picked
-
--- a piece more was looked at
-pub none_turn : (test : Entry → Bool) (pieces : List Piece) (i : ℕ) (piece : Piece) → i < length pieces → piece ≡ get_or pieces i piece
-    → NoneIn test (take i (entries pieces)) → test (entry piece) ≡ false → NoneIn test (take (i + 1) (entries pieces))
-none_turn test pieces i piece l e h t =
-    let n = length-map pieces entry in
-    let same : take (i + 1) (entries pieces) ≡ take i (entries pieces) ++ (entry piece ∷ []) =
-    take_more (entries pieces) i (entry piece) (omega arith)
-    ∙ ap (λ (x : Entry). take i (entries pieces) ++ (x ∷ [])) (item_of entry pieces i piece ∙ ap entry (sym e)) in
-    subst (NoneIn test) (sym same) (none_both test (take i (entries pieces)) (entry piece ∷ []) h (t, tt))
-
--- all were looked at
-pub none_at_all : (test : Entry → Bool) (pieces : List Piece) (i : ℕ) → length pieces ≤ i → NoneIn test (take i (entries pieces))
-    → pick test (entries pieces) ≡ None
-none_at_all test pieces i l h =
-    let n = length-map pieces entry in
-    none_picked test (entries pieces) (subst (NoneIn test) (take_all i (entries pieces) (omega arith)) h)
-
--- a piece passes the test, and none before it
-pub is_picked : (test : Entry → Bool) (pieces : List Piece) (i : ℕ) (piece : Piece) → i < length pieces → piece ≡ get_or pieces i piece
-    → NoneIn test (take i (entries pieces)) → test (entry piece) ≡ true → IsPicked test (entries pieces) i
-is_picked test pieces i piece l e h t =
-    let all = entries pieces in
-    let n = length-map pieces entry in
-    let next : drop i all ≡ entry piece ∷ drop (i + 1) all =
-    drop_more all i (entry piece) (omega arith) ∙ ap (λ (x : Entry). x ∷ drop (i + 1) all) (item_of entry pieces i piece ∙ ap entry (sym e)) in
-    let parts = sym (take-append-drop i all) ∙ ap (λ (x : List Entry). take i all ++ x) next in
-    record {
-      before = take i all;
-      one = entry piece;
-      after = drop (i + 1) all;
-      parts = parts;
-      count = length-take-le i all (omega arith);
-      is = ap (pick test) parts ∙ one_picked test (take i all) (entry piece) (drop (i + 1) all) h t;
-    }
-
-entries_removed : (pieces : List Piece) (i : ℕ) → entries (remove pieces i) ≡ remove (entries pieces) i
-entries_removed [] zero = refl
-entries_removed [] (suc i) = refl
-entries_removed (x ∷ pieces) zero = refl
-entries_removed (x ∷ pieces) (suc i) = ap (λ (z : List Entry). entry x ∷ z) (entries_removed pieces i)
-
-removed_at : (a : List Entry) (x : Entry) (b : List Entry) → remove (a ++ (x ∷ b)) (length a) ≡ a ++ b
-removed_at [] x b = refl
-removed_at (y ∷ a) x b = ap (λ (z : List Entry). y ∷ z) (removed_at a x b)
-
--- the piece that is taken out is the one that is picked, and the others are left
-pub taken_out : (test : Entry → Bool) (pieces left : List Piece) (i : ℕ) (piece : Piece) → IsPicked test (entries pieces) i → piece ≡ get_or pieces i piece
-    → left ≡ remove pieces i → pick test (entries pieces) ≡ Some (record { first = entry piece; others = entries left })
-taken_out test pieces left i piece p e r =
-    let one : entry piece ≡ p.one =
-    ap entry e ∙ sym (item_of entry pieces i piece) ∙ (λ k. get_or (p.parts k) (sym p.count k) (entry piece))
-    ∙ get_or-append_seam p.before p.one p.after (entry piece) in
-    let others : entries left ≡ p.before ++ p.after =
-    ap entries r ∙ entries_removed pieces i ∙ (λ k. remove (p.parts k) (sym p.count k)) ∙ removed_at p.before p.one p.after in
-    p.is ∙ (λ k. Some (record { first = sym one k; others = sym others k }))
 
 -- ---- what is due
 
@@ -85,10 +28,6 @@ due_more a x = ap reverse (entries_both a (x ∷ [])) ∙ reverse-append (entrie
     entries_both : (a b : List Piece) → entries (a ++ b) ≡ entries a ++ entries b
     entries_both [] b = refl
     entries_both (x ∷ a) b = ap (λ (z : List Entry). entry x ∷ z) (entries_both a b)
-
-pub entries_more : (a : List Piece) (x : Piece) → entries (a ++ (x ∷ [])) ≡ entries a ++ (entry x ∷ [])
-entries_more [] x = refl
-entries_more (y ∷ a) x = ap (λ (z : List Entry). entry y ∷ z) (entries_more a x)
 
 -- two more are due
 pub due_two : (old one two : List Piece) (piece other : Piece) → one ≡ old ++ (piece ∷ []) → two ≡ one ++ (other ∷ [])
@@ -132,13 +71,13 @@ wrote_both strict x y z a b h g =
 
 -- at first the entry is due alone
 pub due_first : (strict : Bool) (old : Ordering) (piece : Piece) (due : List Piece) → due ≡ piece ∷ []
-    → DueSome strict old (write_entry frees_for (entry piece) (entries old.waiting.items)) due old
+    → DueSome strict old (write_entry frees_for (entry piece) old.waiting) due old
 due_first strict old piece due e =
     record {
       lines = [];
       wrote = wrote_none strict old.written;
-      left = write_entry frees_for (entry piece) (entries old.waiting.items);
-      turned = ap (λ (d : List Piece). write_due (turns (due_of d) (entries old.waiting.items)) frees_for (due_of d) (entries old.waiting.items)) (sym e);
+      left = write_entry frees_for (entry piece) old.waiting;
+      turned = ap (λ (d : List Piece). write_due (turns (due_of d) old.waiting) frees_for (due_of d) old.waiting) (sym e);
       more = refl;
       waits = refl;
     }
@@ -178,11 +117,11 @@ pub due_turn : (strict : Bool) (old before after : Ordering) (found : WrittenOf)
     → DueSome strict old found due0 before → due0 ≡ due1 ++ (piece ∷ []) → TookTurn strict (entry piece) before due1 after due2
     → DueSome strict old found due2 after
 due_turn strict old before after found piece due0 due1 due2 d e (wrote_one is w same ws) =
-    let turned = ap (λ (x : List Entry). write_due (turns x (entries before.waiting.items)) frees_for x
-    (entries before.waiting.items)) (due_less due0 due1 piece e) in
-    let left = write_due (turns (due_of due1) (entries before.waiting.items)) frees_for (due_of due1) (entries before.waiting.items) in
+    let turned = ap (λ (x : List Entry). write_due (turns x before.waiting) frees_for x
+    before.waiting) (due_less due0 due1 piece e) in
+    let left = write_due (turns (due_of due1) before.waiting) frees_for (due_of due1) before.waiting in
     let step : d.left ≡ record { lines = entry piece ∷ left.lines; waiting = left.waiting } =
-    d.turned ∙ turned ∙ turn_written (entry piece) (due_of due1) (entries before.waiting.items) is in
+    d.turned ∙ turned ∙ turn_written (entry piece) (due_of due1) before.waiting is in
     record {
       lines = d.lines ++ (entry piece ∷ []);
       wrote = wrote_both strict old.written before.written after.written d.lines (entry piece ∷ []) d.wrote w;
@@ -192,7 +131,7 @@ due_turn strict old before after found piece due0 due1 due2 d e (wrote_one is w 
       waits = d.waits ∙ ap (λ (x : WrittenOf). x.waiting) step;
     }
 due_turn strict old before after found piece due0 due1 due2 d e (made_due p is same due ws) =
-    let old_ws = entries before.waiting.items in
+    let old_ws = before.waiting in
     let turned = ap (λ (x : List Entry). write_due (turns x old_ws) frees_for x old_ws) (due_less due0 due1 piece e) in
     let count : turns (entry piece ∷ due_of due1) old_ws ≡ suc (turns (p.first ∷ (entry piece ∷ due_of due1)) p.others) =
     turns_picked (λ other. frees_for other (entry piece)) (entry piece) (due_of due1) old_ws p is in
@@ -210,9 +149,9 @@ due_turn strict old before after found piece due0 due1 due2 d e (made_due p is s
 pub due_done : (strict : Bool) (old now : Ordering) (found : WrittenOf) (due : List Piece) → DueSome strict old found due now → due ≡ []
     → WroteDue strict old found now
 due_done strict old now found due d e =
-    let left : d.left ≡ record { lines = []; waiting = entries now.waiting.items } =
-    d.turned ∙ ap (λ (x : List Piece). write_due (turns (due_of x) (entries now.waiting.items)) frees_for (due_of x) (entries now.waiting.items)) e
-    ∙ nothing_due (entries now.waiting.items) (turns [] (entries now.waiting.items)) in
+    let left : d.left ≡ record { lines = []; waiting = now.waiting } =
+    d.turned ∙ ap (λ (x : List Piece). write_due (turns (due_of x) now.waiting) frees_for (due_of x) now.waiting) e
+    ∙ nothing_due now.waiting (turns [] now.waiting) in
     record {
       wrote = subst (λ (x : List Entry). WroteLines strict old.written x now.written)
           (sym (d.more ∙ ap (λ (x : WrittenOf). d.lines ++ x.lines) left ∙ append-nil d.lines)) d.wrote;
@@ -225,11 +164,11 @@ due_done strict old now found due d e =
 
 -- a turn that ends so ends the whole
 pub due_ends : (strict : Bool) (old before : Ordering) (found : WrittenOf) (piece : Piece) (due0 due1 : List Piece) (fault : Fault)
-    → DueSome strict old found due0 before → due0 ≡ due1 ++ (piece ∷ []) → EndsTurn strict (entry piece) (entries before.waiting.items) fault
+    → DueSome strict old found due0 before → due0 ≡ due1 ++ (piece ∷ []) → EndsTurn strict (entry piece) before.waiting fault
     → EndsDue strict found.lines fault
 due_ends strict old before found piece due0 due1 fault d e (inl m) = inl m
 due_ends strict old before found piece due0 due1 fault d e (inr h) =
-    let ws = entries before.waiting.items in
+    let ws = before.waiting in
     let turned = ap (λ (x : List Entry). write_due (turns x ws) frees_for x ws) (due_less due0 due1 piece e) in
     let left = write_due (turns (due_of due1) ws) frees_for (due_of due1) ws in
     let step : d.left ≡ record { lines = entry piece ∷ left.lines; waiting = left.waiting } =
@@ -239,19 +178,15 @@ due_ends strict old before found piece due0 due1 fault d e (inr h) =
 
 -- fewer turns are left
 pub turn_smaller : (strict : Bool) (one : Entry) (old new : Ordering) (due more : List Piece) → TookTurn strict one old due new more
-    → length more + 2 * length new.waiting.items < length due + 1 + 2 * length old.waiting.items
+    → length more + 2 * length new.waiting < length due + 1 + 2 * length old.waiting
 turn_smaller strict one old new due more (wrote_one is w same ws) =
     let a = ap length same in
     let b = ap length ws in
-    let m = length-map new.waiting.items entry in
-    let n = length-map old.waiting.items entry in
     omega arith
 turn_smaller strict one old new due more (made_due p is same d ws) =
-    let c = turns_picked (λ other. frees_for other one) one [] (entries old.waiting.items) p is in
+    let c = turns_picked (λ other. frees_for other one) one [] old.waiting p is in
     let a = ap length d in
     let b = ap length ws in
-    let m = length-map new.waiting.items entry in
-    let n = length-map old.waiting.items entry in
     let r = length-reverse (entries more) in
     let s = length-reverse (entries due) in
     let t = length-map more entry in
@@ -261,7 +196,7 @@ turn_smaller strict one old new due more (made_due p is same d ws) =
 -- so each turn leaves fewer
 pub due_smaller : (strict : Bool) (one : Piece) (old new : Ordering) (due0 due1 due2 : List Piece) → due0 ≡ due1 ++ (one ∷ [])
     → TookTurn strict (entry one) old due1 new due2
-    → length due2 + 2 * length new.waiting.items < length due0 + 2 * length old.waiting.items
+    → length due2 + 2 * length new.waiting < length due0 + 2 * length old.waiting
 due_smaller strict one old new due0 due1 due2 e t =
     let k = turn_smaller strict (entry one) old new due1 due2 t in
     let l = ap length e in

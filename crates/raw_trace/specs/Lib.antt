@@ -4,4 +4,5 @@ pub mod Rewriting
 pub mod Laws
 pub mod Faults
 pub mod Roles
+pub mod Waiting
 pub mod Stages

@@ -1,11 +1,13 @@
 -- In which order the lines of a log are written. The kernel took a call that was cut in two at some time between its
 -- halves. It stands at its second half, unless a call that ends between them takes pages that it frees: then it stands
--- just before that one, and what it takes in turn before both. So munmap(2) and mremap(2) free pages before another
--- call has them. A mapping with MAP_FIXED takes the pages that are there, so it needs none to be free. Each process
--- keeps its order, since between the halves of a call it makes no other. The rule is this project's own profile, after
--- mmap(2) and the logs of programs with threads.
+-- just before that one, and what it takes in turn before both; of several the one that frees the lowest page goes
+-- first. So munmap(2) and mremap(2) free pages before another call has them. A mapping with MAP_FIXED takes the pages
+-- that are there, so it needs none to be free. Each process keeps its order, since between the halves of a call it
+-- makes no other. The rule is this project's own profile, after mmap(2) and the logs of programs with threads.
 use Rattle.std.specs.Prelude.{ℕ, suc, zero, ◌+◌, ◌*◌, ◌==◌, List, [], ◌∷◌, ◌++◌, length, Bool, true, false, if◌then◌else◌, nat_lt, max, min}
 use Rattle.std.specs.Prelude.{Option, Some, None, option_map, unwrap_or}
+use Rattle.std.specs.declared.cmp.Ordering.{Ordering}
+use Rattle.std.specs.Ordering.{ordering_then, match_ordering, nat_cmp}
 use Rattle.page_types.specs.declared.calls.Call.{Call}
 use Rattle.page_types.specs.declared.calls.Call.TheVariants.{Map, Unmap, Protect, Fault, Seal, Brk, Remap}
 use Rattle.page_types.specs.Pages.{page_of, end_page}
@@ -107,6 +109,25 @@ pick test (entry ∷ entries) =
     if test entry then Some (record { first = entry; others = entries })
     else option_map (λ p. record { first = p.first; others = entry ∷ p.others }) (pick test entries)
 
+-- where a call stands among those that wait: by the first page that it frees, then by its process
+abbrev pub stand : Entry → ℕ × ℕ
+stand entry = ((freed entry.call).from, entry.process)
+
+-- of two such places
+abbrev pub pair_cmp : ℕ × ℕ → ℕ × ℕ → Ordering
+pair_cmp = λ a b. ordering_then (nat_cmp a.0 b.0) (nat_cmp a.1 b.1)
+
+-- those that wait with one more, at its place
+abbrev pub put : Entry → List Entry → List Entry
+put entry [] = entry ∷ []
+put entry (other ∷ others) =
+    match_ordering (pair_cmp (stand entry) (stand other)) (entry ∷ (other ∷ others)) (entry ∷ others) (other ∷ put entry others)
+
+-- those of other processes: a process has one call that waits at most
+abbrev pub of_others : ℕ → List Entry → List Entry
+of_others process [] = []
+of_others process (entry ∷ entries) = if entry.process == process then of_others process entries else entry ∷ of_others process entries
+
 -- what is written by now, and which calls wait still
 pub record Written : Type 0 where
   pub lines : List Entry
@@ -135,7 +156,7 @@ write_entry frees entry waiting = write_due (turns (entry ∷ []) waiting) frees
 -- What a step writes: a call that begins waits; one that ends is written, where it waits still; a whole line is
 -- written.
 abbrev pub does : (Entry → Entry → Bool) → Step → List Entry → Written
-does frees (Begins entry) waiting = record { lines = []; waiting = waiting ++ (entry ∷ []) }
+does frees (Begins entry) waiting = record { lines = []; waiting = put entry (of_others entry.process waiting) }
 does frees (Comes entry) waiting = write_entry frees entry waiting
 does frees (Ends process) waiting =
     unwrap_or (option_map (λ p. write_entry frees p.first p.others) (pick (λ entry. entry.process == process) waiting))

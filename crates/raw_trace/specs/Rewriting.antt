@@ -7,9 +7,10 @@ use Rattle.raw_logs.specs.Counting.{one_more_of, within_32_bits}
 use Rattle.raw_logs.specs.Log.{Numbered, Each}
 use Rattle.raw_logs.specs.Reading.{AreTexts}
 use Rattle.page_types.specs.declared.calls.Call.{Call}
-use Rattle.page_types.specs.declared.calls.Call.TheVariants.{Map, Brk}
+use Rattle.page_types.specs.declared.calls.Call.TheVariants.{Map, Protect, Brk}
 use Rattle.strace_reader.specs.declared.item.Recorded.{Recorded}
-use Rattle.strace_reader.specs.declared.item.Recorded.TheVariants.{Value}
+use Rattle.strace_reader.specs.declared.item.Recorded.TheVariants.{Value, Failed}
+use Rattle.strace_reader.specs.declared.item.Errno.TheVariants.{Einval}
 use Rattle.raw_trace.specs.declared.calls.ReadCall.{ReadCall}
 use Rattle.raw_trace.specs.declared.tally.Tally.{Tally}
 use Rattle.raw_trace.specs.declared.fault.Cause.{Cause}
@@ -75,7 +76,7 @@ counted_all counts (entry ∷ entries) = counted_all (counted_entry entry counts
 
 -- no call
 abbrev pub no_calls : Tally
-no_calls = record { calls = 0; start = None; heap = None; programs = 0; remapped = 0 }
+no_calls = record { calls = 0; start = None; heap = None; programs = 0; remapped = 0; protects = 0 }
 
 -- where the heap ends behind a call, as it was recorded
 abbrev pub heap_end : Call → Option Recorded → Option ℕ → Option ℕ
@@ -103,6 +104,12 @@ abbrev pub changed_pages : Call → Option Recorded → Pages
 changed_pages (Map addr len prot flags) (Some (Value at)) = pages_at at len
 changed_pages call recorded = unwrap_or (option_map (freed_by call) recorded) no_pages
 
+-- the call is an mprotect that failed, and may have changed the pages before the fault
+abbrev pub is_part_done : Call → Option Recorded → Bool
+is_part_done (Protect addr len prot) (Some (Failed Einval)) = false
+is_part_done (Protect addr len prot) (Some (Failed errno)) = true
+is_part_done call recorded = false
+
 -- one call more, where it is one: one that is told another end of the heap shows that another program began, and one
 -- that maps or frees pages of the heap may leave it otherwise than brk says
 abbrev pub counted_call : Option ReadCall → Tally → Tally
@@ -114,6 +121,7 @@ counted_call (Some read) t =
       heap = heap_end read.call read.recorded t.heap;
       programs = if moved then within_32_bits (t.programs + 1) else t.programs;
       remapped = if meet (changed_pages read.call read.recorded) (heap_pages t.start t.heap) then within_32_bits (t.remapped + 1) else t.remapped;
+      protects = if is_part_done read.call read.recorded then within_32_bits (t.protects + 1) else t.protects;
     }
 
 -- the calls among lines, behind these

@@ -15,11 +15,12 @@ use Rattle.raw_trace.specs.declared.halves.Role.{Role}
 use Rattle.raw_trace.specs.declared.halves.Role.TheVariants.{Alone, First, Second}
 use Rattle.raw_trace.specs.declared.halves.Waiting.{Waiting}
 use Rattle.raw_trace.specs.declared.order.Ordering.{Ordering}
-use Rattle.raw_trace.specs.declared.order.Piece.{Piece}
+use Rattle.raw_trace.specs.declared.piece.Piece.{Piece}
 use Rattle.raw_trace.specs.declared.writing.Written.{Written}
 use Rattle.raw_trace.specs.Faults.{IsEntryFault, IsFirstFault, Stops}
 use Rattle.raw_trace.specs.Order.{Entry, Step, Picked, Written as WrittenOf, frees_for, pick, turns, write_due, order}
 use Rattle.raw_trace.specs.Places.{ReadText, IsReadText, is_of, Whole, Front, Back, part, AreSteps}
+use Rattle.raw_trace.specs.Waiting.{entry, entries}
 use Rattle.raw_trace.specs.Rewriting.{text_of, lines_as, counted_all, no_calls, calls_after}
 
 -- ---- halves
@@ -73,30 +74,6 @@ pub record FindsRole (finder : Finder) (texts : List ReadText) (role : Role) : T
 
 -- ---- lines in their order
 
--- a line as it is written
-abbrev pub entry : Piece → Entry
-entry piece = record {
-  number = piece.number;
-  process = piece.process;
-  line = piece.line.items;
-  ending = piece.ending;
-  joined = piece.joined;
-  trouble = piece.trouble;
-  call = piece.call;
-}
-
-abbrev pub entries : List Piece → List Entry
-entries pieces = map entry pieces
-
--- the test holds for the one at the place and for none before it
-pub record IsPicked (test : Entry → Bool) (all : List Entry) (place : ℕ) : Type 0 where
-  pub before : List Entry
-  pub one : Entry
-  pub after : List Entry
-  pub parts : all ≡ before ++ (one ∷ after)
-  pub count : length before ≡ place
-  pub is : pick test all ≡ Some (record { first = one; others = before ++ after })
-
 -- each of the lines is so
 abbrev pub EachEntry : (Entry → Type 0) → List Entry → Type 0
 EachEntry P [] = Unit {0}
@@ -116,7 +93,7 @@ pub record WroteLines (strict : Bool) (old : Written) (lines : List Entry) (new 
 -- what the rule has written
 pub record WroteDue (strict : Bool) (old : Ordering) (found : WrittenOf) (new : Ordering) : Type 0 where
   pub wrote : WroteLines strict old.written found.lines new.written
-  pub waits : entries new.waiting.items ≡ found.waiting
+  pub waits : new.waiting ≡ found.waiting
 
 -- the writing of these lines ends so, or for want of memory
 abbrev pub EndsDue : Bool → List Entry → Fault → Type 0
@@ -128,10 +105,10 @@ due_of pieces = reverse (entries pieces)
 
 -- An entry was written, as no other frees pages for it; or the first that does is due before it.
 pub data TookTurn (strict : Bool) (one : Entry) (old : Ordering) (due_old : List Piece) (new : Ordering) (due_new : List Piece) : Type 0 where
-  wrote_one : pick (λ other. frees_for other one) (entries old.waiting.items) ≡ None → WroteLines strict old.written (one ∷ []) new.written →
-      due_new ≡ due_old → entries new.waiting.items ≡ entries old.waiting.items → TookTurn strict one old due_old new due_new
-  made_due : (p : Picked) → pick (λ other. frees_for other one) (entries old.waiting.items) ≡ Some p → new.written ≡ old.written →
-      due_of due_new ≡ p.first ∷ (one ∷ due_of due_old) → entries new.waiting.items ≡ p.others → TookTurn strict one old due_old new due_new
+  wrote_one : pick (λ other. frees_for other one) old.waiting ≡ None → WroteLines strict old.written (one ∷ []) new.written →
+      due_new ≡ due_old → new.waiting ≡ old.waiting → TookTurn strict one old due_old new due_new
+  made_due : (p : Picked) → pick (λ other. frees_for other one) old.waiting ≡ Some p → new.written ≡ old.written →
+      due_of due_new ≡ p.first ∷ (one ∷ due_of due_old) → new.waiting ≡ p.others → TookTurn strict one old due_old new due_new
 
 -- the turn of an entry ends so
 abbrev pub EndsTurn : Bool → Entry → List Entry → Fault → Type 0
@@ -142,7 +119,7 @@ pub record DueSome (strict : Bool) (old : Ordering) (found : WrittenOf) (due : L
   pub lines : List Entry
   pub wrote : WroteLines strict old.written lines now.written
   pub left : WrittenOf
-  pub turned : left ≡ write_due (turns (due_of due) (entries now.waiting.items)) frees_for (due_of due) (entries now.waiting.items)
+  pub turned : left ≡ write_due (turns (due_of due) now.waiting) frees_for (due_of due) now.waiting
   pub more : found.lines ≡ lines ++ left.lines
   pub waits : found.waiting ≡ left.waiting
 
@@ -171,7 +148,7 @@ pub record DidSome (strict : Bool) (lines : List Numbered) (place : ℕ) (counts
   pub steps : List Step
   pub are : AreSteps [] fed later steps
   pub written : List Entry
-  pub follows : (more : List Step) → order frees_for [] (steps ++ more) ≡ written ++ order frees_for (entries now.waiting.items) more
+  pub follows : (more : List Step) → order frees_for [] (steps ++ more) ≡ written ++ order frees_for now.waiting more
   pub out : now.written.out.items ≡ text_of (lines_as written)
   pub sum : now.written.counts ≡ counted_all counts written
   pub calls : now.written.calls ≡ calls_after no_calls written

@@ -126,7 +126,7 @@ fn taken_by(call: Call, value: u64) -> Pages
 }
 
 /// The pages that a line frees.
-fn freed(call: Option<ReadCall>) -> Pages
+pub(crate) fn freed(call: Option<ReadCall>) -> Pages
     ensures { result ≡ freed call }
 {
     let Some(read) = call else {
@@ -139,7 +139,7 @@ fn freed(call: Option<ReadCall>) -> Pages
 }
 
 /// The pages that a line takes.
-fn taken(call: Option<ReadCall>) -> Pages
+pub(crate) fn taken(call: Option<ReadCall>) -> Pages
     ensures { result ≡ taken call }
 {
     let Some(read) = call else {
@@ -152,7 +152,7 @@ fn taken(call: Option<ReadCall>) -> Pages
 }
 
 /// Whether some page is one of both.
-fn meet(a: Pages, b: Pages) -> bool
+pub(crate) fn meet(a: Pages, b: Pages) -> bool
     ensures { result ≡ meet a b }
 {
     a.from.max(b.from) < a.to.min(b.to)
@@ -187,11 +187,4 @@ pub(crate) fn changes_heap(read: ReadCall, start: Option<u64>, end: Option<u64>)
         changed_pages(read.call, read.recorded),
         heap_pages(start, end),
     )
-}
-
-/// Whether the first line frees pages that the second takes.
-pub(crate) fn frees_for(first: Option<ReadCall>, second: Option<ReadCall>) -> bool
-    ensures { result ≡ meet (freed first) (taken second) }
-{
-    meet(freed(first), taken(second))
 }

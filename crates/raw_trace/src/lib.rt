@@ -8,10 +8,12 @@ mod fault;
 mod halves;
 mod laws;
 mod order;
+mod piece;
 mod rewriting;
 mod roles;
 mod settling;
 mod tally;
+mod waiting;
 mod writing;
 
 pub use calls::{Pages, ReadCall};

@@ -4,11 +4,11 @@
 
 ghost use Rattle.std.specs.Prelude.{◌≡◌, ◌+◌, if◌then◌else◌};
 ghost use Rattle.raw_logs.specs.Counting.{within_32_bits};
-ghost use Rattle.raw_trace.specs.Rewriting.{no_calls, heap_end, heap_start, is_moved, counted_call};
+ghost use Rattle.raw_trace.specs.Rewriting.{no_calls, heap_end, heap_start, is_moved, is_part_done, counted_call};
 
 use crate::calls::{ReadCall, changes_heap};
 use page_types::Call;
-use strace_reader::Recorded;
+use strace_reader::{Errno, Recorded};
 
 /// What is counted of the calls that were written.
 #[derive(Clone, Copy, PartialEq, Eq, Debug)]
@@ -23,6 +23,8 @@ pub struct Tally {
     pub programs: u32,
     /// How many of them map or free pages of the heap, so that it may not be what brk(2) told.
     pub remapped: u32,
+    /// How many of them are mprotects that failed, and may have changed pages before the fault.
+    pub protects: u32,
 }
 
 /// A count with one more, where there is one; it stays at 2^32 - 1.
@@ -72,6 +74,16 @@ fn is_moved(call: Call, recorded: Option<Recorded>, heap: Option<u64>) -> bool
     }
 }
 
+/// Whether a call is an mprotect that failed, and may have changed pages before the fault.
+fn is_part_done(call: Call, recorded: Option<Recorded>) -> bool
+    ensures { result ≡ is_part_done call recorded }
+{
+    match (call, recorded) {
+        (Call::Protect { .. }, Some(Recorded::Failed(errno))) => !matches!(&errno, Errno::Einval),
+        _ => false,
+    }
+}
+
 impl Tally {
     /// No call.
     pub(crate) fn new() -> Tally
@@ -83,6 +95,7 @@ impl Tally {
             heap: None,
             programs: 0,
             remapped: 0,
+            protects: 0,
         }
     }
 
@@ -95,12 +108,14 @@ impl Tally {
         };
         let moved = is_moved(read.call, read.recorded, self.heap);
         let remaps = changes_heap(read, self.start, self.heap);
+        let fails = is_part_done(read.call, read.recorded);
         Tally {
             calls: self.calls.saturating_add(1),
             start: heap_start(moved, read.call, read.recorded, self.start),
             heap: heap_end(read.call, read.recorded, self.heap),
             programs: one_more_if(moved, self.programs),
             remapped: one_more_if(remaps, self.remapped),
+            protects: one_more_if(fails, self.protects),
         }
     }
 }

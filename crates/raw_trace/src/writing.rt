@@ -11,15 +11,18 @@ ghost use Rattle.raw_trace.specs.Faults.{IsEntryFault};
 ghost use Rattle.std.specs.Bool.{Decides};
 ghost use Rattle.raw_trace.specs.Places.{Becomes, IsReadAs, Changes, IsOtherForm, doubles, IsCause, IsTrouble, other_form, IsEntry};
 ghost use Rattle.raw_trace.specs.Rewriting.{text_of, is_form, is_unanswered, counted, counted_entry, counted_call};
-ghost use Rattle.raw_trace.specs.Stages.{entry, AreRoles, MayBeWritten, WroteLines, DidSome, StandsAt, WroteAll, EndsAll};
+ghost use Rattle.raw_trace.specs.Waiting.{entry};
+ghost use Rattle.raw_trace.specs.Stages.{AreRoles, MayBeWritten, WroteLines, DidSome, StandsAt, WroteAll, EndsAll};
 
 use crate::calls::{ReadCall, call_of};
 use crate::fault::{Cause, Fault, Trouble};
 use crate::halves::Role;
-use crate::order::{Ordering, Piece};
+use crate::order::Ordering;
+use crate::piece::Piece;
 use crate::roles::Roles;
 use crate::settling::{Ending, cause_of, joined, settle};
 use crate::tally::Tally;
+use crate::waiting::Waiting;
 use page_types::Call;
 use raw_lines::changes_space;
 use raw_logs::{Counts, LINE_LIMIT, Lines, Sort};
@@ -365,7 +368,7 @@ pub(crate) fn write_lines(
 {
     let count = lines.len();
     let mut ordering = Ordering {
-        waiting: Vec::new(alloc),
+        waiting: Waiting::new(alloc),
         written: Written {
             out: Vec::new(alloc),
             counts,

@@ -55,6 +55,7 @@ named_counts t c =
     (codes "calls of other forms, not played", c.forms) ∷
     (codes "calls with an injected result, not played", c.injected) ∷
     (codes "calls that failed for reasons outside, not played", c.outside) ∷
+    (codes "mprotects that failed, played", t.protects) ∷
     (codes "calls whose result isn't told", c.unanswered) ∷ []
 
 -- what a text points to, and the count beside it

@@ -62,7 +62,7 @@ fn write_counts<K: Sink>(err: &mut K, counts: &[(&[u8], u32)]) -> Result<(), Fai
 }
 
 /// What each count counts, in the order in which they are written.
-fn named_counts(calls: Tally, counts: &Counts) -> [(&'static [u8], u32); 22]
+fn named_counts(calls: Tally, counts: &Counts) -> [(&'static [u8], u32); 23]
     ensures { map named_count result ≡ named_counts calls counts.now }
 {
     [
@@ -93,6 +93,7 @@ fn named_counts(calls: Tally, counts: &Counts) -> [(&'static [u8], u32); 22]
             b"calls that failed for reasons outside, not played",
             counts.outside,
         ),
+        (b"mprotects that failed, played", calls.protects),
         (b"calls whose result isn't told", counts.unanswered),
     ]
 }

@@ -1,5 +1,5 @@
 use Rattle.std.proofs.Common.{refl, subst}
-use Rattle.raw_trace.specs.declared.order.Piece.{Piece}
+use Rattle.raw_trace.specs.declared.piece.Piece.{Piece}
 use Rattle.raw_trace.specs.Places.{IsTrouble, IsReadAs}
 use Rattle.raw_trace.proofs.TakenTexts.{entry_of}
 use Rattle.raw_trace.proofs.writing.piece_of.Goals as goal

@@ -7,7 +7,7 @@ use Rattle.raw_trace.proofs.writing.write_lines.Goals as goal
 -- nothing was done yet
 pub places-init : goal.places-init
 places-init c = (
-  did_none c.args.strict c.args.lines c.args.roles.now c.args.counts _ c.requires.roles c.new.ensures.items c.new-2.ensures.items refl c.new-3.ensures,
+  did_none c.args.strict c.args.lines c.args.roles.now c.args.counts _ c.requires.roles c.new.ensures c.new-2.ensures.items refl c.new-3.ensures,
   refl,
   omega arith,
 )
