@@ -27,7 +27,8 @@ pub fn check(start: PlainSpace, text: &[u8]) -> Result<Verdict, AllocError>
     Ok(judged(space, text))
 }
 
-/// The same from a space whose room is reserved. It takes no memory, so each text of at most 2^26 bytes has its verdict.
+/// The same from a space whose room is reserved. It takes no memory, so each text of at most 2^26 bytes has its
+/// verdict.
 pub fn judged(start: ReservedSpace, text: &[u8]) -> Verdict
     requires { length text.now ≤ 2 ^ 26 }
     ensures found { IsVerdict start (lines_of text.now) result }

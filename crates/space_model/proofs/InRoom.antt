@@ -1,5 +1,6 @@
 -- A change of the areas of some blocks, with the others left alone, is one of the whole list.
-use Rattle.std.proofs.Common.{◌≡◌, ℕ, ◌+◌, ◌-◌, ◌*◌, ◌^◌, ◌<◌, ◌≤◌, List, [], ◌∷◌, ◌++◌, length, length-append, take, drop, All, sym, ◌∙◌, ap, subst, refl, arith}
+use Rattle.std.proofs.Common.{◌≡◌, ℕ, ◌+◌, ◌-◌, ◌*◌, ◌^◌, ◌<◌, ◌≤◌, List, [], ◌∷◌, ◌++◌, length, length-append, take, drop}
+use Rattle.std.proofs.Common.{All, sym, ◌∙◌, ap, subst, refl, arith}
 use Rattle.std.proofs.lemmas.List.{take-append-drop, drop-drop, take_at, drop_at, drop_all}
 use Rattle.std.proofs.lemmas.List.Elements.{All-nil}
 use Rattle.std.specs.List.{splice}
@@ -51,7 +52,9 @@ place_by blocks rest change page end first count from to p e f is b =
       within = omega (arith, long);
       upto = subst (λ X. All (λ a. a.hi ≤ change.first.lo - 1) (areas_of X)) (sym front) (subst (λ n. All (λ a. a.hi ≤ n) (areas_of f.front)) p f.upto);
       from_is = f.end_is ∙ ap (λ X. end_of 0 (areas_of X)) (sym front);
-      above = subst (λ X. All (λ a. last_end 0 (patches_of change) < a.lo) (areas_of X)) (sym back) (subst (λ n. All (λ a. n < a.lo) (areas_of b.back)) e b.above);
+      above =
+          subst (λ X. All (λ a. last_end 0 (patches_of change) < a.lo) (areas_of X)) (sym back)
+          (subst (λ n. All (λ a. n < a.lo) (areas_of b.back)) e b.above);
       to_is = b.start_is ∙ ap (λ X. start_of (areas_of X)) (sym back);
     }
 
@@ -171,8 +174,3 @@ module _ (blocks : List Block) (change : Change) (place : Place) (p : IsPlace bl
     -- all are few enough to count
     pub after_fits : length (areas_of blocks) < 2 ^ 30 → row_count after < 2 ^ 32
     after_fits few = rows-fit (areas_of blocks) after change w few r after_kinds
-
-    -- the new areas are not more than all rows
-    pub after_long : length N ≤ row_count after
-    unfolding before behind
-    after_long = omega (arith, middle_fewer before N behind, length-rows after)

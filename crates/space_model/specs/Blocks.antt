@@ -1,7 +1,8 @@
 -- A list of areas that stands in blocks, as `ReservedSpace` keeps it: a change gathers the blocks at its place, and
 -- leaves the others alone. This is the project's own way; only private functions speak of it, and what callers see is
 -- one list of areas.
-use Rattle.std.specs.Prelude.{ℕ, ◌+◌, ◌-◌, ◌*◌, ◌^◌, ◌<◌, ◌≤◌, ◌≡◌, Option, Some, None, MatchOption, List, [], ◌∷◌, ◌++◌, length, take, drop, All, IfSome, slice_get, vec_capacity}
+use Rattle.std.specs.Prelude.{ℕ, ◌+◌, ◌-◌, ◌*◌, ◌^◌, ◌<◌, ◌≤◌, ◌≡◌, List, [], ◌∷◌, ◌++◌, length, take, drop}
+use Rattle.std.specs.Prelude.{All, IfSome, slice_get, vec_capacity}
 use Rattle.page_types.specs.declared.TheConstants.{ROWS}
 use Rattle.space_model.specs.declared.areas.Area.{Area}
 use Rattle.space_model.specs.declared.blocks.Block.{Block}

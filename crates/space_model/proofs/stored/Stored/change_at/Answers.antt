@@ -10,7 +10,8 @@ use Rattle.space_model.specs.Effect.{patched}
 use Rattle.space_model.specs.Judges.{patches_of}
 use Rattle.space_model.specs.Judges.Makes.{within, beyond}
 use Rattle.space_model.specs.Blocks.{areas_of, blocks_at, IsBlock}
-use Rattle.space_model.proofs.InRoom.{window_areas, window_few, window_rows, planned_kinds, few_more, after, after_kinds, after_rows, after_within, after_fits, after_long, length-rows, written}
+use Rattle.space_model.proofs.InRoom.{window_areas, window_few, window_rows, planned_kinds, few_more, after, after_kinds, after_rows, after_within}
+use Rattle.space_model.proofs.InRoom.{after_fits, length-rows, written}
 use Rattle.space_model.proofs.NamedKinds.{named-after}
 use Rattle.space_model.proofs.Stepping.{row_count-le}
 use Rattle.space_model.proofs.stored.Stored.change_at.Goals as goal
@@ -83,7 +84,9 @@ unreachable-requires-in_default-replace c =
     let more = few_more W _ c.args.change own c.requires.rising kinds in
     elim c.in_default-replace.ensures.full [
       | inl lt ↦ omega (arith, lt, more, few, c.requires.stored.within, c.requires.stored.taken, c.gather_at.ensures.capacity)
-      | inr lt ↦ omega (arith, lt, c.in-Ok.ensures.longer, few, ap length c.as_slice-taken.ensures.value, c.requires.stored.within, c.requires.stored.middle, c.in-Ok.ensures.capacity)
+      | inr lt ↦
+          omega (arith, lt, c.in-Ok.ensures.longer, few, ap length c.as_slice-taken.ensures.value, c.requires.stored.within,
+          c.requires.stored.middle, c.in-Ok.ensures.capacity)
     ]
 
 -- the rows of what became of them are few enough to count
@@ -93,7 +96,8 @@ rows_between-requires-2 c =
     let is = c.as_slice-taken.ensures.value ∙ c.gather_at.ensures.items ∙
     ap (λ X. areas_of (blocks_at X c.args.place.first c.args.place.count)) c.as_slice.ensures.value in
     let kinds : HasKinds (patched (patches_of c.args.change) (kind_at c.as_slice-taken.result.now)) N =
-    planned_kinds _ _ _ _ c.args.change _ _ _ c.in-Ok.ensures.plan c.as_slice-taken.ensures.value (c.as_slice-2.ensures.value ∙ c.in-Ok-replace.ensures.items) in
+    planned_kinds _ _ _ _ c.args.change _ _ _ c.in-Ok.ensures.plan c.as_slice-taken.ensures.value
+    (c.as_slice-2.ensures.value ∙ c.in-Ok-replace.ensures.items) in
     let few : length (areas_of c.args.self.now.blocks.items) < 2 ^ 30 = omega (arith, c.requires.stored.within, c.requires.stored.most) in
     let low = after_within c.args.self.now.blocks.items c.args.change c.args.place c.requires.place c.requires.stored.areas _ is c.requires.rising N kinds in
     let fits = after_fits c.args.self.now.blocks.items c.args.change c.args.place c.requires.place c.requires.stored.areas _ is c.requires.rising N kinds few in
@@ -106,7 +110,8 @@ overflow_add-rows c =
     let is = c.as_slice-taken.ensures.value ∙ c.gather_at.ensures.items ∙
     ap (λ X. areas_of (blocks_at X c.args.place.first c.args.place.count)) c.as_slice.ensures.value in
     let kinds : HasKinds (patched (patches_of c.args.change) (kind_at c.as_slice-taken.result.now)) N =
-    planned_kinds _ _ _ _ c.args.change _ _ _ c.in-Ok.ensures.plan c.as_slice-taken.ensures.value (c.as_slice-2.ensures.value ∙ c.in-Ok-replace.ensures.items) in
+    planned_kinds _ _ _ _ c.args.change _ _ _ c.in-Ok.ensures.plan c.as_slice-taken.ensures.value
+    (c.as_slice-2.ensures.value ∙ c.in-Ok-replace.ensures.items) in
     let few : length (areas_of c.args.self.now.blocks.items) < 2 ^ 30 = omega (arith, c.requires.stored.within, c.requires.stored.most) in
     let rows = after_rows c.args.self.now.blocks.items c.args.change c.args.place c.requires.place c.requires.stored.areas _ is c.requires.rising N kinds in
     let fits = after_fits c.args.self.now.blocks.items c.args.change c.args.place c.requires.place c.requires.stored.areas _ is c.requires.rising N kinds few in
@@ -120,7 +125,8 @@ returns-then-rows-gt-ROWS-clause-made c =
     let is = c.as_slice-taken.ensures.value ∙ c.gather_at.ensures.items ∙
     ap (λ X. areas_of (blocks_at X c.args.place.first c.args.place.count)) c.as_slice.ensures.value in
     let kinds : HasKinds (patched (patches_of c.args.change) (kind_at c.as_slice-taken.result.now)) N =
-    planned_kinds _ _ _ _ c.args.change _ _ _ c.in-Ok.ensures.plan c.as_slice-taken.ensures.value (c.as_slice-2.ensures.value ∙ c.in-Ok-replace.ensures.items) in
+    planned_kinds _ _ _ _ c.args.change _ _ _ c.in-Ok.ensures.plan c.as_slice-taken.ensures.value
+    (c.as_slice-2.ensures.value ∙ c.in-Ok-replace.ensures.items) in
     let B = after c.args.self.now.blocks.items c.args.change c.args.place c.requires.place c.requires.stored.areas _ is c.requires.rising N kinds in
     let rows = after_rows c.args.self.now.blocks.items c.args.change c.args.place c.requires.place c.requires.stored.areas _ is c.requires.rising N kinds in
     let less = window_rows c.args.self.now.blocks.items c.args.change c.args.place c.requires.place c.requires.stored.areas _ is in
@@ -136,7 +142,8 @@ returns-clause-stored c =
     let is = c.as_slice-taken.ensures.value ∙ c.gather_at.ensures.items ∙
     ap (λ X. areas_of (blocks_at X c.args.place.first c.args.place.count)) c.as_slice.ensures.value in
     let kinds : HasKinds (patched (patches_of c.args.change) (kind_at c.as_slice-taken.result.now)) N =
-    planned_kinds _ _ _ _ c.args.change _ _ _ c.in-Ok.ensures.plan c.as_slice-taken.ensures.value (c.as_slice-2.ensures.value ∙ c.in-Ok-replace.ensures.items) in
+    planned_kinds _ _ _ _ c.args.change _ _ _ c.in-Ok.ensures.plan c.as_slice-taken.ensures.value
+    (c.as_slice-2.ensures.value ∙ c.in-Ok-replace.ensures.items) in
     let B = after blocks c.args.change c.args.place c.requires.place S.areas _ is c.requires.rising N kinds in
     let rows = after_rows blocks c.args.change c.args.place c.requires.place S.areas _ is c.requires.rising N kinds in
     let less = window_rows blocks c.args.change c.args.place c.requires.place S.areas _ is in
@@ -147,7 +154,8 @@ returns-clause-stored c =
     let new = written c.pour_at.new.blocks blocks c.args.self.now.blocks.len long (sym c.as_slice.ensures.len ∙ ap length c.as_slice.ensures.value) in
     let same : areas_of (take c.args.self.now.blocks.len (c.pour_at.new.blocks ++ drop (length c.pour_at.new.blocks) blocks)) ≡ B =
     ap areas_of new ∙ c.pour_at.ensures.areas ∙
-    ap (λ X. areas_of (take c.args.place.first X) ++ (c.as_slice-3.result.now ++ areas_of (drop (c.args.place.first + c.args.place.count) X))) c.as_mut_slice.ensures.value ∙
+    ap (λ X. areas_of (take c.args.place.first X) ++ (c.as_slice-3.result.now ++ areas_of (drop (c.args.place.first + c.args.place.count) X)))
+        c.as_mut_slice.ensures.value ∙
     ap (λ X. areas_of (take c.args.place.first blocks) ++ (X ++ areas_of (drop (c.args.place.first + c.args.place.count) blocks)))
     (c.as_slice-3.ensures.value ∙ sym c.as_slice-2.ensures.value) in
     record {
@@ -171,7 +179,8 @@ returns-clause-made c =
     let is = c.as_slice-taken.ensures.value ∙ c.gather_at.ensures.items ∙
     ap (λ X. areas_of (blocks_at X c.args.place.first c.args.place.count)) c.as_slice.ensures.value in
     let kinds : HasKinds (patched (patches_of c.args.change) (kind_at c.as_slice-taken.result.now)) N =
-    planned_kinds _ _ _ _ c.args.change _ _ _ c.in-Ok.ensures.plan c.as_slice-taken.ensures.value (c.as_slice-2.ensures.value ∙ c.in-Ok-replace.ensures.items) in
+    planned_kinds _ _ _ _ c.args.change _ _ _ c.in-Ok.ensures.plan c.as_slice-taken.ensures.value
+    (c.as_slice-2.ensures.value ∙ c.in-Ok-replace.ensures.items) in
     let B = after blocks c.args.change c.args.place c.requires.place S.areas _ is c.requires.rising N kinds in
     let rows = after_rows blocks c.args.change c.args.place c.requires.place S.areas _ is c.requires.rising N kinds in
     let less = window_rows blocks c.args.change c.args.place c.requires.place S.areas _ is in
@@ -182,7 +191,8 @@ returns-clause-made c =
     let new = written c.pour_at.new.blocks blocks c.args.self.now.blocks.len long (sym c.as_slice.ensures.len ∙ ap length c.as_slice.ensures.value) in
     let same : areas_of (take c.args.self.now.blocks.len (c.pour_at.new.blocks ++ drop (length c.pour_at.new.blocks) blocks)) ≡ B =
     ap areas_of new ∙ c.pour_at.ensures.areas ∙
-    ap (λ X. areas_of (take c.args.place.first X) ++ (c.as_slice-3.result.now ++ areas_of (drop (c.args.place.first + c.args.place.count) X))) c.as_mut_slice.ensures.value ∙
+    ap (λ X. areas_of (take c.args.place.first X) ++ (c.as_slice-3.result.now ++ areas_of (drop (c.args.place.first + c.args.place.count) X)))
+        c.as_mut_slice.ensures.value ∙
     ap (λ X. areas_of (take c.args.place.first blocks) ++ (X ++ areas_of (drop (c.args.place.first + c.args.place.count) blocks)))
     (c.as_slice-3.ensures.value ∙ sym c.as_slice-2.ensures.value) in
     within (subst (HasKinds (patched (patches_of c.args.change) (kind_at (areas_of blocks)))) (sym same) list)
