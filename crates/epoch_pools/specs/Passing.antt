@@ -84,8 +84,8 @@ module _ {P : Type 0} where
   abbrev pub standing_by : Bool → Standing → SeatPart (Beside P) → Standing
   standing_by clear standing p = if clear then standing else p.pass.standing
 
-  -- what a hand shows after a look at that list: the new standing where the list is clear, and otherwise the one before,
-  -- with the look in the record
+  -- what a hand shows after a look at that list: the new standing where the list is clear, and otherwise the one
+  -- before, with the look in the record
   abbrev pub after_look_at : ℕ → Bool → Standing → SeatPart (Beside P) → SeatPart (Beside P)
   after_look_at at clear standing p =
       record {

@@ -102,8 +102,8 @@ impl<G: Guard, D: Doing> Play<(), ListView<G::Pass>> for Puts<G, D> {
     ghost then = { λ _ me _ me'. (found : ℕ) × IsLockPlay (G.first [] 0) G.rested D.lists D.list D.seats D.doing me found me' };
 }
 
-/// Which look is made, under which cut, from which list of how many, and at which: what the seat's standing is where the
-/// list is found empty, and whether it is that whatever the look finds, since the seat holds its range there too or
+/// Which look is made, under which cut, from which list of how many, and at which: what the seat's standing is where
+/// the list is found empty, and whether it is that whatever the look finds, since the seat holds its range there too or
 /// nothing comes to count. Each call picks it.
 pub trait Look {
     ghost use Rattle.std.specs.Prelude.{ℕ, Bool};

@@ -55,8 +55,8 @@ pub struct Noted {
     pub step: u64,
 }
 
-/// A step that found a list not empty, where an empty one would have let the seat's range be held, count or pass at once:
-/// an exchange of the head by the fast path, or a look at another list than the one that holds the range.
+/// A step that found a list not empty, where an empty one would have let the seat's range be held, count or pass at
+/// once: an exchange of the head by the fast path, or a look at another list than the one that holds the range.
 pub struct Occupied {
     /// The list that wasn't empty, counted from 0.
     pub list: u32,

@@ -56,8 +56,8 @@ pub fn leaves_ready_by_clear_home()
     ensures { LeavesReadyByClearHome }
 {}
 
-/// A step of a seat that is between two calls, outside its epoch, changes no word of the list, or is one that the seat's
-/// view shows: it enters its epoch, or takes its first ready node.
+/// A step of a seat that is between two calls, outside its epoch, changes no word of the list, or is one that the
+/// seat's view shows: it enters its epoch, or takes its first ready node.
 pub fn idle_steps_show()
     ensures { IdleStepsShow }
 {}

@@ -1,5 +1,5 @@
--- The steps that found a list not empty, call after call: what the record had of them it keeps, so what a part of a call
--- met the whole call met.
+-- The steps that found a list not empty, call after call: what the record had of them it keeps, so what a part of a
+-- call met the whole call met.
 use Rattle.std.proofs.Common.{◌≡◌, ◌⊎◌, ℕ, ◌+◌, ◌<◌, ◌≤◌, Bool, true, false, Result, Ok, Err, List, [], ◌∷◌, ◌++◌, length, inl, inr, ⊎_elim}
 use Rattle.std.proofs.Common.{refl, sym, ap, ◌∙◌, subst, arith}
 use Rattle.std.specs.Prelude.{OnOk, OnErr}

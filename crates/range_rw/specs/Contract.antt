@@ -168,8 +168,8 @@ abbrev pub HasOccupied : (Occupied → Type 0) → List Occupied → Type 0
 HasOccupied IsOne [] = ⊥
 HasOccupied IsOne (o ∷ rest) = IsOne o ⊎ HasOccupied IsOne rest
 
--- the step of that number, or a later one, found a list not empty: the fast path's exchange of its head, or a look at it
--- by which the range was to count. So the seat met another seat's node there, or one that nobody has swept away yet
+-- the step of that number, or a later one, found a list not empty: the fast path's exchange of its head, or a look at
+-- it by which the range was to count. So the seat met another seat's node there, or one that nobody has swept away yet
 abbrev pub Meets : ℕ → Record → Type 0
 Meets first t = HasOccupied (λ o. first ≤ o.step) t.occupied
 
@@ -329,8 +329,8 @@ module _ {P : Type 0} where
   KeepsClear c own before after = (j : ℕ) → j < list_count c → j ≢ own
       → (pools_at after j ≡ closed_at before j) ⊎ Finds before.trace.taken j after.trace
 
-  -- a range of several lists was refused in list 0, and what the seat has in each other list is as it was; or in another
-  -- list, and so many further looks were made, each of which found its list not empty
+  -- a range of several lists was refused in list 0, and what the seat has in each other list is as it was; or in
+  -- another list, and so many further looks were made, each of which found its list not empty
   abbrev pub IsRefusedAfter : Regions → ℕ → SeatState P → SeatState P → Type 0
   IsRefusedAfter c looks before after = ((j : ℕ) → 0 < j → j < list_count c → pools_at after j ≡ closed_at before j)
       ⊎ (length before.trace.occupied + looks < length after.trace.occupied)

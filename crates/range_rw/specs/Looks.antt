@@ -82,8 +82,8 @@ module _ {P : Type 0} where
   abbrev pub MeetsMore : ℕ → SeatPart (Beside P) → SeatPart (Beside P) → Type 0
   MeetsMore at p q = (length p.trace.occupied < length q.trace.occupied) × Finds p.trace.taken at q.trace
 
-  -- a wide range was refused in list 0, and no other list has changed; or in another one, and so many further looks were
-  -- made, each of which found its list not empty
+  -- a wide range was refused in list 0, and no other list has changed; or in another one, and so many further looks
+  -- were made, each of which found its list not empty
   abbrev pub IsRefusedFrom : ℕ → SeatPart (Beside P) → SeatPart (Beside P) → Type 0
   IsRefusedFrom looks p q = ((j : ℕ) → j ≢ 0 → shown_core q j ≡ shown_core p j) ⊎ (length p.trace.occupied + looks < length q.trace.occupied)
 

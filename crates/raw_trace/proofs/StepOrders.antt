@@ -79,7 +79,14 @@ others_apart_too p q (x ∷ ws) h = by (others_apart_too p q ws h.1) (x.process 
 -- the one of a process is among those of others than another
 others_one : (p q : ℕ) (one : Entry) (a b : List Entry) → (one.process == p) ≡ true → (q == p) ≡ false → Apart p a → Apart p b
     → OneOf p one (of_others q (a ++ (one ∷ b)))
-others_one p q one [] b t n ha hb = rw differ (record { before = []; after = of_others q b; parts = refl; none_before = tt; none_after = others_apart_too p q b hb })
+others_one p q one [] b t n ha hb = rw differ (record {
+  before = [];
+  after = of_others q b;
+  parts = refl;
+  none_before = tt;
+  none_after =
+      others_apart_too p q b hb;
+})
   where
     differ : (one.process == q) ≡ false
     differ = elim (eqb_tells one.process q) [
@@ -140,7 +147,8 @@ put_beside p e one [] b n t ha hb = by (pair_cmp (stand e) (stand one)) refl
     by Greater o = record { before = []; after = put e b; parts = refl; none_before = tt; none_after = put_apart p e b n hb }
 put_beside p e one (x ∷ a) b n t ha hb = by (put_beside p e one a b n t ha.1 hb) (pair_cmp (stand e) (stand x))
   where
-    by : OneOf p one (put e (a ++ (one ∷ b))) → (o : Ordering) → OneOf p one (match_ordering o (e ∷ (x ∷ (a ++ (one ∷ b)))) (e ∷ (a ++ (one ∷ b))) (x ∷ put e (a ++ (one ∷ b))))
+    by : OneOf p one (put e (a ++ (one ∷ b))) → (o : Ordering) → OneOf p one
+        (match_ordering o (e ∷ (x ∷ (a ++ (one ∷ b)))) (e ∷ (a ++ (one ∷ b))) (x ∷ put e (a ++ (one ∷ b))))
     by rest Less = record { before = e ∷ (x ∷ a); after = b; parts = refl; none_before = (n, ha); none_after = hb }
     by rest Equal = record { before = e ∷ a; after = b; parts = refl; none_before = (n, ha.1); none_after = hb }
     by rest Greater = record {

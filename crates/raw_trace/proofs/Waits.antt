@@ -347,7 +347,8 @@ pub known_put : (pages : BTreeMap ℕ ℕ) (es : List ((ℕ × ℕ) × Piece)) (
 known_put pages [] k piece g h = (g, tt)
 known_put pages (x ∷ xs) k piece g h = by (known_put pages xs k piece g h.1) (pair_cmp k x.0)
   where
-    by : AreKnown pages (insert_entry pair_cmp xs k piece) → (o : Ordering) → AreKnown pages (match_ordering o ((k, piece) ∷ (x ∷ xs)) ((x.0, piece) ∷ xs) (x ∷ insert_entry pair_cmp xs k piece))
+    by : AreKnown pages (insert_entry pair_cmp xs k piece) → (o : Ordering) → AreKnown pages
+        (match_ordering o ((k, piece) ∷ (x ∷ xs)) ((x.0, piece) ∷ xs) (x ∷ insert_entry pair_cmp xs k piece))
     by rest Less = (g, h)
     by rest Equal = h
     by rest Greater = (h.0, rest)
@@ -412,7 +413,8 @@ pub took_first : (test : Entry → Bool) (old new : List ((ℕ × ℕ) × Piece)
     → new ≡ without_place place old → Took test before found (entries_in new)
 took_first test old new None found before v s p f n =
     took_picked test before found (entries_in new)
-    (ap (pick test) (sym v) ∙ none_found test old (sym p) ∙ ap (option_map {U = Picked} (λ (piece : Piece). record { first = entry piece; others = entries_in new })) (sym f))
+    (ap (pick test) (sym v) ∙ none_found test old (sym p) ∙ ap (option_map {U = Picked}
+    (λ (piece : Piece). record { first = entry piece; others = entries_in new })) (sym f))
     (λ none. ap entries_in n ∙ v)
 took_first test old new (Some k) found before v s p f n =
     let h = has_found test old k s (sym p) in

@@ -105,7 +105,8 @@ gone_behind {nb} {one} {mid} {two} {i} {place} {gone} {left} there few within le
     record { first = h.first; count = c; there = omega arith; begin = omega arith; whole = omega arith; went = omega arith }
 
 -- a block in which rows come is split where they are too many for it, behind rows that were laid over others
-pub grows_or_keeps : {nb : ℕ} {one : List ℕ} (laid : List ℕ) {two : List ℕ} {b more : ℕ} (came : ℕ) {from end : ℕ} → 0 < more → blocks_of nb laid ≡ blocks_of nb one
+pub grows_or_keeps : {nb : ℕ} {one : List ℕ} (laid : List ℕ) {two : List ℕ} {b more : ℕ} (came : ℕ) {from end : ℕ} → 0 < more → blocks_of nb laid ≡
+    blocks_of nb one
     → rows_of nb laid b ≡ rows_of nb one b → came ≡ more
     → (limit_of nb (blocks_of nb laid) b < rows_of nb laid b + 1 + came → blocks_of nb two ≡ blocks_of nb laid + 1)
     → (rows_of nb laid b + 1 + came ≤ limit_of nb (blocks_of nb laid) b → blocks_of nb two ≡ blocks_of nb laid)
@@ -118,7 +119,8 @@ grows_or_keeps {nb} {one} laid {b = b} {more = more} came some count rows as_man
     ]
 
 -- where no more rows come than go, blocks go of which no row stays
-pub shrinks_or_keeps : {nb : ℕ} {one : List ℕ} (laid : List ℕ) {two : List ℕ} {b more from end : ℕ} (from_laid end_laid : ℕ) → more ≡ 0 → blocks_of nb laid ≡ blocks_of nb one
+pub shrinks_or_keeps : {nb : ℕ} {one : List ℕ} (laid : List ℕ) {two : List ℕ} {b more from end : ℕ} (from_laid end_laid : ℕ) → more ≡ 0 → blocks_of
+    nb laid ≡ blocks_of nb one
     → ((i : ℕ) → count_to nb laid i ≡ count_to nb one i) → from_laid ≡ from → end_laid ≡ end → blocks_of nb two ≤ blocks_of nb laid
     → (blocks_of nb two < blocks_of nb laid → HaveGone nb laid two from_laid end_laid) → Replaces nb one two b more from end
 shrinks_or_keeps {nb} {one} laid {two} from_laid end_laid none count before from end fewer went = elim (cases_lt (blocks_of nb two) (blocks_of nb one)) [

@@ -49,8 +49,8 @@ pub data Replaces (nb : ℕ) (one two : List ℕ) (b more from end : ℕ) : Type
   keeps : ¬ AreTooMany nb one b more → blocks_of nb two ≡ blocks_of nb one → Replaces nb one two b more from end
 
 -- and of a whole change: a block that would have too many rows is split, and then, where no block would be free, two
--- are merged; else blocks go, all of whose rows go; else a block and the one behind it are merged if they have few rows,
--- and if not, there are as many blocks as before
+-- are merged; else blocks go, all of whose rows go; else a block and the one behind it are merged if they have few
+-- rows, and if not, there are as many blocks as before
 pub data Settles (nb : ℕ) (one two : List ℕ) (b more from end : ℕ) : Type 0 where
   splits : AreTooMany nb one b more → blocks_of nb one + 1 < nb → blocks_of nb two ≡ blocks_of nb one + 1 → Settles nb one two b more from end
   frees : AreTooMany nb one b more → blocks_of nb one + 1 ≡ nb → blocks_of nb two ≡ blocks_of nb one → Settles nb one two b more from end

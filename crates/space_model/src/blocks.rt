@@ -1,6 +1,6 @@
 //! A list of areas that stands in blocks, in order, so that a change moves no more areas than those of the blocks at
-//! its place. A block may be empty. Pages are looked up by going through the blocks, of which the ends alone are read, and
-//! then as in one list of areas. The contracts say of the whole list what those of `search` say of theirs.
+//! its place. A block may be empty. Pages are looked up by going through the blocks, of which the ends alone are read,
+//! and then as in one list of areas. The contracts say of the whole list what those of `search` say of theirs.
 
 ghost use Rattle.std.specs.Prelude.{◌≡◌, ◌<◌, ◌≤◌, ◌+◌, None, MatchOption, All, IfOk, ◌*◌, ◌++◌, length, take, drop, vec_capacity};
 ghost use Rattle.space_model.specs.Areas.{IsAreaList, kind_at};

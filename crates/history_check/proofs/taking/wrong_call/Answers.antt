@@ -12,7 +12,8 @@ returns-then-not-may_be c before place = (
   place.order,
   λ fits.
       let told =
-      fits_tells _ _ c.step_under-reply.result.1 c.args.entry.now.under c.step_under-reply.ensures.in_order c.step_under-reply.ensures.fits c.step_under-reply.ensures.simple in
+      fits_tells _ _ c.step_under-reply.result.1 c.args.entry.now.under c.step_under-reply.ensures.in_order c.step_under-reply.ensures.fits
+      c.step_under-reply.ensures.simple in
       let may = c.may_be.ensures.1 (told.1 fits) in absurd cc,
 )
 
@@ -20,7 +21,8 @@ returns-then-not-may_be c before place = (
 pub returns-then-not-same_reply : goal.returns-then-not-same_reply
 returns-then-not-same_reply c before place =
     let told =
-    fits_tells _ _ c.step_under-reply.result.1 c.args.entry.now.under c.step_under-reply.ensures.in_order c.step_under-reply.ensures.fits c.step_under-reply.ensures.simple in (
+    fits_tells _ _ c.step_under-reply.result.1 c.args.entry.now.under c.step_under-reply.ensures.in_order c.step_under-reply.ensures.fits
+    c.step_under-reply.ensures.simple in (
       place.number,
       place.order,
       told.0 (c.may_be.ensures.0 c.if-not-may_be.false),
@@ -31,7 +33,8 @@ returns-then-not-same_reply c before place =
 pub returns : goal.returns
 returns c =
     let told =
-    fits_tells _ _ c.step_under-reply.result.1 c.args.entry.now.under c.step_under-reply.ensures.in_order c.step_under-reply.ensures.fits c.step_under-reply.ensures.simple in (
+    fits_tells _ _ c.step_under-reply.result.1 c.args.entry.now.under c.step_under-reply.ensures.in_order c.step_under-reply.ensures.fits
+    c.step_under-reply.ensures.simple in (
       told.0 (c.may_be.ensures.0 c.if-not-may_be.false),
       subst (λ (r : Reply). Answers c.args.space.now c.args.entry.now.call r c.step_under-reply.new.self)
           (sym (c.same_reply.ensures.0 c.if-not-same_reply.false)) c.step_under-reply.ensures.answer,

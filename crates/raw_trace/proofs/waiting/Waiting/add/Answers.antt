@@ -26,7 +26,8 @@ invariant_of-self-2 c =
     kept_put c.put_piece.result c.put_page.new.pages c.self.inside.longest c.longer-self-inside.result c.self.inside.pieces c.put_piece.new.pieces
     (c.freed-pages.result.from, c.args.piece.process) c.args.piece c.put_piece.ensures.entries c.put_piece.ensures.same c.put_piece.ensures.ordered
     c.longer-self-inside.ensures.low c.self.invariant.bound known (λ i. ((c.freed-pages.ensures i).from, c.args.piece.process))
-    (subst (λ (p : Pages). p.to ≤ c.freed-pages.result.from + c.longer-self-inside.result) c.freed-pages.ensures c.longer-self-inside.ensures.fits) c.in_ok-put_page.ensures.is
+    (subst (λ (p : Pages). p.to ≤ c.freed-pages.result.from + c.longer-self-inside.result) c.freed-pages.ensures c.longer-self-inside.ensures.fits)
+    c.in_ok-put_page.ensures.is
 
 -- it waits at its place
 pub returns : goal.returns

@@ -85,8 +85,16 @@ unreachable-requires-in_default-replace c =
     elim c.in_default-replace.ensures.full [
       | inl lt ↦ omega (arith, lt, more, few, c.requires.stored.within, c.requires.stored.taken, c.gather_at.ensures.capacity)
       | inr lt ↦
-          omega (arith, lt, c.in-Ok.ensures.longer, few, ap length c.as_slice-taken.ensures.value, c.requires.stored.within,
-          c.requires.stored.middle, c.in-Ok.ensures.capacity)
+          omega (
+            arith,
+            lt,
+            c.in-Ok.ensures.longer,
+            few,
+            ap length c.as_slice-taken.ensures.value,
+            c.requires.stored.within,
+            c.requires.stored.middle,
+            c.in-Ok.ensures.capacity,
+          )
     ]
 
 -- the rows of what became of them are few enough to count
@@ -155,7 +163,7 @@ returns-clause-stored c =
     let same : areas_of (take c.args.self.now.blocks.len (c.pour_at.new.blocks ++ drop (length c.pour_at.new.blocks) blocks)) ≡ B =
     ap areas_of new ∙ c.pour_at.ensures.areas ∙
     ap (λ X. areas_of (take c.args.place.first X) ++ (c.as_slice-3.result.now ++ areas_of (drop (c.args.place.first + c.args.place.count) X)))
-        c.as_mut_slice.ensures.value ∙
+    c.as_mut_slice.ensures.value ∙
     ap (λ X. areas_of (take c.args.place.first blocks) ++ (X ++ areas_of (drop (c.args.place.first + c.args.place.count) blocks)))
     (c.as_slice-3.ensures.value ∙ sym c.as_slice-2.ensures.value) in
     record {
@@ -192,7 +200,7 @@ returns-clause-made c =
     let same : areas_of (take c.args.self.now.blocks.len (c.pour_at.new.blocks ++ drop (length c.pour_at.new.blocks) blocks)) ≡ B =
     ap areas_of new ∙ c.pour_at.ensures.areas ∙
     ap (λ X. areas_of (take c.args.place.first X) ++ (c.as_slice-3.result.now ++ areas_of (drop (c.args.place.first + c.args.place.count) X)))
-        c.as_mut_slice.ensures.value ∙
+    c.as_mut_slice.ensures.value ∙
     ap (λ X. areas_of (take c.args.place.first blocks) ++ (X ++ areas_of (drop (c.args.place.first + c.args.place.count) blocks)))
     (c.as_slice-3.ensures.value ∙ sym c.as_slice-2.ensures.value) in
     within (subst (HasKinds (patched (patches_of c.args.change) (kind_at (areas_of blocks)))) (sym same) list)
