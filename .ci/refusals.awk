@@ -1,14 +1,17 @@
 # Gives the list tests/refused_at anew, of three files: what rt printed, the list as it stands, and the names of the
 # edits. An edit that rt didn't name keeps its line, and so does one that was refused where the list says.
 
-# The function at this line of a source. An edit changes lines, and moves none.
-function function_at(source, last, line, name, at) {
-    for (at = 1; at <= last && (getline line <source) > 0; at++) {
+# The function at this line of a source, which of an export is that of its attribute. An edit changes lines, and moves
+# none.
+function function_at(source, last, line, name, at, before) {
+    for (at = 1; (at <= last || before) && (getline line <source) > 0; at++) {
         if (line ~ /^ *(pub(\([a-z]*\))? )?(const )?(extern "C" )?fn [a-z_0-9]+/) {
             name = line
             sub(/^.*fn /, "", name)
             sub(/[^a-z_0-9].*/, "", name)
+            before = 0
         }
+        if (at == last) before = line ~ /^#\[unsafe\(no_mangle\)\]/
     }
     close(source)
     return name == "" ? "" : name " "
