@@ -1,4 +1,4 @@
 pub mod OneList
-pub mod Adding
-pub mod Untouched
-pub mod Running
+mod Adding
+mod Untouched
+mod Running

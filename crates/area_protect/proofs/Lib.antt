@@ -1,6 +1,6 @@
 pub mod Looking
-pub mod Stages
+mod Stages
 pub mod Lone
-pub mod Newcomers
-pub mod Answering
-pub mod Asking
+mod Newcomers
+mod Answering
+mod Asking

@@ -1,17 +1,17 @@
-pub mod Halving
-pub mod Moments
-pub mod Gathering
-pub mod Neighbours
-pub mod Reading
-pub mod Stepping
-pub mod OneRow
-pub mod ReplacingRows
-pub mod AreaChoices
+mod Halving
+mod Moments
+mod Gathering
+mod Neighbours
+mod Reading
+mod Stepping
+mod OneRow
+mod ReplacingRows
+mod AreaChoices
 pub mod Wholes
-pub mod Beginning
-pub mod BlockSlots
-pub mod Searching
-pub mod LayoutLoads
-pub mod Pairing
+mod Beginning
+mod BlockSlots
+mod Searching
+mod LayoutLoads
+mod Pairing
 pub use Rattle.area_guard.proofs.Storing
-pub mod Written
+mod Written

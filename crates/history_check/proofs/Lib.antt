@@ -2,11 +2,11 @@ pub mod Cutting
 pub mod OneVerdict
 pub mod Fitting
 pub mod Beginnings
-pub mod Remembering
-pub mod RestLines
-pub mod Reaching
-pub mod PrintedLines
-pub mod WordsBack
-pub mod NumbersBack
-pub mod RepliesBack
-pub mod LinesBack
+mod Remembering
+mod RestLines
+mod Reaching
+mod PrintedLines
+mod WordsBack
+mod NumbersBack
+mod RepliesBack
+mod LinesBack

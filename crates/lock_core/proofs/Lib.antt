@@ -1,10 +1,10 @@
-pub mod Applying
+mod Applying
 pub mod ByPlace
 pub mod ByView
 pub mod Counts
 pub mod Enabled
 pub mod Opening
-pub mod Operating
+mod Operating
 pub mod OwnNodes
 pub mod Pigeons
 pub mod Safety

@@ -1,22 +1,22 @@
-pub mod Along
-pub mod Coming
-pub mod Exchanges
+mod Along
+mod Coming
+mod Exchanges
 pub mod Exclusion
-pub mod Frames
+mod Frames
 pub mod Holding
-pub mod Idle
+mod Idle
 pub mod Judging
-pub mod Leaving
-pub mod Listing
+mod Leaving
+mod Listing
 pub mod Outcomes
-pub mod PathLaws
-pub mod PathSteps
+mod PathLaws
+mod PathSteps
 pub mod Paths
 pub mod Running
 pub mod Seats
-pub mod Short
+mod Short
 pub mod Sound
 pub mod Starting
-pub mod WordGrants
-pub mod WordLaws
-pub mod WordSteps
+mod WordGrants
+mod WordLaws
+mod WordSteps

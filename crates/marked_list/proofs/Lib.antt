@@ -1,10 +1,10 @@
 pub mod Arriving
-pub mod Beginning
-pub mod Following
-pub mod Judging
-pub mod Lines
-pub mod Moments
-pub mod Owning
+mod Beginning
+mod Following
+mod Judging
+mod Lines
+mod Moments
+mod Owning
 pub mod Passing
-pub mod Swept
+mod Swept
 pub mod Unlinking

@@ -1,8 +1,8 @@
-pub mod Counting
-pub mod Probing
-pub mod Firsts
-pub mod Found
-pub mod Beginning
-pub mod Joining
-pub mod Ending
+mod Counting
+mod Probing
+mod Firsts
+mod Found
+mod Beginning
+mod Joining
+mod Ending
 pub mod Seats

@@ -1,8 +1,8 @@
 pub mod Knowing
-pub mod Moments
-pub mod Storing
-pub mod Rows
+mod Moments
+mod Storing
+mod Rows
 pub mod Seeing
-pub mod Numbers
+mod Numbers
 pub mod Plans
-pub mod HeldPlaces
+mod HeldPlaces

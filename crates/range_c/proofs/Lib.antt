@@ -1,7 +1,7 @@
-pub mod AsBox
-pub mod Crossing
-pub mod Places
-pub mod Refusals
-pub mod Rows
-pub mod Steps
-pub mod Tries
+mod AsBox
+mod Crossing
+mod Places
+mod Refusals
+mod Rows
+mod Steps
+mod Tries

@@ -1,20 +1,20 @@
 pub mod Asking
-pub mod Calls
-pub mod Choosing
-pub mod Dues
-pub mod Giving
-pub mod Insertion
-pub mod Later
+mod Calls
+mod Choosing
+mod Dues
+mod Giving
+mod Insertion
+mod Later
 pub mod Lists
-pub mod Looking
-pub mod Meeting
-pub mod Moves
-pub mod Pieces
-pub mod Scans
+mod Looking
+mod Meeting
+mod Moves
+mod Pieces
+mod Scans
 pub mod SeatLists
-pub mod Seated
+mod Seated
 pub mod SeatedScans
-pub mod Seating
+mod Seating
 pub mod TakenLists
-pub mod Taking
-pub mod Waiting
+mod Taking
+mod Waiting

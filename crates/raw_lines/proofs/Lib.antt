@@ -1,7 +1,7 @@
-pub mod NumberEnds
+mod NumberEnds
 pub mod Searches
-pub mod FieldFacts
-pub mod RunFacts
+mod FieldFacts
+mod RunFacts
 pub mod PlainFacts
 pub mod MarkFacts
 pub mod LineFacts

@@ -1,20 +1,20 @@
-pub mod AttachedLines
-pub mod BufferFacts
+mod AttachedLines
+mod BufferFacts
 pub mod CleanLogs
 pub mod Decided
-pub mod FirstThreads
-pub mod Following
-pub mod GivenNumbers
-pub mod HealedLines
+mod FirstThreads
+mod Following
+mod GivenNumbers
+mod HealedLines
 pub mod MadeLines
-pub mod NumberFacts
+mod NumberFacts
 pub mod OneEnd
 pub mod OneLog
-pub mod PickFacts
-pub mod PlainTexts
-pub mod ReadLogs
-pub mod SieveFacts
-pub mod SpaceFacts
+mod PickFacts
+mod PlainTexts
+mod ReadLogs
+mod SieveFacts
+mod SpaceFacts
 pub mod TextLists
-pub mod ToldFacts
+mod ToldFacts
 pub mod UnreadLogs

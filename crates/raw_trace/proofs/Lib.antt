@@ -1,22 +1,22 @@
-pub mod CleanLines
-pub mod EachEntries
-pub mod EntryFaults
-pub mod FoundHalves
-pub mod GivenSteps
-pub mod GoodLines
-pub mod GoodTexts
-pub mod JoinedLines
-pub mod LineCalls
-pub mod OneFault
-pub mod OneWay
-pub mod OwnCalls
-pub mod ReadTexts
-pub mod Prefixes
-pub mod RoleMaps
-pub mod StepFacts
-pub mod StepOrders
-pub mod TakenTexts
-pub mod TextPlaces
-pub mod Turns
-pub mod Waits
-pub mod WholeLogs
+mod CleanLines
+mod EachEntries
+mod EntryFaults
+mod FoundHalves
+mod GivenSteps
+mod GoodLines
+mod GoodTexts
+mod JoinedLines
+mod LineCalls
+mod OneFault
+mod OneWay
+mod OwnCalls
+mod ReadTexts
+mod Prefixes
+mod RoleMaps
+mod StepFacts
+mod StepOrders
+mod TakenTexts
+mod TextPlaces
+mod Turns
+mod Waits
+mod WholeLogs

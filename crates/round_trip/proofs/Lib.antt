@@ -1,4 +1,4 @@
 pub mod NumbersRead
-pub mod WordsRead
+mod WordsRead
 pub mod CallsRead
 pub mod LogsRead

@@ -1,22 +1,22 @@
-pub mod Steps
+mod Steps
 pub mod Pieces
 pub mod Slots
-pub mod Puts
-pub mod MovedWords
-pub mod OneBlock
+mod Puts
+mod MovedWords
+mod OneBlock
 pub mod Places
 pub mod Finds
-pub mod Splits
-pub mod Removals
-pub mod Appends
-pub mod Merges
+mod Splits
+mod Removals
+mod Appends
+mod Merges
 pub mod RowSplices
 pub mod Counts
-pub mod Lays
-pub mod Halves
-pub mod Comings
-pub mod Cuts
-pub mod Settlings
-pub mod Pairs
-pub mod Writes
-pub mod Fills
+mod Lays
+mod Halves
+mod Comings
+mod Cuts
+mod Settlings
+mod Pairs
+mod Writes
+mod Fills

@@ -1,12 +1,12 @@
 pub mod ReadBack
 pub mod RowLists
 pub mod GapWords
-pub mod RowPages
-pub mod RowsBetween
-pub mod OneList
-pub mod PutRows
+mod RowPages
+mod RowsBetween
+mod OneList
+mod PutRows
 pub mod Splices
-pub mod RowChanges
+mod RowChanges
 pub mod PlanLeft
-pub mod Loading
-pub mod Comes
+mod Loading
+mod Comes

@@ -1,30 +1,30 @@
 pub mod AreaKinds
-pub mod Joining
+mod Joining
 pub mod Changing
-pub mod Searching
+mod Searching
 pub mod Counting
 pub mod NamedKinds
 pub mod Stepping
-pub mod InOrder
+mod InOrder
 pub mod Simple
-pub mod Deciding
+mod Deciding
 pub mod Effects
 pub mod HeapEnds
 pub mod Remapping
 pub mod Remapped
 pub mod Judgements
-pub mod Looks
+mod Looks
 pub mod OneAnswer
 pub mod SomeAnswer
 pub mod TwiceOnce
 pub mod FourWays
 pub mod Histories
 pub mod MaximalRuns
-pub mod CertainReplies
-pub mod Halving
-pub mod Highest
-pub mod Splicing
-pub mod SealedStay
-pub mod InBlocks
-pub mod InPlaces
-pub mod InRoom
+mod CertainReplies
+mod Halving
+mod Highest
+mod Splicing
+mod SealedStay
+mod InBlocks
+mod InPlaces
+mod InRoom

@@ -1,13 +1,13 @@
-pub mod ArgumentParts
-pub mod MovingParts
-pub mod ResultParts
-pub mod WholeCalls
+mod ArgumentParts
+mod MovingParts
+mod ResultParts
+mod WholeCalls
 pub mod FormFacts
 pub mod BodyAnswers
-pub mod MapsFacts
-pub mod LineAnswers
+mod MapsFacts
+mod LineAnswers
 pub mod OneOutcome
-pub mod JoinFacts
+mod JoinFacts
 pub mod OneFeed
 pub mod NamedCalls
 pub mod KeptCounts

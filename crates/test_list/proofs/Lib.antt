@@ -1,2 +1,2 @@
-pub mod Hands
+mod Hands
 mod OwnNodes

@@ -1,4 +1,4 @@
-pub mod SeatLists
+mod SeatLists
 mod SetSeats
-pub mod Tallying
-pub mod Visiting
+mod Tallying
+mod Visiting

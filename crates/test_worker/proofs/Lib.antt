@@ -1,2 +1,2 @@
-pub mod Besides
-pub mod Dealing
+mod Besides
+mod Dealing

@@ -1,20 +1,20 @@
-pub mod TraceLemmas
-pub mod PlayLemmas
-pub mod ReportPieces
-pub mod RunLemmas
-pub mod OpeningLemmas
-pub mod Differences
-pub mod ScriptLemmas
-pub mod Outcomes
-pub mod ProcessLemmas
-pub mod Parts
-pub mod DealtLemmas
-pub mod OneWorker
-pub mod LoadLemmas
-pub mod CleanLemmas
-pub mod CheckLemmas
-pub mod JudgeLemmas
-pub mod Printed
-pub mod OneReport
-pub mod TouchedPages
-pub mod Reported
+mod TraceLemmas
+mod PlayLemmas
+mod ReportPieces
+mod RunLemmas
+mod OpeningLemmas
+mod Differences
+mod ScriptLemmas
+mod Outcomes
+mod ProcessLemmas
+mod Parts
+mod DealtLemmas
+mod OneWorker
+mod LoadLemmas
+mod CleanLemmas
+mod CheckLemmas
+mod JudgeLemmas
+mod Printed
+mod OneReport
+mod TouchedPages
+mod Reported

@@ -1,7 +1,7 @@
-pub mod Answering
-pub mod Plays
-pub mod Lone
+mod Answering
+mod Plays
+mod Lone
 pub mod Collecting
 pub mod Hirings
-pub mod Granted
-pub mod Touchers
+mod Granted
+mod Touchers
