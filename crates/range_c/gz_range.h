@@ -79,7 +79,7 @@
    open `next`; what gz_range_try waits between two tries grows; the seat of a closed handle is shared again.
    1.2 has gz_range_try_counted. */
 #define GZ_RANGE_VERSION 102
-#define GZ_RANGE_VERSION_TEXT "1.2"
+#define GZ_RANGE_VERSION_TEXT "1.2.0"
 
 #ifdef __GNUC__
 #define GZ_RANGE_NONNULL __attribute__((nonnull))
