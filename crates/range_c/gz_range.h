@@ -191,7 +191,7 @@ gz_range_answer gz_range_open(uint32_t seats, const uint64_t *words, size_t coun
    has its turn again. Each region has a list of its own; where there are several, one more list is for the ranges in
    more than one region.
    A cut is for many threads at ranges of different regions: where no node is in the list for ranges in several of them,
-   they change no word of a list in common, where with one list they all change its head. A range in several regions may
+   they change no word of a list in common, where with one list most calls change its head. A range in several regions may
    leave its node there when it is given back; the next calls for ranges of one region take it out, and work in that
    list meanwhile. So most ranges should fit into a block; with bits 16 it has 65536 numbers. A range in several regions
    takes longer: a look at the list of each, and more where somebody is there. And while threads at ranges of one region

@@ -180,6 +180,14 @@ class seat {
         return try_hold<false>(lo, hi, tries);
     }
 
+    /* The same, and `made` is how many tries it made: gz_range_try_counted. 0 where the seat is closed. */
+    result<write_range> try_write_counted(uint64_t lo, uint64_t hi, uint32_t tries, uint32_t &made) noexcept {
+        return try_hold<true>(lo, hi, tries, made);
+    }
+    result<read_range> try_read_counted(uint64_t lo, uint64_t hi, uint32_t tries, uint32_t &made) noexcept {
+        return try_hold<false>(lo, hi, tries, made);
+    }
+
     /* Each holds them however long that takes: gz_range_acquire. In a table of several regions, callers of ranges in
        one region may keep out a caller of a range in several, for as long as they come. */
     result<write_range> write(uint64_t lo, uint64_t hi) noexcept { return hold<true>(lo, hi); }
@@ -239,9 +247,16 @@ class seat {
     explicit seat(detail::place *place) noexcept : place_(place) {}
 
     template <bool Writes> result<held_range<Writes>> try_hold(uint64_t lo, uint64_t hi, uint32_t tries) noexcept {
+        uint32_t made;
+        return try_hold<Writes>(lo, hi, tries, made);
+    }
+
+    template <bool Writes>
+    result<held_range<Writes>> try_hold(uint64_t lo, uint64_t hi, uint32_t tries, uint32_t &made) noexcept {
+        made = 0;
         if (!place_) return GZ_RANGE_IS_CLOSED;
         refusal why;
-        why.answer = gz_range_try(&place_->handle, lo, hi, Writes, tries, &why.busy);
+        why.answer = gz_range_try_counted(&place_->handle, lo, hi, Writes, tries, &why.busy, &made);
         if (why.answer != GZ_RANGE_DONE) return why;
         return held_range<Writes>(place_, lo, hi);
     }

@@ -1,6 +1,6 @@
 /* What the header for C++ answers where something is wrong: ends that bound no range, too many seats, a table or a seat
-   that is closed or was moved from, a range that outlives its seat. None of it throws, but the constructor that is asked
-   to. Each line is a call and its answer. */
+   that is closed or was moved from, a range that outlives its seat; and how many tries a counted call made. None of it
+   throws, but the constructor that is asked to. Each line is a call and its answer. */
 #include "gz_range.hpp"
 
 #include <cstdint>
@@ -49,6 +49,14 @@ void ranges(gz::seat &seat, gz::seat &other) {
                 static_cast<unsigned long long>(refused.error().busy.hi),
                 refused.error().busy.writer ? " as a writer" : "");
     show("20 to 21 by another seat", other.try_write(20, 21));
+    uint32_t made = 9;
+    auto counted = other.try_read_counted(15, 16, 5, made);
+    std::printf("15 to 16 again: %s; tries made: %u\n", counted.text(), made);
+    counted = other.try_read_counted(20, 21, 5, made);
+    std::printf("20 to 21 again: %s; tries made: %u\n", counted.text(), made);
+    std::printf("a range beside it: %s; ", other.try_write_counted(30, 31, 5, made).text());
+    std::printf("tries made: %u\n", made);
+    counted->release();
     auto moved = std::move(held);
     show("given back after a move", moved->release());
     show("given back twice", moved->release());
@@ -70,6 +78,9 @@ void client_words(gz::seat &seat) {
 void closed_seats(gz::seat &seat, gz::seat &other) {
     gz::seat taken = std::move(seat);
     show("a try by a seat that was moved from", seat.try_write(0, 1)); // NOLINT: it answers
+    uint32_t made = 9;
+    show("a counted try", seat.try_write_counted(0, 1, 5, made));
+    std::printf("tries made: %u\n", made);
     show("its load", seat.load(0));
     show("its share", seat.share());
     show("its close", seat.close());

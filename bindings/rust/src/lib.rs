@@ -305,14 +305,25 @@ impl Seat {
 
     /// Tries to hold the range as a writer, at most so many times. One try waits for nobody.
     pub fn try_write_times(&mut self, range: Range<u64>, tries: u32) -> Result<WriteRange<'_>, Refused> {
-        self.try_hold(&range, true, tries)?;
-        Ok(WriteRange { seat: self, range })
+        self.try_write_counted(range, tries).0
     }
 
     /// Tries to hold the range as a reader, at most so many times. One try waits for nobody.
     pub fn try_read_times(&mut self, range: Range<u64>, tries: u32) -> Result<ReadRange<'_>, Refused> {
-        self.try_hold(&range, false, tries)?;
-        Ok(ReadRange { seat: self, range })
+        self.try_read_counted(range, tries).0
+    }
+
+    /// The same as [`Seat::try_write_times`], with how many tries it made: from 1 to `tries` where the last one was
+    /// granted, `tries` where all were refused, and 0 where the answer came before the first.
+    pub fn try_write_counted(&mut self, range: Range<u64>, tries: u32) -> (Result<WriteRange<'_>, Refused>, u32) {
+        let (answer, made) = self.try_hold(&range, true, tries);
+        (answer.map(|()| WriteRange { seat: self, range }), made)
+    }
+
+    /// The same as [`Seat::try_read_times`], with how many tries it made.
+    pub fn try_read_counted(&mut self, range: Range<u64>, tries: u32) -> (Result<ReadRange<'_>, Refused>, u32) {
+        let (answer, made) = self.try_hold(&range, false, tries);
+        (answer.map(|()| ReadRange { seat: self, range }), made)
     }
 
     /// Holds the range as a writer, however long that takes. Nothing is claimed of when it returns.
@@ -327,13 +338,14 @@ impl Seat {
         Ok(ReadRange { seat: self, range })
     }
 
-    fn try_hold(&mut self, range: &Range<u64>, writer: bool, tries: u32) -> Result<(), Refused> {
-        let mut busy = Busy::default();
-        // SAFETY: the handle is live and this seat's alone, and `busy` is a place of its own.
-        let answer = unsafe { raw::gz_range_try(self.handle(), range.start, range.end, writer, tries, &mut busy) };
+    fn try_hold(&mut self, range: &Range<u64>, writer: bool, tries: u32) -> (Result<(), Refused>, u32) {
+        let (mut busy, mut made) = (Busy::default(), 0);
+        let (lo, hi) = (range.start, range.end);
+        // SAFETY: the handle is live and this seat's alone, and `busy` and `made` are places of their own.
+        let answer = unsafe { raw::gz_range_try_counted(self.handle(), lo, hi, writer, tries, &mut busy, &mut made) };
         match answer {
-            raw::DONE => Ok(()),
-            _ => Err(Refused::of(answer, busy)),
+            raw::DONE => (Ok(()), made),
+            _ => (Err(Refused::of(answer, busy)), made),
         }
     }
 

@@ -50,7 +50,15 @@ extern "C" {
         handle: *mut Handle,
     ) -> u32;
     pub fn gz_range_share(from: *mut Handle, handle: *mut Handle) -> u32;
-    pub fn gz_range_try(handle: *mut Handle, lo: u64, hi: u64, writer: bool, tries: u32, busy: *mut Busy) -> u32;
+    pub fn gz_range_try_counted(
+        handle: *mut Handle,
+        lo: u64,
+        hi: u64,
+        writer: bool,
+        tries: u32,
+        busy: *mut Busy,
+        made: *mut u32,
+    ) -> u32;
     pub fn gz_range_release(handle: *mut Handle) -> u32;
     pub fn gz_range_held(handle: *mut Handle, held: *mut Busy) -> u32;
     pub fn gz_range_load(handle: *mut Handle, i: u32, value: *mut u64) -> u32;

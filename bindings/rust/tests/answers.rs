@@ -115,6 +115,27 @@ fn a_refusal_says_what_is_in_the_way() {
 }
 
 #[test]
+#[allow(clippy::reversed_empty_ranges)]
+fn a_try_tells_how_many_it_made() {
+    let (mut first, mut second) = two_seats();
+    let (held, made) = first.try_write_counted(10..20, 7);
+    assert_eq!((held.is_ok(), made), (true, 1));
+    for tries in [1, 2, 5] {
+        let (refused, made) = second.try_read_counted(19..21, tries);
+        assert_eq!(refused.unwrap_err(), Refused::Busy(Holding { range: 10..20, seat: 0, writer: true }));
+        assert_eq!(made, tries);
+    }
+    drop(held);
+    let (read, made) = second.try_read_counted(19..21, 3);
+    assert_eq!((read.is_ok(), made), (true, 1));
+    drop(read);
+    let (refused, made) = second.try_write_counted(5..4, 3);
+    assert_eq!((refused.unwrap_err(), made), (Refused::BadRange, 0));
+    let (refused, made) = second.try_write_counted(4..5, 0);
+    assert_eq!((refused.unwrap_err(), made), (Refused::NotTried, 0));
+}
+
+#[test]
 fn a_forgotten_guard_leaves_its_range_held() {
     let (mut first, mut second) = two_seats();
     forget(first.try_write(0..10).unwrap());

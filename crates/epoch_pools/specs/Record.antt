@@ -10,7 +10,7 @@ use Rattle.lock_core.specs.declared.views.Own.{Own}
 use Rattle.lock_core.specs.declared.views.Own.TheVariants.{Nothing, Filling, Linked}
 use Rattle.lock_core.specs.declared.range.Held.{Held}
 use Rattle.lock_core.specs.declared.steps.Step.{Step}
-use Rattle.lock_core.specs.declared.steps.Step.TheVariants.{FillHi, ReadEpoch, ReadHome, Walk, ReadHi, Mark, Link, Unlink, QuickLink, QuickUnlink, Settle}
+use Rattle.lock_core.specs.declared.steps.Step.TheVariants.{Leave, FillHi, ReadEpoch, ReadHome, Walk, ReadHi, Mark, Link, Unlink, QuickLink, QuickUnlink, Settle}
 use Rattle.lock_core.specs.Words.{mode_of}
 use Rattle.lock_core.specs.Nodes.{Listed, listed_of}
 use Rattle.lock_core.specs.Views.{is_passed}
@@ -36,6 +36,7 @@ no_steps =
       looked = None;
       asked = [];
       occupied = [];
+      walks = [];
       walked = 0;
       list = 0;
     }
@@ -125,6 +126,17 @@ looked_with t before None judging gained = t.looked
 looked_with t None (Some c) judging gained = Some (record { nodes = c.seen; judged = 0; ended = c.cur == 0; held = gained; list = t.list; step = t.taken })
 looked_with t (Some b) (Some c) judging gained = looked_on t.looked c judging gained
 
+-- the walk of a cursor joins those that were left before it
+abbrev pub with_walk : Option Cursor → Option Looked → List Looked → List Looked
+with_walk None looked walks = walks
+with_walk (Some c) None walks = walks
+with_walk (Some c) (Some walk) walks = walk ∷ walks
+
+-- that is where the seat leaves its epoch; no other step ends in the middle of a list, or at its end
+abbrev pub walks_after : Record → View → Step → List Looked
+walks_after t v Leave = with_walk v.cursor t.looked t.walks
+walks_after t v _ = t.walks
+
 -- the lower end that is filled in the own node
 abbrev pub low_end : Own → ℕ
 low_end Nothing = 0
@@ -155,6 +167,7 @@ record_after t v step place found now =
       looked = looked_with t v.cursor now.cursor (is_judging step) (gained_by v now);
       asked = asked_after t v step;
       occupied = occupied_after t step found;
+      walks = walks_after t v step;
       walked = walked_at t step;
       list = t.list;
     }

@@ -71,7 +71,7 @@ module _ {P : Type 0} (p : SeatPart P) (may : MayBeginWalk p.core) where
     -- the step leaves the cursor at the word that it found, in a walk that this call began
     pub cursor_made : IsCursorMade p q w
     cursor_made = let pools : IsSamePools p.core (came_to p.core (start_of p.core.own) w 0) = assumption in
-        let later = on_made m refl refl (may_walk_free p.core.own may.own) (ap (λ (v : View). v.epoch) view_is)
+        let later = on_made m refl refl refl (may_walk_free p.core.own may.own) (ap (λ (v : View). v.epoch) view_is)
         (subst (IsSamePools p.core) (sym view_is) pools) (ap (λ (v : View). v.hand) view_is ∙ may.inside.hand) in
         let gained = gained_by p.core (out_plan.view w) in
         let looked = m.looked ∙ (ap (λ (b : Option Cursor). looked_with p.trace b (out_plan.view w).cursor (is_judging Walk) gained) may.cursor
@@ -114,7 +114,7 @@ module _ {P : Type 0} (p : SeatPart P) (head : IsAtOddHead p.core) where
     settle_won e = let view : settle_plan.view w ≡ settled p.core head.cursor = ap settled_by (eq-eqb _ _ e) in
         let core : q.core ≡ settled p.core head.cursor = m'.core ∙ view in
         let pools : IsSamePools p.core (settled p.core head.cursor) = assumption in
-        let later = on_made m' refl refl (free_unlinked p.core.own head.unlinked) (ap (λ (v : View). v.epoch) view)
+        let later = on_made m' refl refl refl (free_unlinked p.core.own head.unlinked) (ap (λ (v : View). v.epoch) view)
         (subst (IsSamePools p.core) (sym view) pools) (ap (λ (v : View). v.hand) view ∙ head.inside.hand) in
         let cursor : (c : Cursor) → p.core.cursor ≡ Some c → q.core.cursor ≡ Some (record c { cur = c.cur - 1 }) = λ c is.
         let same : head.cursor ≡ c = let h = sym head.is ∙ is in cc in

@@ -83,7 +83,7 @@ module _ {P : Type 0} (p : SeatPart P) (st : StandsAt p.core) where
         plan_is = ap (λ (o : Option Cursor). walked p.core o w) st.is
 
         on_load : IsLaterInWalk p q
-        on_load = on_made m refl refl (may_walk_free p.core.own st.own) (ap (λ (v : View). v.epoch) plan_is)
+        on_load = on_made m refl refl refl (may_walk_free p.core.own st.own) (ap (λ (v : View). v.epoch) plan_is)
             (subst (IsSamePools p.core) (sym plan_is) (same_pools p.core (Some next_cursor))) (ap (λ (v : View). v.hand) plan_is ∙ st.inside.hand)
 
     -- the record takes the load as the one at which the cursor's node was found
@@ -128,7 +128,7 @@ module _ {P : Type 0} (p : SeatPart P) {n : ℕ} (k : KnowsNext p.core n) (even 
 
     -- the load leaves the cursor at its node, and all else as it was
     pub lo_loaded : IsLoad p q
-    lo_loaded = let later = on_made lo_made refl refl (may_walk_free p.core.own k.stands.own) refl (same_pools p.core (Some lo_cursor)) k.stands.inside.hand in
+    lo_loaded = let later = on_made lo_made refl refl refl (may_walk_free p.core.own k.stands.own) refl (same_pools p.core (Some lo_cursor)) k.stands.inside.hand in
         let walk = same_walk lo_made (ap is_some k.stands.is) in let judged = same_judged lo_made refl (ap is_some k.stands.is) in
         let seen = ap (λ (v : View). seen_of v.cursor) core_lo ∙ sym (ap seen_of k.stands.is) in
         assumption (lo_made, ap (λ (v : View). v.own) core_lo)
@@ -273,7 +273,7 @@ module _ {P : Type 0} (p : SeatPart P) {n lo : ℕ} (k : KnowsLo p.core n lo) (e
 
     -- the judgement leaves what a call that walks leaves
     pub judged_on : IsLaterInWalk p q
-    judged_on = on_made hi_made refl refl (may_walk_free p.core.own st.own) (judged_epoch p.core st.cursor st.node n verdict)
+    judged_on = on_made hi_made refl refl refl (may_walk_free p.core.own st.own) (judged_epoch p.core st.cursor st.node n verdict)
         (judged_pools p.core st.cursor st.node n verdict) (judged_hand p.core st.cursor st.node n verdict ∙ st.inside.hand)
 
     -- it is a step of the same walk

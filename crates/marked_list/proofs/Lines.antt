@@ -11,7 +11,7 @@ use Rattle.lock_core.proofs.Table.{plan_of_line}
 use Rattle.epoch_pools.specs.declared.record.Looked.{Looked}
 use Rattle.epoch_pools.specs.declared.record.Record.{Record}
 use Rattle.epoch_pools.specs.declared.views.SeatPart.{SeatPart}
-use Rattle.epoch_pools.specs.Record.{asked_after, occupied_after, KeepsOccupied, met_after, lost_by, expected_by}
+use Rattle.epoch_pools.specs.Record.{asked_after, occupied_after, walks_after, KeepsOccupied, met_after, lost_by, expected_by}
 use Rattle.epoch_pools.specs.Record.{looked_with, looked_on, walked_at, is_judging, gained_by}
 use Rattle.epoch_pools.specs.Running.{Enables, line_for, part_after, pass_kept}
 use Rattle.epoch_pools.proofs.Stepping.{occupied_kept}
@@ -45,6 +45,8 @@ pub record Made {P : Type 0} (rested : P → P) (p q : SeatPart P) (step : Step)
   pub asked : q.trace.asked ≡ asked_after p.trace p.core step
   -- a list that the fast path found not empty is noted
   pub occupied : q.trace.occupied ≡ occupied_after p.trace step found
+  -- a walk that is left is noted
+  pub walks : q.trace.walks ≡ walks_after p.trace p.core step
   -- the hand is turned to the same list
   pub list : q.trace.list ≡ p.trace.list
   -- one step more was made
@@ -135,13 +137,14 @@ module _ {P : Type 0} {rested : P → P} {p q : SeatPart P} {step : Step} {plan 
 
   -- a step of a seat that holds nothing, which asks for nothing and whose plan keeps epoch and pools, leaves what a
   -- call that walks leaves
-  pub on_made : asked_after p.trace p.core step ≡ p.trace.asked → occupied_after p.trace step found ≡ p.trace.occupied → held_at p.core.own ≡ None
+  pub on_made : asked_after p.trace p.core step ≡ p.trace.asked → occupied_after p.trace step found ≡ p.trace.occupied
+      → walks_after p.trace p.core step ≡ p.trace.walks → held_at p.core.own ≡ None
       → (plan.view found).epoch ≡ p.core.epoch
       → IsSamePools p.core (plan.view found) → (plan.view found).hand ≡ None → IsLaterInWalk p q
-  on_made none clear free epoch pools hand = let taken : p.trace.taken ≤ q.trace.taken = omega arith in
+  on_made none clear stays free epoch pools hand = let taken : p.trace.taken ≤ q.trace.taken = omega arith in
       let pass = m.pass ∙ pass_stays rested (held_at p.core.own) (held_at (plan.view found).own) p.pass free in
       let stay = subst (IsSamePools p.core) (sym m.core) pools in
-      assumption (m.asked ∙ none, m.occupied ∙ clear, ap (λ (v : View). v.epoch) m.core ∙ epoch, ap (λ (v : View). v.hand) m.core ∙ hand)
+      assumption (m.asked ∙ none, m.occupied ∙ clear, m.walks ∙ stays, ap (λ (v : View). v.epoch) m.core ∙ epoch, ap (λ (v : View). v.hand) m.core ∙ hand)
 
   -- a step of a seat that holds nothing leaves what a call of one step leaves
   pub call_made : held_at p.core.own ≡ None → IsCall 1 p q

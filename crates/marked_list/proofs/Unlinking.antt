@@ -14,7 +14,7 @@ use Rattle.lock_core.specs.Machine.{held_at}
 use Rattle.epoch_pools.specs.declared.record.Lost.{Lost as LostStep}
 use Rattle.epoch_pools.specs.declared.record.Record.{Record}
 use Rattle.epoch_pools.specs.declared.views.SeatPart.{SeatPart}
-use Rattle.epoch_pools.specs.Record.{asked_after, occupied_after, expected_by, lost_by, cursor_word, looked_with, is_judging, gained_by}
+use Rattle.epoch_pools.specs.Record.{asked_after, occupied_after, walks_after, expected_by, lost_by, cursor_word, looked_with, is_judging, gained_by}
 use Rattle.epoch_pools.specs.Running.{Enables}
 use Rattle.epoch_pools.specs.Hands.{IsHandView, quiet_after}
 use Rattle.marked_list.specs.declared.answers.Lost.{Lost}
@@ -48,6 +48,12 @@ not_quick t Unlink w k = refl
 not_quick t Settle w k = refl
 not_quick t _ w k = absurd k
 
+-- nor leaves it an epoch
+not_leaving : (t : Record) (v : View) (s : Step) → IsWalkLoss s → walks_after t v s ≡ t.walks
+not_leaving t v Unlink k = refl
+not_leaving t v Settle k = refl
+not_leaving t v _ k = absurd k
+
 -- a step that takes the cursor away leaves what the record has of the walk
 pub gone_looked : (t : Record) (b : Option Cursor) (j g : Bool) → looked_with t b None j g ≡ t.looked
 gone_looked t None j g = refl
@@ -60,7 +66,7 @@ module _ {P : Type 0} {rested : P → P} {p q : SeatPart P} {step : Step} {plan 
       → plan.view w ≡ dropped p.core → (w == c.cur) ≡ false → held_at p.core.own ≡ None → p.core.hand ≡ None → IsHandView p → HasRoom p
       → (l : Lost) → l.place ≡ plan.place → l.expected ≡ c.cur → l.found ≡ w → IsFailed p q l
   failed kind expects none gone far free hand view room l placed wanted had = record {
-    later = on_made m none (not_quick p.trace step w kind) free (ap (λ (v : View). v.epoch) gone)
+    later = on_made m none (not_quick p.trace step w kind) (not_leaving p.trace p.core step kind) free (ap (λ (v : View). v.epoch) gone)
         (subst (IsSamePools p.core) (sym gone) assumption) (ap (λ (v : View). v.hand) gone ∙ hand);
     outcome = (
       (
@@ -113,7 +119,7 @@ module _ {P : Type 0} (p : SeatPart P) {n : ℕ} (k : KnowsNext p.core n) (odd :
         let epoch = ap (λ (v : View). v.epoch) core in let hand = ap (λ (v : View). v.hand) core in let is = ap (λ (v : View). v.cursor) core in
         let own = ap (λ (v : View). v.own) core in let seen = ap (λ (a : ℕ). seen_after a (n - 1)) (sym (ap seen_of st.is)) in
         let came : CursorCame p.core q.core = record { cursor = c; is = is; even = even; next = refl; lo = refl; seen = seen; own = own } in
-        assumption (m.asked, m.occupied, subst (IsSamePools p.core) (sym core) pools)
+        assumption (m.asked, m.occupied, m.walks, subst (IsSamePools p.core) (sym core) pools)
 
     -- where none is, the exchange was lost
     pub unlink_none : q.core.hand ≡ None → IsHandView p → HasRoom p → (l : Lost)

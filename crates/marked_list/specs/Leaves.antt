@@ -26,6 +26,7 @@ pub record IsLaterInWalk {P : Type 0} (p q : SeatPart P) : Type 0 where
   pub client : q.trace.client ≡ p.trace.client
   pub asked : q.trace.asked ≡ p.trace.asked
   pub occupied : q.trace.occupied ≡ p.trace.occupied
+  pub walks : q.trace.walks ≡ p.trace.walks
   pub list : q.trace.list ≡ p.trace.list
   pub epoch : q.core.epoch ≡ p.core.epoch
   pub pools : IsSamePools p.core q.core

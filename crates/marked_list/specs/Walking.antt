@@ -126,6 +126,7 @@ module _ {P : Type 0} where
     pub pools : IsSamePools p.core q.core
     pub asked : q.trace.asked ≡ p.trace.asked
     pub occupied : q.trace.occupied ≡ p.trace.occupied
+    pub walks : q.trace.walks ≡ p.trace.walks
     pub hand : q.core.hand ≡ Some node
     pub came : CursorCame p.core q.core
     pub walk : IsSameWalk p q

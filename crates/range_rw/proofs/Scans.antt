@@ -1,6 +1,6 @@
 -- A scan through a seat: how its hand enters its epoch and leaves it, and what a call on the list is to the seat.
 use Rattle.std.proofs.Common.{◌≡◌, ◌≢◌, ℕ, ◌+◌, ◌*◌, ◌%◌, ◌<◌, ◌≤◌, ◌⊎◌, Bool, true, false, inl, inr}
-use Rattle.std.proofs.Common.{⊎_elim, refl, sym, ap, ◌∙◌, subst, arith, eqb-true, eq-eqb, ne_eqb}
+use Rattle.std.proofs.Common.{◌-◌, ⊎_elim, refl, sym, ap, ◌∙◌, subst, arith, eqb-true, eq-eqb, ne_eqb}
 use Rattle.std.specs.Prelude.{IsSome, Option, Some, None, ◌==◌, ◌&&◌, if◌then◌else◌}
 use Rattle.atomic_table.specs.Seated.{TableId}
 use Rattle.lock_core.specs.declared.views.Cursor.{Cursor}
@@ -10,6 +10,7 @@ use Rattle.lock_core.proofs.SizedSteps.{plain_is}
 use Rattle.epoch_pools.specs.declared.record.Looked.{Looked}
 use Rattle.epoch_pools.specs.declared.views.SeatPart.{SeatPart}
 use Rattle.epoch_pools.specs.declared.views.Beside.{Beside}
+use Rattle.epoch_pools.specs.Beside.{shown_core}
 use Rattle.epoch_pools.specs.Hands.{IsHandView}
 use Rattle.marked_list.specs.declared.answers.Passed.{Passed}
 use Rattle.marked_list.specs.declared.answers.Passed.TheVariants.{Found as NodeFound, End as ListEnd, Lost as NotWon, Long as TooLong}
@@ -22,8 +23,9 @@ use Rattle.marked_list.specs.Scanning.{IsScanAtNode, IsScanAtEnd, IsScanning, Is
 use Rattle.marked_list.proofs.Arriving.{nodes_seen}
 use Rattle.marked_list.proofs.Passing.{notes_are}
 use Rattle.range_rw.specs.Contract.{SeatState, OpenScan, fresh_in}
-use Rattle.range_rw.specs.Seats.{IsSettled, begun_in, walk_of, scan_of, placed_scan, placed_in, seat_state_of}
+use Rattle.range_rw.specs.Seats.{IsSettled, begun_in, walk_of, scan_of, placed_scan, placed_in, pools_of, seat_state_of}
 use Rattle.range_rw.specs.Scan.{scanned_as, Gives, WalksOn, KeepsWalk, IsNextIn, IsListEnd, IsNoEnd, ListGives}
+use Rattle.range_rw.proofs.Seated.{both_true, count_numbers}
 
 -- no own node is settled
 pub bare_settled : (own : Own) → own ≡ Nothing → IsSettled own
@@ -216,6 +218,10 @@ module _ {P : Type 0} (was_table now_table : TableId) (p q : SeatPart (Beside P)
       bounded = rests_few rests;
       gives = gives_by a last x;
       keeps = keeps_by a x;
+      walks = on.walks;
+      last = λ ended.
+          let both = both_true now.ended (q.pass.list + 1 == q.pass.lists) ended in let e = eqb-true (q.pass.list + 1) q.pass.lists both.1 in
+          let c = count_numbers (λ j. pools_of (shown_core q j)) 1 (q.pass.lists - 1) in omega arith;
     }
 
     -- the last walk is one of this list
@@ -242,6 +248,7 @@ module _ {P : Type 0} (was_table now_table : TableId) (p q : SeatPart (Beside P)
           keeps = subst (λ (o : Option ℕ). WalksOn before after was.walk o) (ap begun_in l.1) walks_kept;
           read = ⊎_elim (λ (same : q ≡ p). inl (ap (λ (y : SeatPart (Beside P)). y.trace.looked) same))
               (λ (more : p.trace.taken < q.trace.taken). inr more) moved;
+          stay = on.walks;
         }
 
     -- what a call comes to in one list, by the answer of the list

@@ -1,8 +1,9 @@
 -- A scan through a seat at a table of any number of lists: it is in the list to which the hand is turned, and the seat
 -- holds nothing in any list. What it leaves of that list is what it leaves of the seat; at the end of one list the hand
 -- leaves its epoch, turns to the next list and enters an epoch there.
-use Rattle.std.proofs.Common.{◌≡◌, ℕ, suc, ◌+◌, ◌-◌, ◌*◌, ◌%◌, ◌<◌, ◌≤◌, Bool, true, false, inl, refl, sym, ap, ◌∙◌, subst, arith, eqb-true}
-use Rattle.std.specs.Prelude.{[], IsSome, Option, Some, None, ◌==◌, map, length}
+use Rattle.std.proofs.Common.{◌≡◌, ℕ, zero, suc, ◌+◌, ◌-◌, ◌*◌, ◌%◌, ◌<◌, ◌≤◌, Bool, true, false, inl, refl, sym, ap, ◌∙◌, subst, arith, eqb-true}
+use Rattle.std.proofs.Common.{append_assoc}
+use Rattle.std.specs.Prelude.{List, [], ◌∷◌, ◌++◌, IsSome, Option, Some, None, ◌==◌, map, length}
 use Rattle.std.proofs.lemmas.List.{length-map}
 use Rattle.atomic_table.specs.Seated.{TableId}
 use Rattle.list_cuts.specs.Cut.{list_count}
@@ -12,6 +13,7 @@ use Rattle.lock_core.specs.declared.views.Own.TheVariants.{Nothing}
 use Rattle.lock_core.specs.declared.steps.Step.TheVariants.{Enter, Leave}
 use Rattle.lock_core.specs.Views.{entered, left, kept_own, ready_left}
 use Rattle.lock_core.specs.Machine.{held_at, numbers_from}
+use Rattle.epoch_pools.specs.declared.record.Looked.{Looked}
 use Rattle.epoch_pools.specs.declared.views.SeatPart.{SeatPart}
 use Rattle.epoch_pools.specs.declared.views.Beside.{Beside}
 use Rattle.epoch_pools.specs.Beside.{shown_core, shown_grant}
@@ -28,7 +30,7 @@ use Rattle.range_rw.specs.Calls.{IsHandOf, Leaves}
 use Rattle.range_rw.specs.Contract.{SeatState, TableShape, OpenScan, fresh_in, scan_steps, ready_in}
 use Rattle.range_rw.specs.Seats.{IsBetween, IsSeated, walk_of, scan_of, placed_scan, placed_in, pools_of, seat_state_of}
 use Rattle.range_rw.specs.Trying.{IsLaterInTry}
-use Rattle.range_rw.specs.Scan.{scanned_as, IsScanCall, IsNextIn, IsListEnd, IsPassed, IsNext}
+use Rattle.range_rw.specs.Scan.{scanned_as, WalkedFrom, IsScanCall, IsNextIn, IsListEnd, IsPassed, IsNext}
 use Rattle.range_rw.specs.Scan.{IsScanSeat, IsInScan, IsScanLater, StaysInScan, OpensEpoch, ClosesEpoch, ListGives, IsNoEnd}
 use Rattle.range_rw.proofs.Calls.{counted_on}
 use Rattle.range_rw.proofs.Pieces.{own_at, own_each, only_stays}
@@ -44,6 +46,20 @@ bare_between v own hand rests = record { own = bare_settled v.own own; hand = ha
 pub placed_some : (lists list : ℕ) (o : Option OpenScan) → IsSome (placed_in lists list o) → IsSome o
 placed_some lists list None s = s
 placed_some lists list (Some w) s = refl
+
+-- the walk of a list, and those of the lists behind it
+more_walked : (first n : ℕ) (walked : List Looked) (walk : Looked) → WalkedFrom (first + 1) n walked → walk.list ≡ first → walk.ended ≡ true
+    → WalkedFrom first (suc n) (walked ++ walk ∷ [])
+more_walked first zero walked walk e list ended =
+    (walk, [], ap (λ l. l ++ walk ∷ []) e, (let a = list in let z : walk.list ≡ first + 0 = omega arith in z), ended, refl)
+more_walked first (suc n) walked walk x list ended = (
+  x.0,
+  x.1 ++ walk ∷ [],
+  ap (λ l. l ++ walk ∷ []) x.2,
+  (let a = x.3 in let z : x.0.list ≡ first + suc n = omega arith in z),
+  x.4,
+  more_walked first n x.1 walk x.5 list ended,
+)
 
 module _ {P : Type 0} where
   -- ---- what is behind a seat that holds nothing
@@ -285,6 +301,9 @@ module _ {P : Type 0} where
         let l = opened_list p was inside opened in let w = s.within in
         let c = count_numbers (λ j. pools_of (shown_core p j)) 1 (p.pass.lists - 1) in
         omega arith;
+    walked = [];
+    walks = n.walks;
+    each = refl;
     goes = n;
   }
 
@@ -293,8 +312,9 @@ module _ {P : Type 0} where
       → placed_in p.pass.lists p.pass.list (scan_of p) ≡ Some was → IsScanLater p e → e.pass.list ≡ p.pass.list
       → IsListEnd (seat_state_of (record { table = first; part = p })) (seat_state_of (record { table = mid; part = e })) was
       → OpensEpoch (e.pass.list + 1) e q → q.trace.taken ≡ e.trace.taken + 2 → q.trace.looked ≡ e.trace.looked
+      → ((walk : Looked) → e.trace.looked ≡ Some walk → q.trace.walks ≡ walk ∷ e.trace.walks)
       → IsPassed (seat_state_of (record { table = first; part = p })) (seat_state_of (record { table = now; part = q })) was
-  passes_list first mid now p e q was same on inside opened l there reads g taken last =
+  passes_list first mid now p e q was same on inside opened l there reads g taken last left =
       let list : e.pass.list + 1 ≡ was.list + 1 = let a = opened_list p was inside opened in omega arith in
       let most : 16 * p.seats + 1 ≡ was.most = sym (opened_most p was inside opened) in
       record {
@@ -304,6 +324,7 @@ module _ {P : Type 0} where
         moves = scan_call mid now e q on g.later;
         taken = taken;
         last = last;
+        left = left reads.walk reads.is;
         begun = opens_fresh (e.pass.list + 1) e q p.seats (g.later.later.seats ∙ l.later.seats) g ∙ (λ i. Some (fresh_in (list i) (most i)));
       }
 
@@ -321,6 +342,10 @@ module _ {P : Type 0} where
         let a = ap (λ l. length l) passed.call.further in let b = ap (λ l. length l) passed.moves.further in
         let c = length-map before.further ready_in in let d = length-map passed.end.further ready_in in let e = length-map mid.further ready_in in
         omega arith;
+    walked = n.walked ++ passed.reads.walk ∷ [];
+    walks = n.walks ∙ (ap (λ l. n.walked ++ l) (passed.left ∙ ap (λ l. passed.reads.walk ∷ l) passed.reads.stay)
+        ∙ sym (append_assoc n.walked (passed.reads.walk ∷ []) before.trace.walks));
+    each = more_walked was.list n.lists n.walked passed.reads.walk n.each passed.reads.listed passed.reads.ended;
     goes = (mid, passed, n.goes);
   }
 

@@ -1,9 +1,9 @@
 -- A scan of the lists through a seat that holds nothing: what its calls leave of the seat, and why each answer comes.
 -- It begins in list 0, and goes on in the next list where the end of one was read, at a step of the call or before it,
 -- by the walk that stands there. A reader may rely on no list being left out: each was walked to its end, with a walk
--- of its own. The walk is that of Kogan, Dice and Issa 2020; a scan that stops after each node is this project's own
+-- of its own, and the record keeps these walks. The walk is that of Kogan, Dice and Issa 2020; a scan that stops after each node is this project's own
 -- profile.
-use Rattle.std.specs.Prelude.{◌≡◌, ◌≢◌, ◌⊎◌, ℕ, zero, suc, ◌+◌, ◌%◌, ◌<◌, ◌≤◌, true, false, Option, Some, None, length, map}
+use Rattle.std.specs.Prelude.{◌≡◌, ◌≢◌, ◌⊎◌, ℕ, zero, suc, ◌+◌, ◌%◌, ◌<◌, ◌≤◌, ◌++◌, true, false, List, [], ◌∷◌, Option, Some, None, length, map}
 use Rattle.lock_core.specs.declared.range.Held.{Held}
 use Rattle.lock_core.specs.declared.views.Own.TheVariants.{Nothing}
 use Rattle.epoch_pools.specs.declared.record.Looked.{Looked}
@@ -29,6 +29,13 @@ scanned_as (NodeFound owner range mode) = Found owner range mode
 scanned_as ListEnd = End
 scanned_as (NotWon l) = Again l.place l.expected l.found
 scanned_as (TooLong visits) = Long visits
+
+-- walks of so many lists from that one on, one of each, the latest first, of which each came to its list's end. A walk
+-- begins at the head
+abbrev pub WalkedFrom : ℕ → ℕ → List Looked → Type 0
+WalkedFrom first zero walks = walks ≡ []
+WalkedFrom first (suc n) walks =
+    (walk : Looked) × (rest : List Looked) × (walks ≡ walk ∷ rest) × (walk.list ≡ first + n) × (walk.ended ≡ true) × WalkedFrom first n rest
 
 module _ {P : Type 0} where
   -- what a call of a scan leaves: the seat holds nothing, its ready pools and its pass stay, and no step is a client
@@ -97,6 +104,9 @@ module _ {P : Type 0} where
     pub bounded : now.nodes ≤ now.most
     pub gives : Gives before after was now answer
     pub keeps : KeepsWalk before after was now answer
+    -- it leaves no walk, and where it is ended it is in the last list
+    pub walks : after.trace.walks ≡ before.trace.walks
+    pub last : now.ended ≡ true → now.list ≡ length after.further
 
   -- the end of the list was read in the walk that had begun there, or in one that this call began, and the call went
   -- past no node of it: the record's last walk is of that list. It was read at a step of this call, or that walk had
@@ -110,9 +120,11 @@ module _ {P : Type 0} where
     pub few : walk.nodes < was.most
     pub keeps : WalksOn before after was.walk (Some walk.step)
     pub read : (after.trace.looked ≡ before.trace.looked) ⊎ (before.trace.taken < after.trace.taken)
+    pub stay : after.trace.walks ≡ before.trace.walks
 
   -- the end of a list was read, past no node of it; then the seat left its epoch there and entered one of the next
-  -- list, in two steps, where the walk is still to begin. Until then the seat's last walk is the one that read the end
+  -- list, in two steps, where the walk is still to begin. Until then the seat's last walk is the one that read the end,
+  -- and that is the one that it left
   pub record IsPassed (before after : SeatState P) (was : OpenScan) : Type 0 where
     pub end : SeatState P
     pub call : IsScanCall before end
@@ -120,18 +132,19 @@ module _ {P : Type 0} where
     pub moves : IsScanCall end after
     pub taken : after.trace.taken ≡ end.trace.taken + 2
     pub last : after.trace.looked ≡ end.trace.looked
+    pub left : after.trace.walks ≡ reads.walk ∷ end.trace.walks
     pub begun : after.scan ≡ Some (fresh_in (was.list + 1) was.most)
 
-  -- so many lists are passed, one after another, and the answer is of the list behind them. The record keeps one walk,
-  -- so of the states between a caller knows the numbers of steps. That each is one of the seat, a private function says
-  -- of the list that it passes, by `IsPassed` of its own call
+  -- so many lists are passed, one after another, and the answer is of the list behind them. Of the states between a
+  -- caller knows the numbers of steps, and the walks: those that the seat left stand in its record after the call
   abbrev pub GoesOn : ℕ → SeatState P → SeatState P → OpenScan → Scanned → Type 0
   GoesOn zero before after was answer = IsNextIn before after was answer
   GoesOn (suc n) before after was answer =
       (mid : SeatState P) × IsPassed before mid was × GoesOn n mid after (fresh_in (was.list + 1) was.most) answer
 
   -- the call of a scan that had come to this before it: it goes past at most one node, in its list or, where no node is
-  -- left there, in the first one behind it that has one. With one list, no list is passed
+  -- left there, in the first one behind it that has one. With one list, no list is passed. The walks that it left are
+  -- one for each list that it passed, each from the list's head to its end: so no list is left out
   pub record IsNext (before after : SeatState P) (was : OpenScan) (answer : Scanned) : Type 0 where
     pub now : OpenScan
     pub is : after.scan ≡ Some now
@@ -139,6 +152,9 @@ module _ {P : Type 0} where
     pub lists : ℕ
     pub list : now.list ≡ was.list + lists
     pub within : was.list + lists ≤ length before.further
+    pub walked : List Looked
+    pub walks : after.trace.walks ≡ walked ++ before.trace.walks
+    pub each : WalkedFrom was.list lists walked
     pub goes : GoesOn lists before after was answer
 
 -- an answer of a list that isn't its end

@@ -1,9 +1,10 @@
 //! A scan of the lists through a borrowed seat: it gives the nodes of list 0, then those of the next list, and so on,
 //! of ranges that are held or asked for, and unlinks marked ones on its way. It keeps its seat inside an epoch of the
 //! list where it is, until it is ended. A reader may rely on a node that is given having been unmarked at a step of the
-//! call that gives it, and on no list being left out: the hand leaves a list for the next one only where its cursor
-//! stands at the list's end. Kogan, Dice and Issa 2020.
-ghost use Rattle.std.specs.Prelude.{◌≡◌, ◌<◌, ◌≤◌, ◌+◌, ◌-◌, ◌*◌, Some, None, IfSome, IfNone, true};
+//! call that gives it, and on no list being left out: the seat's record has a walk of each list that the scan passed,
+//! from the list's head to its end. Kogan, Dice and Issa 2020.
+ghost use Rattle.std.specs.Prelude.{◌≡◌, ◌<◌, ◌≤◌, ◌+◌, ◌-◌, ◌*◌, Some, None, IfSome, IfNone, true, ◌∷◌};
+ghost use Rattle.epoch_pools.specs.declared.record.Looked.{Looked};
 ghost use Rattle.list_cuts.specs.Cut.{list_count};
 ghost use Rattle.marked_list.specs.declared.answers.Passed.TheVariants.{End as ListEnd, Long as TooLong};
 ghost use Rattle.marked_list.specs.Answers.{IsAtEnd};
@@ -112,6 +113,7 @@ fn next_list<G: Guard, L: Ledger>(list: &List<G>, hand: &mut Hand<G>, steps: &mu
     ensures inside { Leaves (OpensEpoch (hand.old.part.pass.list + 1)) hand.old hand.new steps.old steps.new }
     ensures taken { hand.new.part.trace.taken ≡ hand.old.part.trace.taken + 2 }
     ensures looked { hand.new.part.trace.looked ≡ hand.old.part.trace.looked }
+    ensures walks { (walk : Looked) → hand.old.part.trace.looked ≡ Some walk → hand.new.part.trace.walks ≡ walk ∷ hand.old.part.trace.walks }
 {
     let _ = hand.lists();
     let next = hand.list() + 1;
@@ -289,7 +291,8 @@ impl<'a, G: Guard> Scan<'a, G> {
 
     /// Goes on to the next node, past at most one that isn't marked. Where no node is left in the scan's list, and it
     /// isn't the last one, this call goes on in the list behind it, with a walk of its own. The end of the list that it
-    /// leaves was read then by the walk that stood there, at a step of this call or before it.
+    /// leaves was read then by the walk that stood there, at a step of this call or before it; the record keeps that
+    /// walk, so no list is left out.
     /// `Found` comes exactly where this call went past a node, which was unmarked at a step of this call. `End` comes
     /// exactly where the end of the last list was read and this call went past no node, and `Long` where the walk in
     /// the scan's list has looked at 16 nodes for each seat and one more and this call went past none. After `End` or

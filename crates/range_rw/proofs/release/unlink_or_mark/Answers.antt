@@ -1,6 +1,7 @@
-use Rattle.std.proofs.Common.{rules, true, false}
+use Rattle.std.proofs.Common.{◌≡◌, rules, true, false, Bool, sym, ap, ◌∙◌, arith}
+use Rattle.epoch_pools.specs.declared.views.SeatPart.{SeatPart}
 use Rattle.epoch_pools.specs.Beside.{given_back}
-use Rattle.range_rw.proofs.Giving.{may_mark, holds_node, quick_given, marked_back, may_mark_still, marked_later}
+use Rattle.range_rw.proofs.Giving.{holder, may_mark, holds_node, quick_given, marked_back, may_mark_still, marked_later}
 use Rattle.range_rw.proofs.release.unlink_or_mark.Goals as goal
 
 -- the held node may be marked
@@ -11,6 +12,7 @@ mark-requires-clause-order g c = may_mark c.requires.may.is
 pub returns-then-not-quick : goal.returns-then-not-quick
 returns-then-not-quick g c = record {
   back = record { counted = search rules; is = marked_back c.requires.may.is (given_back g.G.Guard.rested) c.mark.new.hand.part c.mark.ensures.marked };
+  fast = λ is. absurd (let f : ◌≡◌ {A = Bool} true false = sym is ∙ c.if-not-quick.true in cc);
 }
 
 -- the own node is held, and the pass is at rest
@@ -24,6 +26,9 @@ returns-then-quick_give g c = record {
     counted = search rules;
     is = quick_given c.requires.may.is (given_back g.G.Guard.rested) c.quick_give.new.hand.part true c.if-quick_give.ensures.given;
   };
+  -- in two steps
+  fast = λ _. let node = (holder c.requires.may.is).node in
+      ap (λ (y : SeatPart _). y.trace.taken) (c.if-quick_give.ensures.given node (holder c.requires.may.is).is);
 }
 
 -- the range is still held, so its node may be marked
@@ -40,4 +45,7 @@ returns g c =
         is = marked_later c.requires.may.is (quick_given c.requires.may.is rested c.quick_give.new.hand.part false c.if-quick_give.ensures.given) rested
             c.mark-2.new.hand.part c.mark-2.ensures.marked;
       };
+      fast = λ _.
+          let one = (quick_given c.requires.may.is rested c.quick_give.new.hand.part false c.if-quick_give.ensures.given).taken in
+          let two = c.mark-2.ensures.marked.taken in omega arith;
     }

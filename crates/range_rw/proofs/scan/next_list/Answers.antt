@@ -4,7 +4,7 @@ use Rattle.lock_core.specs.Views.{entered, left}
 use Rattle.lock_core.specs.Machine.{may_leave}
 use Rattle.epoch_pools.specs.declared.views.SeatPart.{SeatPart}
 use Rattle.epoch_pools.specs.declared.views.Beside.{Beside}
-use Rattle.epoch_pools.specs.Record.{is_judging, gained_by}
+use Rattle.epoch_pools.specs.Record.{is_judging, gained_by, with_walk}
 use Rattle.marked_list.proofs.Unlinking.{gone_looked}
 use Rattle.range_rw.proofs.SeatedScans.{own_free, leaves, left_rests, turn_later, scan_on, enters}
 use Rattle.range_rw.proofs.scan.next_list.Goals as goal
@@ -49,4 +49,8 @@ returns g c =
           ∙ (gone_looked t.trace t.core.cursor (is_judging Enter) (gained_by t.core (entered t.core))
           ∙ (ap (λ (x : SeatPart (Beside _)). x.trace.looked) c.turn.ensures.part ∙ (ap (λ (x : SeatPart (Beside _)). x.trace.looked) c.leave.ensures.made
           ∙ gone_looked p.trace p.core.cursor (is_judging Leave) (gained_by p.core (left p.core)))));
+      -- and the walk that stood at the end is left
+      walks = λ walk is. ap (λ (x : SeatPart (Beside _)). x.trace.walks) c.enter.ensures.made
+          ∙ (ap (λ (x : SeatPart (Beside _)). x.trace.walks) c.turn.ensures.part ∙ (ap (λ (x : SeatPart (Beside _)). x.trace.walks) c.leave.ensures.made
+          ∙ (λ i. with_walk (c.requires.end.1 i) (is i) p.trace.walks)));
     }

@@ -48,4 +48,4 @@ returns-in-None-clause-passed g c = λ was opened. let p = c.args.hand.now in le
     e.table q.table p.part e.part q.part was c.pass_here.ensures.later.counted.table c.next_list.ensures.inside.counted.table c.requires.inside.is.inside opened
     c.pass_here.ensures.later.is.later
     c.pass_here.ensures.list (subst (λ x. ListGives (e.part.pass.list + 1 ≡ e.part.pass.lists) (seat_state_of p) (seat_state_of e) was x) c.in-None.ensures.end
-    (c.pass_here.ensures.gives was opened)).0 c.next_list.ensures.inside.is c.next_list.ensures.taken c.next_list.ensures.looked
+    (c.pass_here.ensures.gives was opened)).0 c.next_list.ensures.inside.is c.next_list.ensures.taken c.next_list.ensures.looked c.next_list.ensures.walks
