@@ -1,8 +1,9 @@
 //! A caller takes a range of pages and gives it back, by the calls of the range lock. A reader may rely on the caller
 //! holding the range where `acquire` returns, and on a release keeping what the caller has seen and numbered.
-ghost use Rattle.std.specs.Prelude.{◌≡◌, ◌≤◌, ◌+◌, ◌*◌, ◌↔◌, ℕ, Some, None, IsSome, IfErr, OnOk, OnErr};
-ghost use Rattle.list_cuts.specs.Cut.{list_count};
-ghost use Rattle.range_rw.specs.Contract.{AsksFor, AsksOnly, IsLockCall, IsRelease, IsCause, IsLongRefusal, IsReadyLeft, IsSpentIn, pools_at};
+ghost use Rattle.std.specs.Prelude.{◌≡◌, ◌≤◌, ◌+◌, ◌*◌, ◌↔◌, ℕ, Some, None, IsSome, IsNone, IfErr, IfSome, OnOk, OnErr};
+ghost use Rattle.list_cuts.specs.Cut.{list_count, TakesTwo};
+ghost use Rattle.word_rows.specs.declared.backoff.TheConstants.{REFUSED_ROUNDS, KEPT_LOOKS};
+ghost use Rattle.range_rw.specs.Contract.{AsksFor, AsksOnly, IsLockCall, IsRelease, IsCause, IsLongRefusal, IsReadyLeft, IsRefusedAfter, IsSpentIn, pools_at};
 ghost use Rattle.range_rw.specs.Several.{TakesAlone};
 ghost use Rattle.area_guard.specs.History.{rest_of, IsAtRest};
 ghost use Rattle.area_rows.specs.Callers.{held_span};
@@ -10,7 +11,7 @@ ghost use Rattle.area_rows.specs.Callers.{held_span};
 use crate::space::{Caller, Space};
 use lock_core::{Mode, Range};
 use page_types::Span;
-use range_rw::NotHeld;
+use range_rw::{Anew, NotHeld};
 use std::sync::Wait;
 use std::sync::ledger::Ledger;
 use word_rows::Steps;
@@ -40,6 +41,42 @@ impl Space {
     {
         self.table
             .acquire(wait, &mut caller.seat, range_of(span), mode);
+    }
+
+    /// One round of `acquire`, for a caller that waits between two rounds by itself, as one in a library that may not
+    /// wait. `refused` says how many of its rounds were refused since the last one with further looks: 0 at first, and
+    /// `next_refused` of `range_rw` of it after each round that doesn't hold the span. After `Anew::Later` the caller
+    /// is to wait, and after `Anew::AtOnce` to begin the next round at once. A round waits for no other thread.
+    pub fn acquire_round(
+        &self,
+        caller: &mut Caller,
+        span: Span,
+        mode: Mode,
+        refused: u32,
+    ) -> Result<(), Anew>
+        requires table { caller.old.seat.table ≡ self.now.table }
+        requires free { caller.old.seat.held ≡ None }
+        ensures call { IsLockCall caller.old.seat caller.new.seat }
+        ensures asks { AsksOnly (held_span span mode) caller.old.seat.trace.asked caller.new.seat.trace.asked }
+        ensures gets { OnOk result (AsksFor (held_span span mode) caller.old.seat.trace.asked caller.new.seat.trace.asked) }
+        ensures held { OnOk result (caller.new.seat.held ≡ Some (held_span span mode)) }
+        ensures free { OnErr result (caller.new.seat.held ≡ None) }
+        ensures rest { IsAtRest caller.new.seat.pass }
+        ensures left { caller.new.left ≡ caller.old.left }
+        ensures kept { OnErr result (TakesTwo self.now.cut (held_span span mode).range → REFUSED_ROUNDS ≤ refused
+            → IsRefusedAfter self.now.cut KEPT_LOOKS caller.old.seat caller.new.seat) }
+    {
+        self.table
+            .acquire_round(&mut caller.seat, range_of(span), mode, refused)
+    }
+
+    /// What the caller holds, if anything, and in which mode. The caller is of this space.
+    pub fn held(&self, caller: &Caller) -> Option<(Range, Mode)>
+        requires table { caller.now.seat.table ≡ self.now.table }
+        ensures some { IfSome result (λ r. caller.now.seat.held ≡ Some (record { range = r.0; mode = r.1 })) }
+        ensures none { IsNone result ↔ (caller.now.seat.held ≡ None) }
+    {
+        self.table.held(&caller.seat)
     }
 
     /// Tries once to hold the span, and waits for nobody. The caller is of this space and holds nothing.
@@ -80,7 +117,7 @@ impl Space {
     }
 
     /// The same as `release`, without a counter of steps.
-    pub(crate) fn release_uncounted(&self, caller: &mut Caller)
+    pub fn release_uncounted(&self, caller: &mut Caller)
         requires table { caller.old.seat.table ≡ self.now.table }
         requires holds { IsSome caller.old.seat.held }
         requires rest { IsAtRest caller.old.seat.pass }

@@ -76,7 +76,7 @@ fn look_again<G: Guard, L: Ledger>(
 {
     let mut backoff = Backoff::new();
     for _ in 0..MOST_LOOKS {
-        backoff.wait();
+        backoff.pause();
         let walked = validate(list, hand, cursor, steps);
         if !is_conflict(&walked) {
             return walked;
