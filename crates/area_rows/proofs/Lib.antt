@@ -4,6 +4,7 @@ pub mod Gathering
 pub mod Neighbours
 pub mod Reading
 pub mod Stepping
+pub mod Seeing
 pub mod OneRow
 pub mod ReplacingRows
 pub mod AreaChoices
