@@ -7,6 +7,7 @@ mod Stepping
 mod OneRow
 mod ReplacingRows
 mod AreaChoices
+mod Seeing
 pub mod Wholes
 mod Beginning
 mod BlockSlots

@@ -3,6 +3,7 @@ pub mod Layouts
 pub mod Opening
 pub mod OneStore
 pub mod Callers
+pub mod Seen
 pub mod AreaPlans
 pub mod Called
 pub mod Closing

@@ -16,6 +16,7 @@ ghost use Rattle.area_guard.specs.Reads.{slots_by, IsHeldPage};
 ghost use Rattle.area_guard.specs.History.{HoldsFor, IsAtRest, IsRight, Leaves, pending_of, after_row, entry_note};
 ghost use Rattle.area_rows.specs.Callers.{HasSameRows, splice_of, plan_of, IsKnown, HasToWrite, HasToStore, IsReadRound, CountsWhole, IsReading};
 ghost use Rattle.area_rows.specs.Layouts.{IsSeen};
+ghost use Rattle.area_rows.specs.Seen.{HasMoment};
 ghost use Rattle.area_rows.specs.Callers.{IsClientStep, IsLook, IsDrawn, MayNumber, Shows};
 
 use crate::noted::{By, Noted};
@@ -122,10 +123,13 @@ impl Space {
 
     /// Loads the sequence word. Where the caller, which is of this space, holds a range, it is the number of the
     /// history's entries under everything, the caller's own aside where it isn't written yet; and it stays so until the
-    /// caller draws a number or gives the range back.
+    /// caller draws a number or gives the range back. The step is made at a moment of the running space, so what the
+    /// caller's range has shown is so of the state there. One step.
     pub fn sequence(&self, caller: &mut Caller) -> u64
         requires table { caller.old.seat.table ≡ self.now.table }
         ensures counts { IsSome caller.old.seat.held → CountsWhole caller.new.seat result }
+        ensures moment { HasMoment caller.old.seat }
+        ensures taken { caller.new.seat.trace.taken ≡ caller.old.seat.trace.taken + 1 }
         ensures reading { IsReading caller.old.seat caller.new.seat }
         ensures left { caller.new.left ≡ caller.old.left }
         ensures rows { HasSameRows caller.old caller.new }
