@@ -7,7 +7,7 @@ use Rattle.std.proofs.lemmas.List.{append_cancel_right, length-append}
 use Rattle.line_parts.specs.Leaves.{AllDigits, worth}
 use Rattle.memchr.specs.Find.{FindsNeedle}
 use Rattle.raw_lines.specs.declared.makers.MadeAs.{MadeAs}
-use Rattle.raw_lines.specs.declared.makers.MadeAs.TheVariants.{Thread, Process, Untold}
+use Rattle.raw_lines.specs.declared.makers.MadeAs.TheVariants.{Thread, Shared, Process, Untold}
 use Rattle.raw_lines.specs.declared.makers.Making.{Making}
 use Rattle.raw_lines.specs.declared.makers.Making.TheVariants.{Makes, Begins, Ends, Execs, Nothing}
 use Rattle.raw_lines.specs.Numbers.{EndsInNumber}
@@ -94,6 +94,10 @@ made_one body Thread b h g = absurd (g.0 h)
 made_one body a Thread h g = absurd (h.0 g)
 made_one body Process Untold h g = absurd (h.1 g.1)
 made_one body Untold Process h g = absurd (g.1 h.1)
+made_one body Shared Untold h g = absurd (h.1 g.1)
+made_one body Untold Shared h g = absurd (g.1 h.1)
+made_one body Process Shared h g = absurd (h.2 g.2)
+made_one body Shared Process h g = absurd (g.2 h.2)
 made_one body a b h g = refl
 
 child_one : (body : List ℕ) (a b : Option ℕ) → IsChild body a → IsChild body b → a ≡ b

@@ -1,12 +1,13 @@
 -- What lines of clone(2), clone3(2), fork(2) and vfork(2) tell: which number a process or thread made, and whether the
--- new one is a thread, which shares the address space for good. The flag CLONE_THREAD says so; where the flags aren't
--- shown nothing is said. A line of execve(2) that returned tells that the process is another program's from there on,
--- with a new address space. The form of the lines is that of strace(1), in this project's own profile.
+-- new one is a thread, which shares the address space for good, or a process that shares it until its execve(2). The
+-- flags CLONE_THREAD and CLONE_VM say so; where the flags aren't shown nothing is said. A line of execve(2) that
+-- returned tells that the process is another program's from there on, with a new address space. The form of lines is
+-- that of strace(1), in this project's own profile.
 use Rattle.std.specs.Prelude.{◌≡◌, ◌⊎◌, ℕ, ◌/◌, ◌%◌, List, ◌++◌, codes, Option, Some, None}
 use Rattle.line_parts.specs.Reading.{narrow, digits_of}
 use Rattle.strace_reader.specs.Grammar.{BeginsWith, EndsWith, unfinished}
 use Rattle.raw_lines.specs.declared.makers.MadeAs.{MadeAs}
-use Rattle.raw_lines.specs.declared.makers.MadeAs.TheVariants.{Thread, Process, Untold}
+use Rattle.raw_lines.specs.declared.makers.MadeAs.TheVariants.{Thread, Shared, Process, Untold}
 use Rattle.raw_lines.specs.declared.makers.Making.{Making}
 use Rattle.raw_lines.specs.declared.makers.Making.TheVariants.{Makes, Begins, Ends, Execs, Nothing}
 use Rattle.raw_lines.specs.Numbers.{EndsInNumber}
@@ -33,6 +34,15 @@ HasThreadFlag body = (rest : List ℕ) × (n : ℕ) × (body ≡ codes "clone(0x
 abbrev pub IsThread : List ℕ → Type 0
 IsThread body = Holds (codes "CLONE_THREAD") body ⊎ HasThreadFlag body
 
+-- the flags are printed as a number that has CLONE_VM, 0x100
+abbrev pub HasMemoryFlag : List ℕ → Type 0
+HasMemoryFlag body = (rest : List ℕ) × (n : ℕ) × (body ≡ codes "clone(0x" ++ rest) × (narrow (digits_of 16 0 rest).0 ≡ Some n)
+    × (n / 256 % 2 ≡ 1)
+
+-- the line says that what is made has the address space of its maker
+abbrev pub IsShared : List ℕ → Type 0
+IsShared body = BeginsWith (codes "vfork(") body ⊎ (Holds (codes "CLONE_VM") body ⊎ HasMemoryFlag body)
+
 -- the line doesn't show the flags: clone3(0x7ffdef43add0, 0x58), or a structure of numbers
 abbrev pub HidesFlags : List ℕ → Type 0
 HidesFlags body = BeginsWith (codes "clone3(0x") body ⊎ Holds (codes "flags=0x") body
@@ -41,7 +51,8 @@ HidesFlags body = BeginsWith (codes "clone3(0x") body ⊎ Holds (codes "flags=0x
 abbrev pub IsMadeAs : List ℕ → MadeAs → Type 0
 IsMadeAs body Thread = IsThread body
 IsMadeAs body Untold = (¬ IsThread body) × HidesFlags body
-IsMadeAs body Process = (¬ IsThread body) × (¬ HidesFlags body)
+IsMadeAs body Shared = (¬ IsThread body) × (¬ HidesFlags body) × IsShared body
+IsMadeAs body Process = (¬ IsThread body) × (¬ HidesFlags body) × (¬ IsShared body)
 
 -- the text without this word at its end, where it ends with it
 abbrev pub IsWithout : List ℕ → List ℕ → List ℕ → Type 0

@@ -1,12 +1,13 @@
 //! What lines of clone(2), clone3(2), fork(2) and vfork(2) tell of new threads and processes, and those of execve(2) of
-//! new programs. A thread shares the address space for good, and the flag `CLONE_THREAD` tells it; strace(1) prints the
-//! number that was made as the result. `specs/Makers.antt` has the forms.
+//! new programs. A thread shares the address space for good, and the flag `CLONE_THREAD` tells it; a child of vfork(2),
+//! or with the flag `CLONE_VM`, shares it until its execve(2). strace(1) prints the number that was made as the result.
+//! `specs/Makers.antt` has the forms.
 
 ghost use Rattle.std.specs.Prelude.{◌⊎◌, ℕ, codes, IfSome, IsNone};
 ghost use Rattle.std.specs.Bool.{Decides};
 ghost use Rattle.raw_lines.specs.Numbers.{EndsInNumber};
 ghost use Rattle.raw_lines.specs.Makers.{Holds, IsMaker, IsMakerEnd, IsMadeAs, IsChild, IsMaking};
-ghost use Rattle.raw_lines.specs.Makers.{HasThreadFlag, IsThread, HidesFlags, IsWithout, IsToResult, HasResult, IsExec, EndsWithNumber};
+ghost use Rattle.raw_lines.specs.Makers.{HasThreadFlag, IsThread, HasMemoryFlag, IsShared, HidesFlags, IsWithout, IsToResult, HasResult, IsExec, EndsWithNumber};
 
 use crate::numbers::number_end;
 use line_parts::digits;
@@ -21,11 +22,16 @@ const HEXADECIMAL: u64 = 16;
 /// The flag CLONE_THREAD: every second multiple of it has the bit.
 const THREAD_FLAG: u64 = 65_536;
 
+/// The flag CLONE_VM.
+const MEMORY_FLAG: u64 = 256;
+
 /// What a call made.
 #[derive(Clone, Copy, PartialEq, Eq, Debug, Drop)]
 pub enum MadeAs {
     /// A thread, in the address space of the caller.
     Thread,
+    /// A process, in the address space of the caller until it calls execve(2).
+    Shared,
     /// A process, with an address space of its own.
     Process,
     /// The flags aren't shown, so the line doesn't tell.
@@ -96,6 +102,26 @@ fn is_thread(body: &[u8]) -> bool
     holds(body, b"CLONE_THREAD") || has_thread_flag(body)
 }
 
+/// Whether a body shows flags of clone(2) as a number that has the bit of a shared address space.
+fn has_memory_flag(body: &[u8]) -> bool
+    ensures { Decides result (HasMemoryFlag body.now) }
+{
+    let Some(rest) = strip_front(body, b"clone(0x") else {
+        return false;
+    };
+    let (flags, _) = digits(rest, HEXADECIMAL);
+    match flags {
+        Some(flags) => flags / MEMORY_FLAG % 2 == 1,
+        None => false,
+    }
+}
+
+fn is_shared(body: &[u8]) -> bool
+    ensures { Decides result (IsShared body.now) }
+{
+    begins_with(body, b"vfork(") || holds(body, b"CLONE_VM") || has_memory_flag(body)
+}
+
 fn hides_flags(body: &[u8]) -> bool
     ensures { Decides result (HidesFlags body.now) }
 {
@@ -109,6 +135,8 @@ fn made_as(body: &[u8]) -> MadeAs
         MadeAs::Thread
     } else if hides_flags(body) {
         MadeAs::Untold
+    } else if is_shared(body) {
+        MadeAs::Shared
     } else {
         MadeAs::Process
     }

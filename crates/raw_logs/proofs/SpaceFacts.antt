@@ -9,14 +9,15 @@ use Rattle.raw_logs.specs.Counting.{within_32_bits}
 use Rattle.std.specs.Ordering.{nat_cmp}
 use Rattle.std.proofs.lemmas.Bool.{eqb-true, eq-eqb}
 use Rattle.std.proofs.lemmas.List.{append-nil}
-use Rattle.raw_lines.specs.declared.makers.MadeAs.{MadeAs}
-use Rattle.raw_lines.specs.declared.makers.MadeAs.TheVariants.{Process}
+use Rattle.raw_lines.specs.declared.makers.Making.{Making}
+use Rattle.raw_lines.specs.declared.makers.Making.TheVariants.{Execs, Nothing}
+use Rattle.raw_logs.specs.declared.spaces.Home.{Home}
 use Rattle.raw_logs.specs.declared.spaces.Made.{Made}
 use Rattle.raw_logs.specs.declared.spaces.Makers.{Makers}
 use Rattle.raw_logs.specs.declared.spaces.Space.{Space}
 use Rattle.raw_logs.specs.declared.told.Told.{Told}
 use Rattle.raw_logs.specs.Log.{Numbered}
-use Rattle.raw_logs.specs.Spaces.{ends, ended_by, link_of, led, space_of, before_by, before_in, speaks, silent, twice, is_made, unmade}
+use Rattle.raw_logs.specs.Spaces.{ends, ended_by, made_from, execs, exec_place, link_of, has_left, led, space_at, before_by, before_in, speaks, silent, twice, is_made, unmade}
 use Rattle.raw_logs.specs.Stages.{HasMade, space_or, space_in, HasSpaces, IsPast, or_else, HasSpeakers, HasNumbers, HasKnown}
 use Rattle.raw_logs.specs.Told.{Tells, AreTold, all_told, line_told}
 use Rattle.raw_logs.proofs.ToldFacts.{tells_one}
@@ -26,15 +27,19 @@ not_same p q e same = let k = eq-eqb p q (sym same) in cc
 
 -- ---- who made whom
 
--- a line more, by what it does to the links and to the calls that wait for their beginning
+-- a line more, by what it does to the links, to the calls that wait for their beginning, and to the calls of execve
 pub made_step : (old new : Makers) (place : ℕ) (told : Told) (tolds : List Told) → HasMade old (place + 1) tolds
-    → new.made.items ≡ old.made.items ++ link_of place told.pid told.making (ended_by told.pid tolds)
+    → new.made.items ≡ old.made.items ++ link_of place told.pid told.making (λ q. get nat_cmp old.execs q) (ended_by told.pid tolds)
     → get nat_cmp new.ended told.pid ≡ ends told.making (ended_by told.pid tolds)
-    → ((q : ℕ) → q ≢ told.pid → get nat_cmp new.ended q ≡ get nat_cmp old.ended q) → HasMade new place (told ∷ tolds)
-made_step old new place told tolds h made own others =
+    → ((q : ℕ) → q ≢ told.pid → get nat_cmp new.ended q ≡ get nat_cmp old.ended q)
+    → get nat_cmp new.execs told.pid ≡ (if execs told.making then Some place else get nat_cmp old.execs told.pid)
+    → ((q : ℕ) → q ≢ told.pid → get nat_cmp new.execs q ≡ get nat_cmp old.execs q) → HasMade new place (told ∷ tolds)
+made_step old new place told tolds h made own others exec same =
     record {
-      made = made ∙ ap (λ (x : List Made). x ++ link_of place told.pid told.making (ended_by told.pid tolds)) h.made;
+      made = made ∙ ap (λ (x : List Made). x ++ link_of place told.pid told.making (λ q. get nat_cmp old.execs q) (ended_by told.pid tolds)) h.made
+          ∙ ap (λ (f : ℕ → Option ℕ). made_from (place + 1) tolds ++ link_of place told.pid told.making f (ended_by told.pid tolds)) (λ i q. h.execs q i);
       ended = λ q. by q (eqb told.pid q) refl;
+      execs = λ q. there q (eqb told.pid q) refl;
     }
   where
     by : (q : ℕ) (b : Bool) → eqb told.pid q ≡ b → get nat_cmp new.ended q ≡ ended_by q (told ∷ tolds)
@@ -43,30 +48,50 @@ made_step old new place told tolds h made own others =
         rw e (subst (λ (x : ℕ). get nat_cmp new.ended x ≡ ends told.making (ended_by x tolds)) same own)
     by q false e = rw e (others q (not_same told.pid q e) ∙ h.ended q)
 
+    there : (q : ℕ) (b : Bool) → eqb told.pid q ≡ b → get nat_cmp new.execs q ≡ exec_place q place (told ∷ tolds)
+    there q true e =
+        let is : told.pid ≡ q = eqb-true told.pid q e in
+        rw e (subst (λ (x : ℕ). get nat_cmp new.execs x ≡ (if execs told.making then Some place else exec_place x (place + 1) tolds)) is
+        (exec ∙ ap (λ (x : Option ℕ). if execs told.making then Some place else x) (h.execs told.pid)))
+    there q false e = rw e (same q (not_same told.pid q e) ∙ h.execs q)
+
 -- a line that makes nothing
-pub made_nothing : (old : Makers) (place : ℕ) (told : Told) (tolds : List Told) → HasMade old (place + 1) tolds
-    → ((later : Option ℕ) → link_of place told.pid told.making later ≡ []) → ((later : Option ℕ) → ends told.making later ≡ later)
+pub made_nothing : (old : Makers) (place : ℕ) (told : Told) (tolds : List Told) → HasMade old (place + 1) tolds → told.making ≡ Nothing
     → HasMade old place (told ∷ tolds)
-made_nothing old place told tolds h none same =
+made_nothing old place told tolds h e =
     made_step old old place told tolds h
-    (sym (append-nil old.made.items) ∙ ap (λ (x : List Made). old.made.items ++ x) (sym (none (ended_by told.pid tolds))))
-    (h.ended told.pid ∙ sym (same (ended_by told.pid tolds))) (λ q other. refl)
+    (sym (append-nil old.made.items)
+    ∙ ap (λ (m : Making). old.made.items ++ link_of place told.pid m (λ q. get nat_cmp old.execs q) (ended_by told.pid tolds)) (sym e))
+    (h.ended told.pid ∙ ap (λ (m : Making). ends m (ended_by told.pid tolds)) (sym e)) (λ q other. refl)
+    (ap (λ (m : Making). if execs m then Some place else get nat_cmp old.execs told.pid) (sym e)) (λ q other. refl)
+
+-- a line that tells of execve
+pub made_exec : (old new : Makers) (place : ℕ) (told : Told) (tolds : List Told) → HasMade old (place + 1) tolds → told.making ≡ Execs
+    → new.made ≡ old.made → new.ended ≡ old.ended → get nat_cmp new.execs told.pid ≡ Some place
+    → ((q : ℕ) → q ≢ told.pid → get nat_cmp new.execs q ≡ get nat_cmp old.execs q) → HasMade new place (told ∷ tolds)
+made_exec old new place told tolds h e made ended own others =
+    made_step old new place told tolds h
+    (ap (λ x. x.items) made ∙ sym (append-nil old.made.items)
+    ∙ ap (λ (m : Making). old.made.items ++ link_of place told.pid m (λ q. get nat_cmp old.execs q) (ended_by told.pid tolds)) (sym e))
+    (ap (λ x. get nat_cmp x told.pid) ended ∙ h.ended told.pid ∙ ap (λ (m : Making). ends m (ended_by told.pid tolds)) (sym e))
+    (λ q other. ap (λ x. get nat_cmp x q) ended)
+    (own ∙ ap (λ (m : Making). if execs m then Some place else get nat_cmp old.execs told.pid) (sym e)) others
 
 -- ---- spaces
 
 -- a link more
-pub spaces_step : (old new : BTreeMap ℕ Space) (link : Made) (space : Space) (made : List Made) → HasSpaces old made
-    → space ≡ led link.kind link.child (space_in old link.parent) → get nat_cmp new link.child ≡ Some space
+pub spaces_step : (old new : BTreeMap ℕ Home) (link : Made) (home : Home) (made : List Made) → HasSpaces old made
+    → home ≡ record { maker = space_in old link.parent link.place; kind = link.kind; exec = link.exec } → get nat_cmp new link.child ≡ Some home
     → ((q : ℕ) → q ≢ link.child → get nat_cmp new q ≡ get nat_cmp old q) → HasSpaces new (link ∷ made)
-spaces_step old new link space made h is own others q = by (eqb link.child q) refl
+spaces_step old new link home made h is own others q place = by (eqb link.child q) refl
   where
-    by : (b : Bool) → eqb link.child q ≡ b → space_in new q ≡ space_of (link ∷ made) q
+    by : (b : Bool) → eqb link.child q ≡ b → space_in new q place ≡ space_at (link ∷ made) place q
     by true e =
         let same : link.child ≡ q = eqb-true link.child q e in
-        rw e (ap (space_or q) (subst (λ (x : ℕ). get nat_cmp new x ≡ Some space) same own) ∙ is
-        ∙ ap (λ (x : ℕ). led link.kind x (space_in old link.parent)) same
-        ∙ ap (led link.kind q) (h link.parent))
-    by false e = rw e (ap (space_or q) (others q (not_same link.child q e)) ∙ h q)
+        rw e (ap (space_or q place) (subst (λ (x : ℕ). get nat_cmp new x ≡ Some home) same own)
+        ∙ ap (λ (x : Home). led (has_left x.kind x.exec place) q x.maker) is
+        ∙ ap (led (has_left link.kind link.exec place) q) (h link.parent link.place))
+    by false e = rw e (ap (space_or q place) (others q (not_same link.child q e)) ∙ h q place)
 
 -- ---- the past of a process
 
@@ -106,7 +131,8 @@ past_kept old first limit n some q = by (eqb first q) refl
 -- what a link says of the past, by whether it made the number
 abbrev by_link : Made → List Made → ℕ → ℕ → ℕ → Bool → Option ℕ
 by_link link rest pid limit first here =
-    if here then before_by link.kind pid limit first (before_in rest link.parent link.place first) (before_in rest link.parent limit first)
+    if here then before_by (has_left link.kind link.exec limit) pid limit first (before_in rest link.parent link.place first)
+    (before_in rest link.parent limit first)
     else before_in rest pid limit first
 
 -- links so far: what is of the past is there, or follows from the others
@@ -120,27 +146,24 @@ pub leads_other : (made : List Made) (asked count : ℕ) (past : BTreeMap ℕ �
 leads_other made asked count past link rest pid limit h e first =
     subst (λ (b : Bool). before_in made asked count first ≡ or_else (get nat_cmp past first) (by_link link rest pid limit first b)) e (h first)
 
--- a link of a thread
-pub leads_thread : (made : List Made) (asked count : ℕ) (past : BTreeMap ℕ ℕ) (link : Made) (rest : List Made) (pid limit : ℕ)
-    → LeadsTo made asked count past (link ∷ rest) pid limit → eqb link.child pid ≡ true → link.kind ≢ Process
+-- a link of a number that is in the space of its maker
+pub leads_shared : (made : List Made) (asked count : ℕ) (past : BTreeMap ℕ ℕ) (link : Made) (rest : List Made) (pid limit : ℕ)
+    → LeadsTo made asked count past (link ∷ rest) pid limit → eqb link.child pid ≡ true → has_left link.kind link.exec limit ≡ false
     → LeadsTo made asked count past rest link.parent limit
-leads_thread made asked count past link rest pid limit h e never first =
+leads_shared made asked count past link rest pid limit h e never first =
     subst (λ (b : Bool). before_in made asked count first ≡ or_else (get nat_cmp past first) (by_link link rest pid limit first b)) e (h first)
-    ∙ ap (or_else (get nat_cmp past first)) (shared link.kind never (before_in rest link.parent link.place first) (before_in rest link.parent limit first))
-  where
-    shared : (kind : MadeAs) → kind ≢ Process → (a b : Option ℕ) → before_by kind pid limit first a b ≡ b
-    shared Process n a b = absurd (n refl)
-    shared kind n a b = refl
+    ∙ ap (λ (b : Bool). or_else (get nat_cmp past first)
+    (before_by b pid limit first (before_in rest link.parent link.place first) (before_in rest link.parent limit first))) never
 
--- a link of a process
-pub leads_process : (made : List Made) (asked count : ℕ) (old new : BTreeMap ℕ ℕ) (link : Made) (rest : List Made) (pid limit : ℕ)
-    → LeadsTo made asked count old (link ∷ rest) pid limit → eqb link.child pid ≡ true → link.kind ≡ Process
+-- a link of a number that is in a space of its own
+pub leads_apart : (made : List Made) (asked count : ℕ) (old new : BTreeMap ℕ ℕ) (link : Made) (rest : List Made) (pid limit : ℕ)
+    → LeadsTo made asked count old (link ∷ rest) pid limit → eqb link.child pid ≡ true → has_left link.kind link.exec limit ≡ true
     → ((q : ℕ) → get nat_cmp new q ≡ or_else (get nat_cmp old q) (if pid == q then Some limit else None))
     → LeadsTo made asked count new rest link.parent link.place
-leads_process made asked count old new link rest pid limit h e is put first =
+leads_apart made asked count old new link rest pid limit h e is put first =
     subst (λ (b : Bool). before_in made asked count first ≡ or_else (get nat_cmp old first) (by_link link rest pid limit first b)) e (h first)
-    ∙ ap (λ (k : MadeAs). or_else (get nat_cmp old first)
-    (before_by k pid limit first (before_in rest link.parent link.place first) (before_in rest link.parent limit first))) is
+    ∙ ap (λ (b : Bool). or_else (get nat_cmp old first)
+    (before_by b pid limit first (before_in rest link.parent link.place first) (before_in rest link.parent limit first))) is
     ∙ grouped (get nat_cmp old first) (pid == first) (before_in rest link.parent link.place first)
     ∙ ap (λ (x : Option ℕ). or_else x (before_in rest link.parent link.place first)) (sym (put first))
   where

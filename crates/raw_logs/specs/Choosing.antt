@@ -3,7 +3,7 @@
 -- counted by its cause, and the first line whose beginning isn't known has its number kept.
 use Rattle.std.specs.Prelude.{ℕ, ◌+◌, List, [], ◌∷◌, length, Option, Some, None, Bool, true, false, if◌then◌else◌}
 use Rattle.raw_lines.specs.declared.makers.MadeAs.{MadeAs}
-use Rattle.raw_lines.specs.declared.makers.MadeAs.TheVariants.{Thread, Process, Untold as NotShown}
+use Rattle.raw_lines.specs.declared.makers.MadeAs.TheVariants.{Thread, Shared, Process, Untold as NotShown}
 use Rattle.raw_lines.specs.declared.makers.Making.{Making}
 use Rattle.raw_lines.specs.declared.makers.Making.TheVariants.{Makes, Begins, Ends, Execs, Nothing}
 use Rattle.raw_logs.specs.declared.counts.Counts.{Counts}
@@ -15,7 +15,7 @@ use Rattle.raw_logs.specs.declared.told.Form.TheVariants.{Blank, Unknown, Long, 
 use Rattle.raw_logs.specs.declared.told.Told.{Told}
 use Rattle.raw_logs.specs.Counting.{within_32_bits, no_counts, one_more_of}
 use Rattle.raw_logs.specs.Log.{Numbered}
-use Rattle.raw_logs.specs.Spaces.{made_from, has_line, speaks, silent, twice, unmade, foreign}
+use Rattle.raw_logs.specs.Spaces.{execs, made_from, has_line, speaks, silent, twice, unmade, foreign}
 
 -- what is picked of lines
 pub record Picked : Type 0 where
@@ -33,18 +33,11 @@ pub record Picked : Type 0 where
 abbrev pub nothing_picked : Picked
 nothing_picked = record { lines = []; counts = no_counts; ended = false; unknown = None; too_long = None }
 
--- the line tells of execve
-abbrev pub execs : Making → Bool
-execs Execs = true
-execs (Makes kind child) = false
-execs (Begins kind) = false
-execs (Ends child) = false
-execs Nothing = false
-
 -- the flags aren't shown
 abbrev pub isnt_shown : MadeAs → Bool
 isnt_shown NotShown = true
 isnt_shown Thread = false
+isnt_shown Shared = false
 isnt_shown Process = false
 
 -- the line makes a number, or begins to, and doesn't show as what

@@ -1,10 +1,11 @@
 -- Whose address space a line is of. strace(1) follows children too, and numbers threads as it numbers processes. Lines
 -- of clone(2) and its like tell which number is a thread of another, and which has an address space of its own; it
--- begins with the areas of its maker, so the maker's lines up to there are of its past. What they don't tell isn't
--- guessed: a number of which no line tells is of the program, and one whose flags aren't shown is taken for a thread.
+-- begins with the areas of its maker, so the maker's lines up to there are of its past. A child of vfork(2), or with
+-- the flag CLONE_VM, has one of its own from its execve(2) on. What lines don't tell isn't guessed: a number of which
+-- no line tells is of the program, and one whose flags aren't shown is taken for a thread.
 use Rattle.std.specs.Prelude.{ℕ, ◌+◌, ◌-◌, List, [], ◌∷◌, ◌++◌, Option, Some, None, Bool, true, false, not, ◌==◌, nat_lt, if◌then◌else◌}
 use Rattle.raw_lines.specs.declared.makers.MadeAs.{MadeAs}
-use Rattle.raw_lines.specs.declared.makers.MadeAs.TheVariants.{Thread, Process, Untold}
+use Rattle.raw_lines.specs.declared.makers.MadeAs.TheVariants.{Thread, Shared, Process, Untold}
 use Rattle.raw_lines.specs.declared.makers.Making.{Making}
 use Rattle.raw_lines.specs.declared.makers.Making.TheVariants.{Makes, Begins, Ends, Execs, Nothing}
 use Rattle.raw_logs.specs.declared.spaces.Made.{Made}
@@ -26,49 +27,77 @@ abbrev pub ended_by : ℕ → List Told → Option ℕ
 ended_by pid [] = None
 ended_by pid (told ∷ tolds) = if told.pid == pid then ends told.making (ended_by pid tolds) else ended_by pid tolds
 
--- the link that a call makes at this place, where it made a number
-abbrev pub links : ℕ → ℕ → MadeAs → Option ℕ → List Made
-links place parent kind None = []
-links place parent kind (Some child) = record { place = place; parent = parent; child = child; kind = kind } ∷ []
+-- the line tells of execve
+abbrev pub execs : Making → Bool
+execs Execs = true
+execs (Makes kind child) = false
+execs (Begins kind) = false
+execs (Ends child) = false
+execs Nothing = false
 
--- the link that a line makes, where the call that it may begin ends so
-abbrev pub link_of : ℕ → ℕ → Making → Option ℕ → List Made
-link_of place pid (Makes kind child) later = links place pid kind child
-link_of place pid (Begins kind) later = links place pid kind later
-link_of place pid (Ends child) later = []
-link_of place pid Execs later = []
-link_of place pid Nothing later = []
+-- where a process calls execve first, in these lines, the first of which has this place
+abbrev pub exec_place : ℕ → ℕ → List Told → Option ℕ
+exec_place pid place [] = None
+exec_place pid place (told ∷ tolds) =
+    if told.pid == pid then (if execs told.making then Some place else exec_place pid (place + 1) tolds) else exec_place pid (place + 1) tolds
+
+-- the link that a call makes at this place, where it made a number, which calls execve there
+abbrev pub links : ℕ → ℕ → MadeAs → (ℕ → Option ℕ) → Option ℕ → List Made
+links place parent kind exec None = []
+links place parent kind exec (Some child) = record { place = place; parent = parent; child = child; kind = kind; exec = exec child } ∷ []
+
+-- the link that a line makes, where the call that it may begin ends so, and numbers call execve there
+abbrev pub link_of : ℕ → ℕ → Making → (ℕ → Option ℕ) → Option ℕ → List Made
+link_of place pid (Makes kind child) exec later = links place pid kind exec child
+link_of place pid (Begins kind) exec later = links place pid kind exec later
+link_of place pid (Ends child) exec later = []
+link_of place pid Execs exec later = []
+link_of place pid Nothing exec later = []
 
 -- who made whom by these lines, the first of which has this place, the latest first
 abbrev pub made_from : ℕ → List Told → List Made
 made_from place [] = []
-made_from place (told ∷ tolds) = made_from (place + 1) tolds ++ link_of place told.pid told.making (ended_by told.pid tolds)
+made_from place (told ∷ tolds) =
+    made_from (place + 1) tolds ++ link_of place told.pid told.making (λ child. exec_place child (place + 1) tolds) (ended_by told.pid tolds)
 
 -- ---- spaces
 
--- the space of a number that was made so, where its maker is of this one
-abbrev pub led : MadeAs → ℕ → Space → Space
-led Process child maker = record { first = child; made = true }
-led Thread child maker = maker
-led Untold child maker = maker
+-- the call of execve, where there is one, isn't behind this place
+abbrev pub is_done_at : ℕ → Option ℕ → Bool
+is_done_at place None = false
+is_done_at place (Some exec) = not (nat_lt place exec)
 
--- the space of a number, by who made whom, the latest first: a thread is of its maker's
-abbrev pub space_of : List Made → ℕ → Space
-space_of [] pid = record { first = pid; made = false }
-space_of (link ∷ earlier) pid = if link.child == pid then led link.kind pid (space_of earlier link.parent) else space_of earlier pid
+-- what was made so, and calls execve there, is in a space of its own at this place, and not in its maker's
+abbrev pub has_left : MadeAs → Option ℕ → ℕ → Bool
+has_left Process exec place = true
+has_left Shared exec place = is_done_at place exec
+has_left Thread exec place = false
+has_left Untold exec place = false
 
--- a process ends the search at its own space, and goes on with its maker's lines before it was made
-abbrev pub before_by : MadeAs → ℕ → ℕ → ℕ → Option ℕ → Option ℕ → Option ℕ
-before_by Process pid limit first made shared = if pid == first then Some limit else made
-before_by Thread pid limit first made shared = shared
-before_by Untold pid limit first made shared = shared
+-- the space of a number that was made, and has left that of its maker or hasn't
+abbrev pub led : Bool → ℕ → Space → Space
+led true child maker = record { first = child; made = true }
+led false child maker = maker
+
+-- the space of a number at a place, by who made whom, the latest first: a thread is of its maker's, and a process that
+-- shares it until its execve is too
+abbrev pub space_at : List Made → ℕ → ℕ → Space
+space_at [] place pid = record { first = pid; made = false }
+space_at (link ∷ earlier) place pid =
+    if link.child == pid then led (has_left link.kind link.exec place) pid (space_at earlier link.place link.parent) else space_at earlier place pid
+
+-- a process in its own space ends the search there, and goes on with its maker's lines before it was made
+abbrev pub before_by : Bool → ℕ → ℕ → ℕ → Option ℕ → Option ℕ → Option ℕ
+before_by true pid limit first made shared = if pid == first then Some limit else made
+before_by false pid limit first made shared = shared
 
 -- the place before which lines of a space, that has this first number, are of the past of a number, whose own are
 -- before this one
 abbrev pub before_in : List Made → ℕ → ℕ → ℕ → Option ℕ
 before_in [] pid limit first = if pid == first then Some limit else None
 before_in (link ∷ earlier) pid limit first =
-    if link.child == pid then before_by link.kind pid limit first (before_in earlier link.parent link.place first) (before_in earlier link.parent limit first)
+    if link.child == pid then before_by (has_left link.kind link.exec limit) pid limit first (before_in earlier link.parent link.place first)
+    (before_in earlier link.parent limit first)
     else before_in earlier pid limit first
 
 -- ---- lines that are written
@@ -84,7 +113,7 @@ of_process (Some asked) made count place space = is_before place (before_in made
 
 -- a line at this place, of so many, is written, or would be if a later one didn't leave it out
 abbrev pub has_line : Option ℕ → List Made → ℕ → ℕ → Told → Bool
-has_line process made count place told = if told.marked then true else of_process process made count place (space_of made told.pid)
+has_line process made count place told = if told.marked then true else of_process process made count place (space_at made place told.pid)
 
 -- the number has a line
 abbrev pub speaks : ℕ → List Told → Bool

@@ -15,6 +15,7 @@ use Rattle.raw_logs.specs.declared.healing.Changed.{Changed}
 use Rattle.raw_logs.specs.declared.healing.Healer.{Healer}
 use Rattle.raw_logs.specs.declared.healing.Part.{Part}
 use Rattle.raw_logs.specs.declared.spaces.Chooser.{Chooser}
+use Rattle.raw_logs.specs.declared.spaces.Home.{Home}
 use Rattle.raw_logs.specs.declared.spaces.Made.{Made}
 use Rattle.raw_logs.specs.declared.spaces.Makers.{Makers}
 use Rattle.raw_logs.specs.declared.spaces.Space.{Space}
@@ -24,7 +25,7 @@ use Rattle.raw_logs.specs.declared.told.Told.{Told}
 use Rattle.raw_logs.specs.Choosing.{Picked, picked}
 use Rattle.raw_logs.specs.Log.{Numbered, line_of, LineKind, IsKind, Each, healed, changed, count_changes, IsStripped}
 use Rattle.raw_logs.specs.Numbering.{IsRenumbered}
-use Rattle.raw_logs.specs.Spaces.{made_from, ended_by, space_of, before_in, speaks, is_made, is_known}
+use Rattle.raw_logs.specs.Spaces.{made_from, ended_by, exec_place, has_left, led, space_at, before_in, speaks, is_made, is_known}
 use Rattle.raw_logs.specs.Told.{AreTold}
 
 -- no text is longer than a line may be
@@ -80,22 +81,24 @@ EachLater later text = (n : ℕ) (rest : List ℕ) → IsBracketed text n rest �
 
 -- ---- spaces
 
--- the lines behind this place were taken: who made whom by them, and what calls made that they end
+-- the lines from this place on were taken: who made whom by them, what calls made that they end, and where numbers call
+-- execve
 pub record HasMade (makers : Makers) (place : ℕ) (tolds : List Told) : Type 0 where
   pub made : makers.made.items ≡ made_from place tolds
   pub ended : (pid : ℕ) → get nat_cmp makers.ended pid ≡ ended_by pid tolds
+  pub execs : (pid : ℕ) → get nat_cmp makers.execs pid ≡ exec_place pid place tolds
 
--- the space that a map has for a number, or its own
-abbrev pub space_or : ℕ → Option Space → Space
-space_or pid None = record { first = pid; made = false }
-space_or pid (Some space) = space
+-- the space that a map has for a number at a place, or its own
+abbrev pub space_or : ℕ → ℕ → Option Home → Space
+space_or pid place None = record { first = pid; made = false }
+space_or pid place (Some home) = led (has_left home.kind home.exec place) pid home.maker
 
-abbrev pub space_in : BTreeMap ℕ Space → ℕ → Space
-space_in spaces pid = space_or pid (get nat_cmp spaces pid)
+abbrev pub space_in : BTreeMap ℕ Home → ℕ → ℕ → Space
+space_in homes pid place = space_or pid place (get nat_cmp homes pid)
 
--- the map has the space of each number, by who made whom
-abbrev pub HasSpaces : BTreeMap ℕ Space → List Made → Type 0
-HasSpaces spaces made = (pid : ℕ) → space_in spaces pid ≡ space_of made pid
+-- the map has the space of each number at each place, by who made whom
+abbrev pub HasSpaces : BTreeMap ℕ Home → List Made → Type 0
+HasSpaces homes made = (pid place : ℕ) → space_in homes pid place ≡ space_at made place pid
 
 -- the first, where there is one, or the other
 abbrev pub or_else : Option ℕ → Option ℕ → Option ℕ
@@ -115,7 +118,7 @@ IsPastOf (Some asked) made count (Some past) = IsPast past made asked count
 
 -- it chooses lines by who made whom, and by the process that was asked for
 pub record IsChooser (process : Option ℕ) (made : List Made) (count : ℕ) (chooser : Chooser) : Type 0 where
-  pub spaces : HasSpaces chooser.spaces made
+  pub homes : HasSpaces chooser.homes made
   pub past : IsPastOf process made count chooser.past
 
 -- the set has the numbers that links made

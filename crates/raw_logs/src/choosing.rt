@@ -6,8 +6,8 @@ ghost use Rattle.raw_logs.specs.Buffer.{IsSieve, kept_in, rest_in};
 ghost use Rattle.raw_logs.specs.declared.told.Told.{Told as ToldOf};
 ghost use Rattle.raw_logs.specs.declared.spaces.Made.{Made as MadeOf};
 ghost use Rattle.raw_logs.specs.Log.{Numbered, line_of};
-ghost use Rattle.raw_logs.specs.Choosing.{execs, hides, with_own, with_line, with_numbers};
-ghost use Rattle.raw_logs.specs.Spaces.{has_line};
+ghost use Rattle.raw_logs.specs.Choosing.{hides, with_own, with_line, with_numbers};
+ghost use Rattle.raw_logs.specs.Spaces.{execs, has_line};
 ghost use Rattle.raw_logs.specs.Told.{Tells, AreTold};
 ghost use Rattle.raw_logs.specs.Stages.{seen, written, keeps, kept_from, HasPicked, AreShort, IsChooser};
 

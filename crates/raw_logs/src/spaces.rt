@@ -9,7 +9,7 @@ ghost use Rattle.std.specs.Ordering.{nat_cmp};
 ghost use Rattle.std.specs.Prelude.{◌≢◌, ◌<◌, ◌^◌, ◌==◌, Some, None, true, if◌then◌else◌};
 ghost use Rattle.raw_logs.specs.declared.spaces.Made.{Made as MadeOf};
 ghost use Rattle.raw_logs.specs.declared.told.Told.{Told as ToldOf};
-ghost use Rattle.raw_logs.specs.Spaces.{links, made_from, led, has_line, speaks, silent, twice, unmade, foreign};
+ghost use Rattle.raw_logs.specs.Spaces.{links, made_from, has_left, led, has_line, speaks, silent, twice, unmade, foreign};
 ghost use Rattle.raw_logs.specs.Counting.{within_32_bits};
 ghost use Rattle.raw_logs.specs.Told.{AreTold};
 ghost use Rattle.raw_logs.specs.Stages.{HasMade, space_in, HasSpaces, IsPast, IsChooser, or_else, HasSpeakers, HasNumbers, HasKnown};
@@ -31,6 +31,8 @@ pub(crate) struct Made {
     pub(crate) child: u32,
     /// As what.
     pub(crate) kind: MadeAs,
+    /// The place behind that where it first tells of execve(2).
+    pub(crate) exec: Option<u32>,
 }
 
 /// Who made whom, by the lines behind a place.
@@ -38,8 +40,20 @@ pub(crate) struct Made {
 struct Makers {
     /// Of each process, the number that the call made which it began before these lines.
     ended: BTreeMap<u32, u32>,
+    /// Of each process, the place of the first of these lines that tells of execve(2).
+    execs: BTreeMap<u32, u32>,
     /// Who made whom, the latest first.
     made: Vec<Made>,
+}
+
+/// The place where a process tells of execve(2), as far as it is known.
+fn exec_of(execs: &BTreeMap<u32, u32>, pid: u32) -> Option<u32>
+    ensures { result ≡ get nat_cmp execs.now pid }
+{
+    match execs.get(&pid) {
+        Some(place) => Some(*place),
+        None => None,
+    }
 }
 
 impl Makers {
@@ -51,19 +65,35 @@ impl Makers {
         kind: MadeAs,
         child: Option<u32>,
     ) -> Result<(), AllocError>
-        ensures made { OnOk result (self.new.made.items ≡ self.old.made.items ++ links place parent kind child) }
+        ensures made { OnOk result (self.new.made.items ≡ self.old.made.items ++ links place parent kind (λ q. get nat_cmp self.old.execs q) child) }
         ensures ended { self.new.ended ≡ self.old.ended }
+        ensures execs { self.new.execs ≡ self.old.execs }
     {
         let Some(child) = child else {
             return Ok(());
         };
+        let exec = exec_of(&self.execs, child);
         self.made.push(Made {
             place,
             parent,
             child,
             kind,
+            exec,
         })?;
         Ok(())
+    }
+
+    /// The process tells of execve(2) at this place, before the lines that were taken.
+    fn exec(&mut self, pid: u32, place: u32) -> Result<(), AllocError>
+        ensures execs { OnOk result (get nat_cmp self.new.execs pid ≡ Some place) }
+        ensures others { OnOk result ((q : ℕ) → q ≢ pid → get nat_cmp self.new.execs q ≡ get nat_cmp self.old.execs q) }
+        ensures ended { self.new.ended ≡ self.old.ended }
+        ensures made { self.new.made ≡ self.old.made }
+    {
+        match self.execs.insert(pid, place) {
+            Ok(_) => Ok(()),
+            Err(_) => Err(AllocError),
+        }
     }
 
     /// A call of the process ends here, and made this number.
@@ -71,6 +101,7 @@ impl Makers {
         ensures ended { OnOk result (get nat_cmp self.new.ended pid ≡ child) }
         ensures others { OnOk result ((q : ℕ) → q ≢ pid → get nat_cmp self.new.ended q ≡ get nat_cmp self.old.ended q) }
         ensures made { self.new.made ≡ self.old.made }
+        ensures execs { self.new.execs ≡ self.old.execs }
     {
         let Some(child) = child else {
             self.ended.remove(&pid);
@@ -88,6 +119,7 @@ impl Makers {
         ensures gone { get nat_cmp self.new.ended pid ≡ None }
         ensures others { (q : ℕ) → q ≢ pid → get nat_cmp self.new.ended q ≡ get nat_cmp self.old.ended q }
         ensures made { self.new.made ≡ self.old.made }
+        ensures execs { self.new.execs ≡ self.old.execs }
     {
         self.ended.remove(&pid)
     }
@@ -97,7 +129,11 @@ impl Makers {
         ensures { OnOk result ((tolds : List ToldOf) → HasMade self.old (place + 1) tolds → HasMade self.new place (told ∷ tolds)) }
     {
         match told.making {
-            Making::Nothing | Making::Execs => Ok(()),
+            Making::Nothing => Ok(()),
+            Making::Execs => {
+                self.exec(told.pid, place)?;
+                Ok(())
+            }
             Making::Makes { kind, child } => {
                 self.begin(told.pid);
                 self.add(place, told.pid, kind, child)?;
@@ -123,6 +159,7 @@ pub(crate) fn all_made(alloc: Global, lines: &Lines) -> Result<Vec<Made>, AllocE
 {
     let mut makers = Makers {
         ended: BTreeMap::new(alloc),
+        execs: BTreeMap::new(alloc),
         made: Vec::new(alloc),
     };
     let mut room = Vec::new(alloc);
@@ -142,12 +179,51 @@ pub(crate) struct Space {
     pub(crate) made: bool,
 }
 
-/// The space of a number: its own, where nothing says another.
-fn space_in(spaces: &BTreeMap<u32, Space>, pid: u32) -> Space
-    ensures { result ≡ space_in spaces.now pid }
+/// Where a number that was made is at home.
+#[derive(Clone, Copy, PartialEq, Eq, Debug)]
+pub(crate) struct Home {
+    /// The space of its maker.
+    pub(crate) maker: Space,
+    /// As what it was made.
+    pub(crate) kind: MadeAs,
+    /// The place where it tells of execve(2).
+    pub(crate) exec: Option<u32>,
+}
+
+/// Whether what was made so, and tells of execve(2) there, is in a space of its own at a place.
+fn has_left(kind: MadeAs, exec: Option<u32>, place: u32) -> bool
+    ensures { result ≡ has_left kind exec place }
 {
-    match spaces.get(&pid) {
-        Some(space) => *space,
+    match kind {
+        MadeAs::Process => true,
+        MadeAs::Shared => match exec {
+            Some(exec) => exec <= place,
+            None => false,
+        },
+        MadeAs::Thread => false,
+        MadeAs::Untold => false,
+    }
+}
+
+/// The space of a number that was made, and has left that of its maker or hasn't.
+fn led(left: bool, child: u32, maker: Space) -> Space
+    ensures { result ≡ led left child maker }
+{
+    if left {
+        return Space {
+            first: child,
+            made: true,
+        };
+    }
+    maker
+}
+
+/// The space of a number at a place: its own, where nothing says another.
+fn space_in(homes: &BTreeMap<u32, Home>, pid: u32, place: u32) -> Space
+    ensures { result ≡ space_in homes.now pid place }
+{
+    match homes.get(&pid) {
+        Some(home) => led(has_left(home.kind, home.exec, place), pid, home.maker),
         None => Space {
             first: pid,
             made: false,
@@ -155,50 +231,40 @@ fn space_in(spaces: &BTreeMap<u32, Space>, pid: u32) -> Space
     }
 }
 
-/// Gives a number a space.
-fn put_space(spaces: &mut BTreeMap<u32, Space>, pid: u32, space: Space) -> Result<(), AllocError>
-    ensures is { OnOk result (get nat_cmp spaces.new pid ≡ Some space) }
-    ensures others { OnOk result ((q : ℕ) → q ≢ pid → get nat_cmp spaces.new q ≡ get nat_cmp spaces.old q) }
+/// Gives a number a home.
+fn put_home(homes: &mut BTreeMap<u32, Home>, pid: u32, home: Home) -> Result<(), AllocError>
+    ensures is { OnOk result (get nat_cmp homes.new pid ≡ Some home) }
+    ensures others { OnOk result ((q : ℕ) → q ≢ pid → get nat_cmp homes.new q ≡ get nat_cmp homes.old q) }
 {
-    match spaces.insert(pid, space) {
+    match homes.insert(pid, home) {
         Ok(_) => Ok(()),
         Err(_) => Err(AllocError),
     }
 }
 
-/// The space of a number that a link made, where its maker is of this one.
-fn led(link: Made, maker: Space) -> Space
-    ensures { result ≡ led link.kind link.child maker }
-{
-    match link.kind {
-        MadeAs::Process => Space {
-            first: link.child,
-            made: true,
-        },
-        MadeAs::Thread => maker,
-        MadeAs::Untold => maker,
-    }
-}
-
 /// Adds what a link says of the space of the number that it made.
-fn add_space(spaces: &mut BTreeMap<u32, Space>, link: Made) -> Result<(), AllocError>
-    ensures { OnOk result ((made : List MadeOf) → HasSpaces spaces.old made → HasSpaces spaces.new (link ∷ made)) }
+fn add_home(homes: &mut BTreeMap<u32, Home>, link: Made) -> Result<(), AllocError>
+    ensures { OnOk result ((made : List MadeOf) → HasSpaces homes.old made → HasSpaces homes.new (link ∷ made)) }
 {
-    let maker = space_in(spaces, link.parent);
-    put_space(spaces, link.child, led(link, maker))
+    let home = Home {
+        maker: space_in(homes, link.parent, link.place),
+        kind: link.kind,
+        exec: link.exec,
+    };
+    put_home(homes, link.child, home)
 }
 
-/// The spaces of all numbers that were made.
-fn all_spaces(alloc: Global, made: &[Made]) -> Result<BTreeMap<u32, Space>, AllocError>
-    ensures { IfOk result (λ spaces. HasSpaces spaces made.now) }
+/// Where all numbers that were made are at home.
+fn all_homes(alloc: Global, made: &[Made]) -> Result<BTreeMap<u32, Home>, AllocError>
+    ensures { IfOk result (λ homes. HasSpaces homes made.now) }
 {
-    let mut spaces = BTreeMap::new(alloc);
+    let mut homes = BTreeMap::new(alloc);
     let mut left = made;
     'links: while let Some((link, later)) = left.split_last() {
-        add_space(&mut spaces, *link)?;
+        add_home(&mut homes, *link)?;
         left = later;
     }
-    Ok(spaces)
+    Ok(homes)
 }
 
 /// Puts in up to which place lines of a space are of the past.
@@ -240,7 +306,7 @@ fn past_of(
         if link.child != pid {
             continue;
         }
-        if link.kind == MadeAs::Process {
+        if has_left(link.kind, link.exec, limit) {
             add_past(&mut past, pid, limit)?;
             limit = link.place;
         }
@@ -253,8 +319,8 @@ fn past_of(
 /// Which lines are written.
 #[derive(Drop)]
 pub(crate) struct Chooser {
-    /// The spaces of the numbers that were made.
-    spaces: BTreeMap<u32, Space>,
+    /// Where the numbers that were made are at home.
+    homes: BTreeMap<u32, Home>,
     /// The past of the process that is asked for; the program's lines are written where none is.
     past: Option<BTreeMap<u32, u32>>,
 }
@@ -268,7 +334,7 @@ impl Chooser {
         if told.marked {
             return true;
         }
-        let space = space_in(&self.spaces, told.pid);
+        let space = space_in(&self.homes, told.pid, place);
         let Some(past) = &self.past else {
             return !space.made;
         };
@@ -288,12 +354,12 @@ pub(crate) fn chooser_of(
 ) -> Result<Chooser, AllocError>
     ensures { IfOk result (IsChooser process made.now count) }
 {
-    let spaces = all_spaces(alloc, made)?;
+    let homes = all_homes(alloc, made)?;
     let past = match process {
         Some(asked) => Some(past_of(alloc, made, asked, count)?),
         None => None,
     };
-    Ok(Chooser { spaces, past })
+    Ok(Chooser { homes, past })
 }
 
 /// Puts a number in.
