@@ -20,7 +20,7 @@ use Rattle.area_guard.specs.History.MayStore.{store_row, store_count, store_gap,
 use Rattle.area_guard.specs.History.MayAdd.{draw, raise}
 use Rattle.area_guard.specs.declared.guard.Splice.{Splice}
 use Rattle.area_guard.specs.Rows.{nb_in, number_place, IsLayoutPlace}
-use Rattle.area_guard.specs.Draws.{none_else, draw_seen, draw_drew, draw_since, leaves_plan}
+use Rattle.area_guard.specs.Draws.{none_else, draw_seen, draw_drew, draw_since, draw_took, leaves_plan}
 use Rattle.lock_core.specs.Grants.{Grants}
 use Rattle.lock_core.specs.Client.{ClientStep, loads, stores, adds, exchanges}
 use Rattle.lock_core.specs.declared.range.Held.{Held}
@@ -203,38 +203,42 @@ all_hold grants words passes worker step note after is may =
 
 -- one step more since the last draw, with the same entries
 abbrev Counts : Pass → Pass → Type 0
-Counts p after = KeepsDraw p after × (after.since ≡ p.since + 1)
+Counts p after = KeepsDraw p after × (after.since ≡ p.since + 1) × (after.took ≡ p.took)
 
 -- a pass that has become another one, which is so
-same_draw : (p q after : Pass) → after ≡ q → q.mine ≡ p.mine → q.drew ≡ p.drew → q.since ≡ p.since + 1 → Counts p after
-same_draw p q after is m d s = (record { mine = ap (λ (x : Pass). x.mine) is ∙ m; drew = ap (λ (x : Pass). x.drew) is ∙ d }, ap (λ (x : Pass). x.since) is ∙ s)
+same_draw : (p q after : Pass) → after ≡ q → q.mine ≡ p.mine → q.drew ≡ p.drew → q.since ≡ p.since + 1 → q.took ≡ p.took → Counts p after
+same_draw p q after is m d s t = (
+  record { mine = ap (λ (x : Pass). x.mine) is ∙ m; drew = ap (λ (x : Pass). x.drew) is ∙ d },
+  ap (λ (x : Pass). x.since) is ∙ s,
+  ap (λ (x : Pass). x.took) is ∙ t,
+)
 
 load_keeps : (own : Option Held → Type 0) (free held : Type 0) (words : List ℕ) (history : List Entry) (place : ℕ) (p after : Pass)
     → MayLoad own free held words history place p after → Counts p after
-load_keeps own free held words history place p after (number h o k e is) = same_draw p _ after is refl refl refl
-load_keeps own free held words history place p after (glance f e is) = same_draw p _ after is refl refl refl
-load_keeps own free held words history place p after (sequence h e is) = same_draw p _ after is refl refl refl
-load_keeps own free held words history place p after (layout h e is) = same_draw p _ after is refl refl refl
-load_keeps own free held words history place p after (gap_word h e is) = same_draw p _ after is refl refl refl
-load_keeps own free held words history place p after (row i h slot e is) = same_draw p _ after is refl refl refl
+load_keeps own free held words history place p after (number h o k e is) = same_draw p _ after is refl refl refl refl
+load_keeps own free held words history place p after (glance f e is) = same_draw p _ after is refl refl refl refl
+load_keeps own free held words history place p after (sequence h e is) = same_draw p _ after is refl refl refl refl
+load_keeps own free held words history place p after (layout h e is) = same_draw p _ after is refl refl refl refl
+load_keeps own free held words history place p after (gap_word h e is) = same_draw p _ after is refl refl refl refl
+load_keeps own free held words history place p after (row i h slot e is) = same_draw p _ after is refl refl refl refl
 
 store_keeps : (plan : Splice) (place value : ℕ) (p after : Pass) → MayStore plan place value p after → Counts p after
-store_keeps plan place value p after (store_row i slot e v is) = same_draw p _ after is refl refl refl
-store_keeps plan place value p after (store_count e v is) = same_draw p _ after is refl refl refl
-store_keeps plan place value p after (store_gap e is) = same_draw p _ after is refl refl refl
-store_keeps plan place value p after (store_layout i few e is) = same_draw p _ after is refl refl refl
+store_keeps plan place value p after (store_row i slot e v is) = same_draw p _ after is refl refl refl refl
+store_keeps plan place value p after (store_count e v is) = same_draw p _ after is refl refl refl refl
+store_keeps plan place value p after (store_gap e is) = same_draw p _ after is refl refl refl refl
+store_keeps plan place value p after (store_layout i few e is) = same_draw p _ after is refl refl refl refl
 
 write_keeps : (words : List ℕ) (pending : Pending) (place value : ℕ) (p after : Pass) → MayWrite words pending place value p after → Counts p after
 write_keeps words AtRest place value p after may = absurd may
 write_keeps words (Planned plan) place value p after may = store_keeps plan place value p after may.0
-write_keeps words (OneRow c) place value p after may = same_draw p _ after may.3 refl refl refl
+write_keeps words (OneRow c) place value p after may = same_draw p _ after may.3 refl refl refl refl
 
 raise_keeps : (grants : Grants) (words : List ℕ) (passes : List Pass) (worker place : ℕ) (note : Note)
     (here : Here grants words passes worker) (after : Pass) → (place ≡ number_place (nb_in words) → ⊥)
     → MayAdd grants words passes worker note here place after → Counts here.pass after
 raise_keeps grants words passes worker place note here after differ (draw e keeps drew) =
     absurd (differ (e ∙ ap number_place (here.running.parts worker here.pass here.own).room.0))
-raise_keeps grants words passes worker place note here after differ (raise plan e pends written right is) = same_draw here.pass _ after is refl refl refl
+raise_keeps grants words passes worker place note here after differ (raise plan e pends written right is) = same_draw here.pass _ after is refl refl refl refl
 
 -- a step of a caller at a moment, from the pass that it has there
 step_keeps : (grants : Grants) (words : List ℕ) (passes : List Pass) (worker : ℕ) (step : ClientStep) (note : Note) (after : Pass)
@@ -264,11 +268,15 @@ draw_kept grants words passes worker step note pass after own other may =
 -- a draw begins the count of steps anew, and every other step is counted
 pub all_counted : StepsAreCounted
 all_counted grants words passes worker step note pass after own may = (
-  λ other. (counts_of grants words passes worker step note pass after own other may).1,
+  λ other. let counted = counts_of grants words passes worker step note pass after own other may in (counted.1, counted.2),
   λ is.
       let d = step_draws grants words passes worker step note after is may in
-      ap (λ (p : Pass). p.since) d.1.1
-      ∙ draw_since d.0.history (entry_of (length d.0.history) worker note) d.1.0.held.0 d.0.pass note.pending,
+      let e : Entry = entry_of (length d.0.history) worker note in (
+        ap (λ (p : Pass). p.since) d.1.1 ∙ draw_since d.0.history e d.1.0.held.0 d.0.pass note.pending,
+        ap (λ (p : Pass). p.took) d.1.1 ∙ (draw_took d.0.history e d.1.0.held.0 d.0.pass note.pending
+            ∙ ap (λ (p : Pass). p.since) (some-injective d.0.pass pass (sym d.0.own ∙ own))),
+      ),
+  refl,
   refl,
 )
 

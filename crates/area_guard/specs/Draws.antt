@@ -149,6 +149,11 @@ module _ (history : List Entry) (e : Entry) (held : Option Held) (p : Pass) wher
   draw_since (Planned plan) = refl
   draw_since (OneRow c) = refl
 
+  pub draw_took : (pending : Pending) → (after_draw history e pending held p).took ≡ p.since
+  draw_took AtRest = refl
+  draw_took (Planned plan) = refl
+  draw_took (OneRow c) = refl
+
 -- what another caller has to write is of its last entry, as before
 last_on : (start : List Areas) (history mine : List Entry) (pending : Pending) (e : Entry) → IsOfLastEntry start history mine pending
     → IsOfLastEntry start (history ++ e ∷ []) mine pending

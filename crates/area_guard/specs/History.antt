@@ -286,6 +286,7 @@ newcomer words number = record {
   drew = None;
   looks = [];
   since = 0;
+  took = 0;
 }
 
 -- a pass when its range is given back: what was read under it may change from now on
@@ -403,6 +404,7 @@ after_draw history e AtRest held p = record {
   drew = held;
   looks = p.looks;
   since = 0;
+  took = p.since;
 }
 after_draw history e (Planned plan) held p = record {
   start = p.start;
@@ -419,6 +421,7 @@ after_draw history e (Planned plan) held p = record {
   drew = held;
   looks = p.looks;
   since = 0;
+  took = p.since;
 }
 after_draw history e (OneRow change) held p = record {
   start = p.start;
@@ -435,6 +438,7 @@ after_draw history e (OneRow change) held p = record {
   drew = held;
   looks = p.looks;
   since = 0;
+  took = p.since;
 }
 
 -- the pass after the sequence word was raised: all is written

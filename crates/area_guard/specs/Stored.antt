@@ -121,12 +121,13 @@ LastDrawIsKept = (grants : Grants) (words : List ℕ) (passes : List Pass) (work
     (pass after : Pass) → get_elem? passes worker ≡ some pass → ¬ IsDraw words step
     → Allowed grants words passes worker step note after → KeepsDraw pass after × KeepsDraw pass (rest_of pass)
 
--- every allowed step on a client word is counted since the caller's last draw, and a draw begins this count anew.
--- Giving the range back leaves it
+-- every allowed step on a client word is counted since the caller's last draw, and a draw begins this count anew and
+-- keeps what it was. Giving the range back leaves both
 abbrev pub StepsAreCounted : Type 0
 StepsAreCounted = (grants : Grants) (words : List ℕ) (passes : List Pass) (worker : ℕ) (step : ClientStep) (note : Note)
     (pass after : Pass) → get_elem? passes worker ≡ some pass → Allowed grants words passes worker step note after
-    → (¬ IsDraw words step → after.since ≡ pass.since + 1) × (IsDraw words step → after.since ≡ 0) × ((rest_of pass).since ≡ pass.since)
+    → (¬ IsDraw words step → (after.since ≡ pass.since + 1) × (after.took ≡ pass.took))
+    × (IsDraw words step → (after.since ≡ 0) × (after.took ≡ pass.since)) × ((rest_of pass).since ≡ pass.since) × ((rest_of pass).took ≡ pass.took)
 
 -- the word that tells whether the space keeps its history stands still, and so does the number word where it doesn't
 abbrev pub WordStands : List ℕ → List ℕ → Type 0

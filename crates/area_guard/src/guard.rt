@@ -109,6 +109,8 @@ pub struct Pass {
     /// How many steps the caller has made on client words since the one that drew its last number, or since the
     /// opening.
     pub since: u64,
+    /// How many of them it had made when it drew its last number, since the draw before or since the opening.
+    pub took: u64,
 }
 
 /// The guard of the address space.

@@ -37,7 +37,7 @@ pub fn stores_are_new()
 
 /// A number is drawn only at a step at which its caller holds the range that the entry names; the entry is then the
 /// last one that the caller has seen, and the caller's pass keeps that range until its next draw, and counts the
-/// steps on client words that the caller makes meanwhile. It does nothing.
+/// steps on client words that the caller makes meanwhile. It keeps how many there were up to the draw. It does nothing.
 pub fn draws_hold()
     ensures drawn { DrawsHold }
     ensures kept { LastDrawIsKept }

@@ -1,3 +1,3 @@
-pub mod Stretches
-pub mod Showing
-pub mod Ends
+mod Stretches
+mod Showing
+mod Ends

@@ -160,7 +160,7 @@ seen_is {s} {u} index {place} found same_blocks le at some_held pages rest call 
 
 -- it is a reading
 pub seen_reads : {a b : SeatState Pass} {index found : ℕ} → IsSeen a index found b → IsReading a b
-seen_reads {a} s = step_reads s.step refl refl refl refl (record {
+seen_reads {a} s = step_reads s.step refl refl refl refl refl (record {
   laid = λ old e. ap (λ (l : List ℕ). Some l) (s.again old e);
   rows = λ slot word h. read_behind (noted_at s.words (slots_to (nb_in s.words))) a.pass.rows slot word h;
   sequence = λ m e. e;

@@ -2,7 +2,7 @@ mod Halving
 mod Moments
 mod Gathering
 mod Neighbours
-mod Reading
+pub mod Reading
 mod Stepping
 mod OneRow
 mod ReplacingRows

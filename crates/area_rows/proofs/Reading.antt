@@ -18,6 +18,7 @@ use Rattle.area_guard.specs.History.{RowsStandFor, HoldsPages, IsAtRest, StillLa
 use Rattle.row_plans.specs.RowWords.{row_start, row_kind}
 use Rattle.area_rows.specs.declared.row.Row.{Row}
 use Rattle.area_rows.specs.Callers.{IsHeldPages, KeepsRead, IsReadIn, IsAsRead, IsReadBefore, IsReadBehind, RowIs, Shows, IsReading, IsClientStep}
+use Rattle.plan_words.specs.Writing.{IsCountedOn}
 pub use Rattle.plan_words.specs.Reading.{keeps_on, no_reading, reading_on}
 use Rattle.area_rows.proofs.Moments.{stands, nobody_plans, shows_held, here_of}
 use Rattle.area_rows.proofs.Neighbours.{next_same, none_next, word_says, before_row, behind_row}
@@ -129,10 +130,15 @@ shows_row seat {held} page same pages rest read here from until limit start hist
 pub step_taken : (a b : SeatState Pass) (place : ℕ) (p : Pass) → IsClientStep a place p b → b.trace.taken ≡ a.trace.taken + 1
 step_taken a b place p s = ap (λ (r : Record). r.taken) s.trace
 
+-- and is counted since the caller's last draw
+step_counted : {a b : SeatState Pass} {place : ℕ} {p : Pass} → IsClientStep a place p b → p.since ≡ a.pass.since + 1 → IsCountedOn a b
+step_counted {a} {b} {place} {p} s one =
+    let t = step_taken a b place p s in let e : b.pass.since ≡ p.since = ap (λ (q : Pass). q.since) s.pass in omega arith
+
 -- a step that keeps what was seen, numbered and read is a reading
 pub step_reads : {a b : SeatState Pass} {place : ℕ} {p : Pass} → IsClientStep a place p b → p.start ≡ a.pass.start → p.seen ≡ a.pass.seen
-    → p.mine ≡ a.pass.mine → p.looks ≡ a.pass.looks → KeepsRead a.pass p → IsReading a b
-step_reads {a} {b} {place} {p} s x y z l k = record {
+    → p.mine ≡ a.pass.mine → p.looks ≡ a.pass.looks → p.since ≡ a.pass.since + 1 → KeepsRead a.pass p → IsReading a b
+step_reads {a} {b} {place} {p} s x y z l n k = record {
   table = s.table;
   number = s.number;
   held = s.held;
@@ -143,6 +149,7 @@ step_reads {a} {b} {place} {p} s x y z l k = record {
   mine = ap (λ (q : Pass). q.mine) s.pass ∙ z;
   looks = ap (λ (q : Pass). q.looks) s.pass ∙ l;
   taken = let t = step_taken a b place p s in omega arith;
+  counted = step_counted s n;
   asked = ap (λ (r : Record). r.asked) s.trace;
   read = subst (KeepsRead a.pass) (sym s.pass) k;
 }
@@ -154,7 +161,7 @@ read_behind (r ∷ front) rows index word has = inr (read_behind front rows inde
 
 -- a load of a row is one
 pub row_reads : (a b : SeatState Pass) (index word : ℕ) → IsClientStep a (3 + index) (after_row index word a.pass) b → IsReading a b
-row_reads a b index word s = step_reads s refl refl refl refl
+row_reads a b index word s = step_reads s refl refl refl refl refl
     (record { laid = λ layout e. e; rows = λ i w h. inr h; sequence = λ n e. e; gap = λ n e. e; pending = refl; blocks = refl })
 
 -- what a range has shown lasts while the caller reads more rows

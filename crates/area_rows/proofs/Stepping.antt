@@ -32,7 +32,7 @@ use Rattle.area_guard.specs.declared.guard.Pending.TheVariants.{AtRest, Planned,
 use Rattle.area_guard.specs.History.MayLoad.{number, glance, sequence, layout, gap_word, row}
 use Rattle.area_guard.specs.Reads.{everything, slots_by, layout_by, IsHeldPage, HasRead, words_of, known_rows, known_words, KnowsRows, StillStands}
 use Rattle.area_guard.specs.Draws.{only_load, kept_load, none_else, draw_keeps as draw_on, draw_pending, draw_mine, draw_seen, draw_start, draw_drew}
-use Rattle.area_guard.specs.Draws.{draw_looks, draw_since, draw_blocks, draw_most, plan_fits}
+use Rattle.area_guard.specs.Draws.{draw_looks, draw_since, draw_took, draw_blocks, draw_most, plan_fits}
 use Rattle.space_model.specs.Areas.{kind_at}
 use Rattle.row_plans.specs.declared.planning.Cut.{Cut}
 use Rattle.row_plans.specs.RowWords.{row_start}
@@ -213,6 +213,7 @@ module _ (note : Note) (seat : ℕ) (held : Option Held) (pass : Pass) where
           drew = drew ∙ held_then;
           looks = ap (λ (x : Pass). x.looks) new ∙ draw_looks here.history f d.held.0 t.pass note.pending;
           since = ap (λ (x : Pass). x.since) new ∙ draw_since here.history f d.held.0 t.pass note.pending;
+          took = ap (λ (x : Pass). x.took) new ∙ draw_took here.history f d.held.0 t.pass note.pending;
           pools = call.pools;
           further = call.further;
           blocks = blocks_are;
@@ -325,11 +326,11 @@ sequence_is {s} {u} found pages call made =
     ⊎_elim (λ t.
     let is : u.pass ≡ after_step s.pass = t.1 ∙ ap after_step same in
     let free : s.held ≡ None = some-injective s.held None (sym m.grant ∙ t.0) in (
-      step_reads (step_of call is) refl refl refl refl (keeps_all s.pass),
+      step_reads (step_of call is) refl refl refl refl refl (keeps_all s.pass),
       λ some_held. let h = held_some s.held some_held in absurd (none_is h.0 (sym free ∙ h.1)),
     )) (λ is_then.
     let is : u.pass ≡ after_sequence found s.pass = is_then ∙ (λ i. after_sequence (made.4 i) (same i)) in (
-      step_reads (step_of call is) refl refl refl refl (remembers s.pass found again),
+      step_reads (step_of call is) refl refl refl refl refl (remembers s.pass found again),
       λ some_held. counts_whole u found (ap (λ (x : Pass). x.sequence) is) (subst IsSome (sym call.held) some_held) (subst IsHeldPages (sym call.held) pages),
     )) (sequence_tells (only_load (λ e. omega arith) made.5.1))
 

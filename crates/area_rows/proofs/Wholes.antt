@@ -29,6 +29,8 @@ use Rattle.area_guard.specs.Reads.{everything, known_rows, KnowsRows, StillStand
 use Rattle.area_guard.specs.History.{HasBlocks, StartsWith, Runs, RowsStandFor, IsAtRest, HoldsFor, rest_of}
 use Rattle.row_plans.specs.RowLists.{areas_from}
 use Rattle.row_plans.specs.declared.planning.Cut.{Cut}
+use Rattle.row_plans.specs.Loads.{TakesLoads}
+use Rattle.row_plans.specs.Loads.TakesLoads.{by_arguments as no_load, by_pages}
 use Rattle.row_plans.specs.Plans.{PlanShows, spliced, IsPlan, LeavesRows}
 use Rattle.row_plans.proofs.PlanLeft.{counted_rows}
 use Rattle.area_rows.specs.Callers.{CallerView, IsMoment, MayNumber, IsKnown, HasPlanned, IsReading, entry_in, IsNumbered, IsDrawn, IsWritten}
@@ -232,12 +234,27 @@ rows_counted c held rest known start history state words m =
     let are = rows_are (here_of m) (m.granted ∙ ap some held) (m.read.pending ∙ rest) (rows_now c held rest known.rows start history state words m) in
     counted_rows rows known.list ∙ ap row_count are.1
 
+-- and these rows show it
+rows_shown : (c : CallerView) → c.seat.held ≡ Some everything → IsAtRest c.seat.pass → IsKnown c
+    → (start : List Area) (history : List Entry) (state : List Area) (words : List ℕ) → IsMoment c.seat start history state words
+    → areas_from (known_rows c.seat.pass) ≡ state
+rows_shown c held rest known start history state words m =
+    (rows_are (here_of m) (m.granted ∙ ap some held) (m.read.pending ∙ rest) (rows_now c held rest known.rows start history state words m)).1
+
+-- as many loads between two other numbers of steps
+loads_from : (rows : List ℕ) (c : Call) (before after from until : ℕ) → until + before ≡ from + after → TakesLoads rows c before after
+    → TakesLoads rows c from until
+loads_from rows c before after from until same (no_load reply is none) = no_load reply is (omega arith)
+loads_from rows c before after from until same (by_pages judged undecided is looks) =
+    by_pages judged undecided is (λ at stops. let l = looks at stops in omega arith)
+
 -- its steps from the draw on are those of the writing
 pub ends_soon : {b n w : SeatState Pass} {p : CallerView} {e : Entry} {pending : Pending} → IsReading b p.seat → p.seat.held ≡ Some everything
     → IsAtRest p.seat.pass → IsKnown p → IsDrawn p.seat e pending n → IsWritten n w
+    → TakesLoads (known_rows p.seat.pass) e.call (b.trace.taken + 1) p.seat.trace.taken
     → w.trace.taken ≤ n.trace.taken + (2 * length p.more + 13 * blocks_by b.table + 1833)
     → ((why : Why) → e.reply ≡ Refused why → w.trace.taken ≡ n.trace.taken + 1) → EndsSoon b e w
-ends_soon {p} reading held rest known drawn written steps refused =
+ends_soon {b} {n} {w} {p} {e} reading held rest known drawn written loads steps refused =
     let num = drawn.numbered in
     let counted = written.counted in let none = drawn.since in
     record {
@@ -245,6 +262,11 @@ ends_soon {p} reading held rest known drawn written steps refused =
       state = num.state;
       runs = subst (λ (l : List Area). Runs 0 l num.history num.state) reading.start num.runs;
       in_order = num.in_order;
+      rows = known_rows p.seat.pass;
+      list = known.list;
+      shown = rows_shown p held rest known _ _ _ _ drawn.moment;
+      took = subst (λ (k : ℕ). TakesLoads (known_rows p.seat.pass) e.call (b.pass.since + 1) k) (sym (written.took ∙ drawn.took))
+          (loads_from _ e.call _ _ _ _ (let all = reading.counted in omega arith) loads);
       seen = written.seen ∙ num.seen;
       since =
           let rows = rows_counted p held rest known _ _ _ _ drawn.moment in
@@ -255,16 +277,40 @@ ends_soon {p} reading held rest known drawn written steps refused =
       back = let l = written.last in omega arith;
     }
 
--- and one or two more give the pages back
-pub ends_back : {a b w d : SeatState Pass} {e : Entry} → IsLockCall a b → EndsSoon b e w → EndsAtOnce w → IsRelease rest_of w d → EndsSoon a e d
-ends_back {a} {b} call soon last release =
-    let since = ap (λ (x : Pass). x.since) release.pass in
+-- what the lock does before leaves the end of a call as it is
+pub ends_from : {a b w : SeatState Pass} {e : Entry} → IsLockCall a b → EndsSoon b e w → EndsSoon a e w
+ends_from {a} {b} {w} {e} call soon =
     let blocks : blocks_by b.table ≡ blocks_by a.table = ap blocks_by call.table in
     record {
       history = soon.history;
       state = soon.state;
       runs = subst (λ (x : Pass). Runs 0 x.start soon.history soon.state) call.pass soon.runs;
       in_order = soon.in_order;
+      rows = soon.rows;
+      list = soon.list;
+      shown = soon.shown;
+      took = subst (λ (x : Pass). TakesLoads soon.rows e.call (x.since + 1) w.pass.took) call.pass soon.took;
+      seen = soon.seen;
+      since = let most = soon.since in omega arith;
+      refused = soon.refused;
+      step = soon.step;
+      client = soon.client;
+      back = soon.back;
+    }
+
+-- and one or two steps more give the pages back
+pub ends_back : {a w d : SeatState Pass} {e : Entry} → EndsSoon a e w → EndsAtOnce w → IsRelease rest_of w d → EndsSoon a e d
+ends_back {a} {w} {d} {e} soon last release =
+    let since = ap (λ (x : Pass). x.since) release.pass in
+    record {
+      history = soon.history;
+      state = soon.state;
+      runs = soon.runs;
+      in_order = soon.in_order;
+      rows = soon.rows;
+      list = soon.list;
+      shown = soon.shown;
+      took = subst (λ (x : Pass). TakesLoads soon.rows e.call (a.pass.since + 1) x.took) (sym release.pass) soon.took;
       seen = ap (λ (x : Pass). x.seen) release.pass ∙ soon.seen;
       since = let most = soon.since in omega arith;
       refused = λ why is. since ∙ soon.refused why is;

@@ -13,6 +13,9 @@ use Rattle.space_model.specs.Areas.{IsAreaList, row_count}
 use Rattle.space_model.specs.declared.entries.Entry.{Entry}
 use Rattle.space_model.specs.declared.entries.Under.{Under}
 use Rattle.space_model.specs.declared.entries.Under.TheVariants.{Nothing, Reader, Area, Whole}
+use Rattle.row_plans.specs.RowLists.{areas_from}
+use Rattle.row_plans.specs.Plans.{IsRowList}
+use Rattle.row_plans.specs.Loads.{TakesLoads}
 use Rattle.range_rw.specs.Contract.{SeatState, AsksFor}
 use Rattle.lock_core.specs.declared.range.Held.{Held}
 use Rattle.area_guard.specs.declared.guard.Pass.{Pass}
@@ -58,15 +61,20 @@ abbrev pub IsAnswered : CallerView → ℕ → Call → Answer → CallerView �
 IsAnswered before line call (Given e) after = (0 < before.left) × IsCalled before line call e after
 IsAnswered before line call Spent after = (before.left ≡ 0) × (after ≡ before)
 
--- how a call under everything ends. From the step that drew its number on it made at most two steps on client words for
--- each row of the state before its entry and for SPARE more, 13 for each block that the space has room for, and 1833
--- more; after a refusal the one that raises the sequence word. That was the last of them, and behind it came one step
--- of the lock or two, by which the pages were given back
+-- how a call under everything goes on from where it holds all pages. Up to its draw it made no more steps on client
+-- words than one plan of the call loads on the rows that show the state before its entry, and one; the pass counts them
+-- from the draw before on. From the draw on it made at most two for each row of that state and for SPARE more, 13 for
+-- each block that the space has room for, and 1833 more; after a refusal the one that raises the sequence word. That
+-- was the last of them, and behind it came at most two steps of the lock, by which the pages were given back
 pub record EndsSoon (before : SeatState Pass) (e : Entry) (after : SeatState Pass) : Type 0 where
   pub history : List Entry
   pub state : List Areas
   pub runs : Runs 0 before.pass.start history state
   pub in_order : IsAreaList state
+  pub rows : List ℕ
+  pub list : IsRowList rows
+  pub shown : areas_from rows ≡ state
+  pub took : TakesLoads rows e.call (before.pass.since + 1) after.pass.took
   pub seen : after.pass.seen ≡ history ++ entry_in history e ∷ []
   pub since : after.pass.since ≤ 2 * (row_count state + SPARE) + 13 * blocks_by before.table + 1833
   pub refused : (why : Why) → e.reply ≡ Refused why → after.pass.since ≡ 1

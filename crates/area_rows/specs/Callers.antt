@@ -281,6 +281,7 @@ new_pass start blocks keeps most = record {
   drew = None;
   looks = [];
   since = 0;
+  took = 0;
 }
 
 -- the callers of a new space with so many lists, in order of their numbers, each with as many numbers to draw as was
@@ -386,6 +387,7 @@ pub record IsDrawn (before : SeatState Pass) (e : Entry) (pending : Pending) (af
   pub drew : after.pass.drew ≡ before.held
   pub looks : after.pass.looks ≡ before.pass.looks
   pub since : after.pass.since ≡ 0
+  pub took : after.pass.took ≡ before.pass.since
   pub pools : after.pools ≡ before.pools
   pub further : after.further ≡ before.further
   pub blocks : after.pass.blocks ≡ before.pass.blocks

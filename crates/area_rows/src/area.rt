@@ -3,7 +3,7 @@
 //! changes, the whole area changes, its first pages go to the area before it, or its last pages to the area behind it.
 //! This is the speculative mprotect of Kogan, Dice and Issa, EuroSys 2020; a reader may rely on `IsAreaPlan`
 //! (`specs/AreaPlans.antt`).
-ghost use Rattle.std.specs.Prelude.{◌≡◌, ◌<◌, ◌≤◌, None, Some};
+ghost use Rattle.std.specs.Prelude.{◌≡◌, ◌<◌, ◌≤◌, ◌+◌, None, Some};
 ghost use Rattle.page_types.specs.declared.TheConstants.{LIMIT};
 ghost use Rattle.page_types.specs.declared.calls.Call.TheVariants.{Protect};
 ghost use Rattle.page_types.specs.Named.{IsNamedCall, IsNamedKind};
@@ -99,7 +99,8 @@ impl Space {
     /// number of rows as it is, its reply where either is so, and which row it changes, which goes into the caller's
     /// own room. The caller is of this space, has read the area's row under the range that it holds, which is the area
     /// and a page on each side as a writer, and has written what it has numbered. The plan is right until the caller
-    /// draws a number or gives the range back. It takes no memory.
+    /// draws a number or gives the range back. It takes no memory, and at most five steps, however many rows there are:
+    /// at most three find the rows beside the area's, and two read them.
     pub fn plan_area(
         &self,
         caller: &mut Caller,
@@ -126,6 +127,7 @@ impl Space {
         ensures plan { IsAreaPlan caller.new (Protect addr len prot) span (page_of addr) (end_page addr len) result }
         ensures reading { IsReading caller.old.seat caller.new.seat }
         ensures left { caller.new.left ≡ caller.old.left }
+        ensures loads { caller.new.seat.trace.taken ≤ caller.old.seat.trace.taken + 5 }
     {
         caller.holds_pages();
         let beside = self.beside(caller, row.index);

@@ -51,6 +51,7 @@ impl Space {
         ensures reading { IsReading caller.old.seat caller.new.seat }
         ensures left { caller.new.left ≡ caller.old.left }
         ensures rows { HasSameRows caller.old caller.new }
+        ensures loads { caller.new.seat.trace.taken ≤ caller.old.seat.trace.taken + 1 }
     {
         if place > 0 {
             return Some(slot_in(self.blocks, block, place - 1, told));
@@ -78,6 +79,7 @@ impl Space {
         ensures reading { IsReading caller.old.seat caller.new.seat }
         ensures left { caller.new.left ≡ caller.old.left }
         ensures rows { HasSameRows caller.old caller.new }
+        ensures loads { caller.new.seat.trace.taken ≤ caller.old.seat.trace.taken + 1 }
     {
         if place < (told % 128) as u32 {
             return Some(slot_in(self.blocks, block, place + 1, told));
@@ -104,6 +106,7 @@ impl Space {
         ensures reading { IsReading caller.old.seat caller.new.seat }
         ensures left { caller.new.left ≡ caller.old.left }
         ensures rows { HasSameRows caller.old caller.new }
+        ensures loads { caller.new.seat.trace.taken ≤ caller.old.seat.trace.taken + 3 }
     {
         let block = index / 128;
         let place = index % 128;
@@ -126,6 +129,7 @@ impl Space {
         ensures read { IsKindIn caller.new.seat.pass.rows slot result }
         ensures reading { IsReading caller.old.seat caller.new.seat }
         ensures left { caller.new.left ≡ caller.old.left }
+        ensures loads { caller.new.seat.trace.taken ≤ caller.old.seat.trace.taken + 1 }
     {
         let Some(place) = slot else {
             return None;

@@ -139,7 +139,8 @@ impl Space {
     /// The row of a page that the caller holds; the caller is of this space and has written what it has numbered. It is
     /// looked for by halving, in at most `SEARCH + 3` steps: one reads how many blocks are in use, at most 11 each read
     /// a head, one reads where the body of the block is, and at most 7 each read a row of it. In the first block, which
-    /// has at most 64 rows, these are at most 6, and its head is read where it is the row.
+    /// has at most 64 rows, these are at most 6, and its head is read where it is the row. All of them are counted
+    /// since the caller's last draw.
     /// `lo` and `hi` are as they were read. Where the caller holds a page past each of them, or up to 0 and `LIMIT`,
     /// as a writer, they are the row's own.
     pub fn row_of<L: Ledger>(&self, caller: &mut Caller, page: u64, steps: &mut Steps<L>) -> Row

@@ -97,6 +97,8 @@ impl Space {
         ensures called { IsCalled caller.old line call result caller.new }
         ensures asked { caller.new.seat.trace.asked ≡ caller.old.seat.trace.asked }
         ensures taken { caller.new.seat.trace.taken ≡ caller.old.seat.trace.taken + 1 }
+        ensures since { caller.new.seat.pass.since ≡ 0 }
+        ensures took { caller.new.seat.pass.took ≡ caller.old.seat.pass.since }
         ensures pools { caller.new.seat.pools ≡ caller.old.seat.pools }
         ensures further { caller.new.seat.further ≡ caller.old.seat.further }
     {
@@ -107,9 +109,10 @@ impl Space {
     /// Makes a call under everything, one that is no fault and that its arguments don't decide. It waits until the
     /// caller holds all pages, plans the call, draws its number, writes what it leaves, and gives the pages back. The
     /// caller is of this space, holds nothing and has a number left; `line` is the line of the input that names the
-    /// call, counted from 1. Behind the draw it makes at most two steps on client words for each row that there was and
-    /// for four more, 13 for each block that the space has room for, and 1833 more; one where the call is refused. Then
-    /// one step or two give the pages back.
+    /// call, counted from 1. Up to the draw it makes no more steps on client words than one plan of the call loads on
+    /// the rows that there are, and one. Behind the draw it makes at most two for each row that there was and for four
+    /// more, 13 for each block that the space has room for, and 1833 more; one where the call is refused. Then one step
+    /// or two give the pages back.
     pub fn call_whole<R: Wait>(&self, wait: &R, caller: &mut Caller, line: u32, call: Call) -> Entry
         requires table { caller.old.seat.table ≡ self.now.table }
         requires free { caller.old.seat.held ≡ None }
@@ -132,8 +135,8 @@ impl Space {
 
     /// The same by a caller that holds all pages as a writer, which it has got by `acquire` or `try_acquire`, and goes
     /// on holding; it has nothing to write before and afterwards. So what the call has changed can be made to stand
-    /// elsewhere, as in a page table, before another caller sees any page. It waits for nobody. Its steps from the draw
-    /// on are bounded as those of `call_whole`, and the last of them raises the sequence word.
+    /// elsewhere, as in a page table, before another caller sees any page. It waits for nobody. Its steps are bounded
+    /// as those of `call_whole`, and the last of them raises the sequence word.
     pub fn call_held(&self, caller: &mut Caller, line: u32, call: Call) -> Entry
         requires table { caller.old.seat.table ≡ self.now.table }
         requires held { caller.old.seat.held ≡ Some everything }
@@ -171,6 +174,8 @@ impl Space {
         ensures held { caller.new.seat.held ≡ Some everything }
         ensures asks { AsksFor everything caller.old.seat.trace.asked caller.new.seat.trace.asked }
         ensures looks { caller.new.seat.pass.looks ≡ caller.old.seat.pass.looks }
+        ensures soon { EndsSoon caller.old.seat result caller.new.seat }
+        ensures last { EndsAtOnce caller.new.seat }
     {
         let all = Span { lo: 0, hi: LIMIT };
         self.acquire(wait, caller, all, Mode::Writer);
@@ -180,7 +185,7 @@ impl Space {
     /// Makes a call that is no fault, such as a Map or a Remap; a Protect holds all pages then. The caller is of this
     /// space and holds nothing, and the call has named bits alone; `line` is the line of the input that names it,
     /// counted from 1. It waits until the caller holds all pages, and asks for no other range; a call that its
-    /// arguments decide holds nothing. From its draw on its steps are bounded as those of `call_whole`; a call that its
+    /// arguments decide holds nothing. From the hold on its steps are bounded as those of `call_whole`; a call that its
     /// arguments decide takes one. `Spent` comes exactly where the caller has no number left, and nothing has changed
     /// then.
     pub fn call<R: Wait>(&self, wait: &R, caller: &mut Caller, line: u32, call: Call) -> Answer

@@ -2,8 +2,9 @@
 -- entry is right at its place in the one history, and at the step that drew its number its caller held the range that
 -- the entry names: the page as a reader, or nothing where the arguments decide. Where the space keeps no history the
 -- page may be held as a writer. The caller's pass keeps that range.
-use Rattle.std.specs.Prelude.{Bool, false, ℕ, ◌≡◌, ◌↔◌, ◌<◌, ◌+◌, List, None, Some}
+use Rattle.std.specs.Prelude.{Bool, false, ℕ, ◌≡◌, ◌↔◌, ◌<◌, ◌≤◌, ◌+◌, List, None, Some}
 use Rattle.page_types.specs.declared.sets.Access.{Access}
+use Rattle.page_types.specs.declared.TheConstants.{SEARCH}
 use Rattle.page_types.specs.declared.calls.Call.TheVariants.{Fault}
 use Rattle.page_types.specs.declared.calls.Call.{Call}
 use Rattle.page_types.specs.declared.pages.Span.{Span}
@@ -13,7 +14,8 @@ use Rattle.space_model.specs.declared.entries.Entry.{Entry}
 use Rattle.lock_core.specs.declared.range.Held.{Held}
 use Rattle.lock_core.specs.declared.range.Mode.{Mode}
 use Rattle.lock_core.specs.declared.range.Mode.TheVariants.{Reader, Writer}
-use Rattle.range_rw.specs.Contract.{AsksAmong, IsLockCall, IsCause, IsLongRefusal, IsSpentIn}
+use Rattle.range_rw.specs.Contract.{SeatState, AsksAmong, IsLockCall, IsCause, IsLongRefusal, IsSpentIn}
+use Rattle.area_guard.specs.declared.guard.Pass.{Pass}
 use Rattle.area_rows.specs.declared.answer.Answer.{Answer}
 use Rattle.area_rows.specs.declared.answer.Answer.TheVariants.{Given, Spent as NoEntry}
 use Rattle.area_rows.specs.Callers.{CallerView}
@@ -83,6 +85,13 @@ AsksPageAs mode addr access before after = AsksAmong (λ h. (h ≡ page_held_as 
 abbrev pub AsksPageOf : Call → List Held → List Held → Type 0
 AsksPageOf (Fault addr access) before after = AsksPage addr access before after
 AsksPageOf call before after = ⊥
+
+-- how many steps on client words a fault makes up to its end, whatever there is beside it: at most SEARCH + 3 up to the
+-- draw of its number, to find the row of its page, and none behind it. The pass counts them from the draw before on. All
+-- of them are made under the page, since what the fault waits for is made of steps of the lock
+abbrev pub FindsSoon : SeatState Pass → Answer → SeatState Pass → Type 0
+FindsSoon before (Given e) after = (after.pass.took ≤ before.pass.since + (SEARCH + 3)) × (after.pass.since ≡ 0)
+FindsSoon before NoEntry after = after.pass.since ≡ before.pass.since
 
 -- the answer of a fault that waits for nobody, in a space of so many callers
 abbrev pub IsTried : ℕ → CallerView → ℕ → ℕ → Access → TriedFault → CallerView → Type 0

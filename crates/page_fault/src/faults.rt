@@ -15,7 +15,7 @@ ghost use Rattle.area_rows.specs.Rows.{keeps_by};
 ghost use Rattle.area_rows.specs.Callers.{held_span};
 ghost use Rattle.area_rows.specs.Called.{IsCalled, IsAnswered};
 ghost use Rattle.page_types.specs.declared.calls.Call.TheVariants.{Fault};
-ghost use Rattle.page_fault.specs.Faults.{AsksPage, AsksPageAs, AsksPageOf, IsAccess, IsAnswer, IsFaulted, IsHeldAnswer, IsTried};
+ghost use Rattle.page_fault.specs.Faults.{AsksPage, AsksPageAs, AsksPageOf, FindsSoon, IsAccess, IsAnswer, IsFaulted, IsHeldAnswer, IsTried};
 ghost use Rattle.page_fault.specs.Faults.{MayHold, page_alone, page_held, page_held_as};
 
 use area_rows::{Answer, Caller, Space};
@@ -82,6 +82,8 @@ fn number_plain<L: Ledger>(
     ensures asked { caller.new.seat.trace.asked ≡ caller.old.seat.trace.asked }
     ensures pools { caller.new.seat.pools ≡ caller.old.seat.pools }
     ensures further { caller.new.seat.further ≡ caller.old.seat.further }
+    ensures took { caller.new.seat.pass.took ≤ caller.old.seat.pass.since + (SEARCH + 3) }
+    ensures since { caller.new.seat.pass.since ≡ 0 }
     ensures bound { caller.new.seat.trace.taken ≤ caller.old.seat.trace.taken + 1 }
     ensures counted { steps.new + caller.old.seat.trace.taken ≡ steps.old + caller.new.seat.trace.taken }
 {
@@ -113,6 +115,8 @@ fn answer_held<L: Ledger>(
     ensures asked { caller.new.seat.trace.asked ≡ caller.old.seat.trace.asked }
     ensures pools { caller.new.seat.pools ≡ caller.old.seat.pools }
     ensures further { caller.new.seat.further ≡ caller.old.seat.further }
+    ensures took { caller.new.seat.pass.took ≤ caller.old.seat.pass.since + (SEARCH + 3) }
+    ensures since { caller.new.seat.pass.since ≡ 0 }
     ensures bound { caller.new.seat.trace.taken ≤ caller.old.seat.trace.taken + (SEARCH + 4) }
     ensures counted { steps.new + caller.old.seat.trace.taken ≡ steps.old + caller.new.seat.trace.taken }
 {
@@ -143,6 +147,8 @@ fn number_held<L: Ledger>(
     ensures asked { caller.new.seat.trace.asked ≡ caller.old.seat.trace.asked }
     ensures ready { caller.new.seat.pools.ready ≡ caller.old.seat.pools.ready }
     ensures further { (j : ℕ) → (pools_at caller.new.seat j).ready ≡ (pools_at caller.old.seat j).ready }
+    ensures took { caller.new.seat.pass.took ≤ caller.old.seat.pass.since + (SEARCH + 3) }
+    ensures since { caller.new.seat.pass.since ≡ 0 }
     ensures bound { caller.new.seat.trace.taken ≤ caller.old.seat.trace.taken + (SEARCH + 6) }
     ensures counted { steps.new + caller.old.seat.trace.taken ≡ steps.old + caller.new.seat.trace.taken }
 {
@@ -227,6 +233,8 @@ fn hold_counting<L: Ledger, R: Wait>(
     ensures called { IsFaulted caller.old line addr access result (record caller.new { seat = record caller.new.seat { held = None } }) }
     ensures held { caller.new.seat.held ≡ Some (page_held_as mode addr) }
     ensures asks { AsksPageAs mode addr access caller.old.seat.trace.asked caller.new.seat.trace.asked }
+    ensures took { caller.new.seat.pass.took ≤ caller.old.seat.pass.since + (SEARCH + 3) }
+    ensures since { caller.new.seat.pass.since ≡ 0 }
 {
     let mut steps = Steps::<L>::new(blank);
     let call = Call::Fault { addr, access };
@@ -251,6 +259,7 @@ fn hold_page<R: Wait>(
     requires mode { MayHold mode (keeps_by caller.old.seat.table) }
     ensures answer { IsHeldAnswer (page_held_as mode addr) caller.old line addr access result caller.new }
     ensures asks { AsksPageAs mode addr access caller.old.seat.trace.asked caller.new.seat.trace.asked }
+    ensures steps { FindsSoon caller.old.seat result caller.new.seat }
 {
     if caller.left() == 0 {
         return Answer::Spent;
@@ -277,6 +286,7 @@ pub fn hold_fault<R: Wait>(
     requires undecided { plain_reply (Fault addr access) ≡ None }
     ensures answer { IsHeldAnswer (page_held addr) caller.old line addr access result caller.new }
     ensures asks { AsksPage addr access caller.old.seat.trace.asked caller.new.seat.trace.asked }
+    ensures steps { FindsSoon caller.old.seat result caller.new.seat }
 {
     hold_page(space, wait, caller, line, addr, access, Mode::Reader)
 }
@@ -297,6 +307,7 @@ pub fn hold_fault_alone<R: Wait>(
     requires undecided { plain_reply (Fault addr access) ≡ None }
     ensures answer { IsHeldAnswer (page_alone addr) caller.old line addr access result caller.new }
     ensures asks { AsksPageAs Writer addr access caller.old.seat.trace.asked caller.new.seat.trace.asked }
+    ensures steps { FindsSoon caller.old.seat result caller.new.seat }
 {
     hold_page(space, wait, caller, line, addr, access, Mode::Writer)
 }
@@ -317,6 +328,8 @@ fn fault_counting<L: Ledger, R: Wait>(
     requires call { IsFault call }
     ensures called { IsCalled caller.old line call result caller.new }
     ensures asks { AsksPageOf call caller.old.seat.trace.asked caller.new.seat.trace.asked }
+    ensures took { caller.new.seat.pass.took ≤ caller.old.seat.pass.since + (SEARCH + 3) }
+    ensures since { caller.new.seat.pass.since ≡ 0 }
 {
     let mut steps = Steps::<L>::new(blank);
     if let Some(reply) = decided(&call) {
@@ -342,6 +355,7 @@ pub fn make_fault<R: Wait>(
     requires call { IsFault call }
     ensures answer { IsAnswered caller.old line call result caller.new }
     ensures asks { AsksPageOf call caller.old.seat.trace.asked caller.new.seat.trace.asked }
+    ensures steps { FindsSoon caller.old.seat result caller.new.seat }
 {
     if caller.left() == 0 {
         return Answer::Spent;
@@ -354,8 +368,9 @@ pub fn make_fault<R: Wait>(
 /// One access to the byte at `addr`, by the caller, which is of this space and holds nothing; `line` is the line of
 /// the input that names it, counted from 1.
 /// It waits until the caller holds the byte's page as a reader, and then draws the number; a fault at or above
-/// `LIMIT` holds nothing. On its way it asks for no other range. `Spent` comes exactly where the caller has no number
-/// left, and nothing has changed then.
+/// `LIMIT` holds nothing. On its way it asks for no other range, and makes at most `SEARCH + 4` steps on client words,
+/// the last of which draws the number. `Spent` comes exactly where the caller has no number left, and nothing has
+/// changed then.
 pub fn fault<R: Wait>(
     space: &Space,
     wait: &R,
@@ -368,6 +383,7 @@ pub fn fault<R: Wait>(
     requires free { caller.old.seat.held ≡ None }
     ensures answer { IsAnswer caller.old line addr access result caller.new }
     ensures asks { AsksPage addr access caller.old.seat.trace.asked caller.new.seat.trace.asked }
+    ensures steps { FindsSoon caller.old.seat result caller.new.seat }
 {
     make_fault(space, wait, caller, line, Call::Fault { addr, access })
 }

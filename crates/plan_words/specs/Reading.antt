@@ -14,10 +14,10 @@ use Rattle.area_guard.specs.Rows.{room_of}
 use Rattle.area_guard.specs.History.{IsAtRest}
 use Rattle.area_guard.specs.Reads.{known_count, known_rows, known_words, KnowsRows, KnowsWords}
 use Rattle.plan_words.specs.Places.{number_in, number_at}
-use Rattle.plan_words.specs.Writing.{HoldsWords, KeepsRead}
+use Rattle.plan_words.specs.Writing.{HoldsWords, IsCountedOn, KeepsRead}
 
 -- steps that read words: the seat holds what it held, has seen and numbered what it had, and keeps what it had read and
--- its pools
+-- its pools; each of them is counted since its last draw
 pub record IsReading (before after : SeatState Pass) : Type 0 where
   pub table : after.table ≡ before.table
   pub number : after.number ≡ before.number
@@ -29,6 +29,7 @@ pub record IsReading (before after : SeatState Pass) : Type 0 where
   pub mine : after.pass.mine ≡ before.pass.mine
   pub looks : after.pass.looks ≡ before.pass.looks
   pub taken : before.trace.taken ≤ after.trace.taken
+  pub counted : IsCountedOn before after
   pub asked : after.trace.asked ≡ before.trace.asked
   pub read : KeepsRead before.pass after.pass
 

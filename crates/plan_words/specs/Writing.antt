@@ -69,6 +69,7 @@ pub record IsWriting (before after : SeatState Pass) : Type 0 where
   pub mine : after.pass.mine ≡ before.pass.mine
   pub drew : after.pass.drew ≡ before.pass.drew
   pub looks : after.pass.looks ≡ before.pass.looks
+  pub took : after.pass.took ≡ before.pass.took
   pub pending : after.pass.pending ≡ before.pass.pending
   pub taken : before.trace.taken ≤ after.trace.taken
   pub counted : IsCountedOn before after
@@ -93,6 +94,7 @@ pub record IsWritten (before after : SeatState Pass) : Type 0 where
   pub mine : after.pass.mine ≡ before.pass.mine
   pub drew : after.pass.drew ≡ before.pass.drew
   pub looks : after.pass.looks ≡ before.pass.looks
+  pub took : after.pass.took ≡ before.pass.took
   pub table : after.table ≡ before.table
   pub number : after.number ≡ before.number
   pub held : after.held ≡ before.held

@@ -1,5 +1,5 @@
 pub mod AreaKinds
-mod Joining
+pub mod Joining
 pub mod Changing
 mod Searching
 pub mod Counting

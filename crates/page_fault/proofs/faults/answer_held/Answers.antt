@@ -53,3 +53,11 @@ returns-clause-pools g c = c.number.ensures.drawn.pools ∙ c.row_of-row.ensures
 -- of any list
 pub returns-clause-further : goal.returns-clause-further
 returns-clause-further g c = c.number.ensures.drawn.further ∙ c.row_of-row.ensures.reading.further
+
+-- all steps that read are counted, and the draw keeps their count
+pub returns-clause-took : goal.returns-clause-took
+returns-clause-took g c =
+    let r = c.row_of-row.ensures in let all = r.reading.counted in let few = r.bound in let took = c.number.ensures.drawn.took in omega arith
+
+pub returns-clause-since : goal.returns-clause-since
+returns-clause-since g c = c.number.ensures.drawn.since

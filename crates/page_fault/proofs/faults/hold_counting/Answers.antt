@@ -1,9 +1,10 @@
-use Rattle.std.proofs.Common.{ap, sym, subst, ◌∙◌}
+use Rattle.std.proofs.Common.{◌≡◌, arith, ap, sym, subst, ◌∙◌}
 use Rattle.std.specs.Prelude.{Some, None}
 use Rattle.area_rows.specs.Seated.{TableId}
 use Rattle.range_rw.proofs.Asking.{for_only}
 use Rattle.page_types.specs.declared.calls.Call.TheVariants.{Fault}
 use Rattle.area_rows.specs.Rows.{keeps_by}
+use Rattle.area_guard.specs.declared.guard.Pass.{Pass}
 use Rattle.area_rows.proofs.Wholes.{called_from}
 use Rattle.page_fault.specs.Faults.{MayHold}
 use Rattle.page_fault.proofs.Numbering.{asks_page_as, holds_for, span_page}
@@ -33,3 +34,9 @@ returns-clause-held g c =
 pub returns-clause-asks : goal.returns-clause-asks
 returns-clause-asks g c = asks_page_as c.args.mode c.args.addr c.args.access c.access_of-access.result.0 c.access_of-access.result.1
     c.args.caller.now.seat.trace.asked c.access_of-access.ensures c.requires.undecided (for_only c.acquire.ensures.asks) c.answer_held.ensures.asked
+
+-- waiting for the page is made of steps of the lock
+pub returns-clause-took : goal.returns-clause-took
+returns-clause-took g c =
+    let same : c.acquire.new.caller.seat.pass.since ≡ c.args.caller.now.seat.pass.since = ap (λ (p : Pass). p.since) c.acquire.ensures.call.pass in
+    let took = c.answer_held.ensures.took in omega arith

@@ -9,6 +9,7 @@ use Rattle.plan_words.specs.Reading.{reading_on}
 use Rattle.area_rows.specs.Callers.{AreInReach, IsReading}
 use Rattle.area_rows.specs.Layouts.{IsLayout}
 use Rattle.area_rows.proofs.LayoutLoads.{seen_reads, own_blocks}
+use Rattle.area_rows.proofs.Reading.{step_taken}
 use Rattle.area_rows.proofs.BlockSlots.{place_slot}
 use Rattle.area_rows.proofs.space.Space.beside.Goals.{After-load_told-told, After-slot_in}
 use Rattle.area_rows.proofs.space.Space.beside.Goals as goal
@@ -140,3 +141,9 @@ returns-clause-behind c =
 pub returns-clause-reading : goal.returns-clause-reading
 returns-clause-reading c = reading_on _ _ _ (seen_reads c.load_told-told.ensures.seen)
     (reading_on _ _ _ c.slot_before-before.ensures.reading c.slot_behind-behind.ensures.reading)
+
+-- and at most three steps
+pub returns-clause-loads : goal.returns-clause-loads
+returns-clause-loads c =
+    let t = step_taken _ _ _ _ c.load_told-told.ensures.seen.step in let b = c.slot_before-before.ensures.loads in
+    let d = c.slot_behind-behind.ensures.loads in omega arith

@@ -2,7 +2,10 @@ use Rattle.std.proofs.Common.{◌∙◌, ◌+◌, length, ap, refl, sym, subst, 
 use Rattle.std.specs.Prelude.{None}
 use Rattle.space_model.specs.declared.entries.Under.{Under}
 use Rattle.row_blocks.specs.declared.positions.Position.{Position}
+use Rattle.page_types.specs.declared.calls.Call.{Call}
+use Rattle.row_plans.specs.Loads.{TakesLoads}
 use Rattle.row_plans.specs.declared.planning.Cut.{Cut}
+use Rattle.area_guard.specs.Reads.{known_rows}
 use Rattle.area_guard.specs.Rows.{blocks_by}
 use Rattle.area_rows.specs.Called.{IsLastStep}
 use Rattle.area_rows.proofs.Wholes.{planned_right, numbered_held, last_held, ends_soon}
@@ -53,7 +56,9 @@ returns-clause-soon c =
     let p = c.plan-reply.ensures in let n = c.draw-entry.ensures in let w = c.write_plan.ensures in let more = ap length n.rows.more in
     let gone = ap (λ (x : Cut Position). x.gone) n.rows.cut in
     let table = ap blocks_by c.requires.table in let steps = w.steps in
-    ends_soon p.reading (p.reading.held ∙ c.requires.held) (p.reading.read.pending ∙ c.requires.rest) p.planned.known n.drawn w.written (omega arith)
+    ends_soon p.reading (p.reading.held ∙ c.requires.held) (p.reading.read.pending ∙ c.requires.rest) p.planned.known n.drawn w.written
+    (subst (λ (call : Call). TakesLoads (known_rows c.plan-reply.new.caller.seat.pass) call (c.args.caller.now.seat.trace.taken + 1)
+    c.plan-reply.new.caller.seat.trace.taken) (sym n.call) p.loads) (omega arith)
     (λ why is. let none = p.leaves why (sym n.reply ∙ is) in let none_comes = ap length none.1 in w.none (omega arith) (omega arith))
 
 -- the last of them raised the sequence word

@@ -1,7 +1,7 @@
 use Rattle.std.proofs.Common.{◌∙◌, ap}
 use Rattle.std.specs.Prelude.{None}
 use Rattle.area_guard.specs.declared.guard.Pass.{Pass}
-use Rattle.area_rows.proofs.Wholes.{called_from, called_back, ends_back}
+use Rattle.area_rows.proofs.Wholes.{called_from, called_back, ends_from, ends_back}
 use Rattle.range_rw.proofs.Asking.{for_kept}
 use Rattle.area_rows.proofs.space.Space.call_whole.Goals as goal
 
@@ -26,4 +26,4 @@ returns-clause-asks g c = for_kept c.acquire.ensures.asks (c.release_uncounted.e
 -- from its draw on it took as many steps as the call under what is held, and giving back
 pub returns-clause-soon : goal.returns-clause-soon
 returns-clause-soon g c =
-    ends_back c.acquire.ensures.call c.call_held-entry.ensures.soon c.call_held-entry.ensures.last c.release_uncounted.ensures.release
+    ends_back (ends_from c.acquire.ensures.call c.call_held-entry.ensures.soon) c.call_held-entry.ensures.last c.release_uncounted.ensures.release

@@ -1,4 +1,4 @@
-use Rattle.std.proofs.Common.{◌≡◌, ℕ, List, ◌∙◌, ap, sym, refl, subst, arith}
+use Rattle.std.proofs.Common.{◌≡◌, ◌≤◌, ◌+◌, ℕ, List, ◌∙◌, ap, sym, refl, subst, arith}
 use Rattle.std.specs.Prelude.{Option, Some, unwrap_or}
 use Rattle.atomic_table.specs.Seated.{TableId}
 use Rattle.page_types.specs.Pages.{page_of}
@@ -77,3 +77,9 @@ returns-clause-reading c =
     let one = c.kind_in-before.new.caller.seat in
     reading_on _ _ _ c.beside-beside.ensures.reading (reading_on _ one _ c.kind_in-before.ensures.reading
     (subst (λ (v : CallerView). IsReading one v.seat) (sym c.caller.view_is) c.kind_in-behind.ensures.reading))
+
+-- and at most five steps
+pub returns-clause-loads : goal.returns-clause-loads
+returns-clause-loads c =
+    let n = c.beside-beside.ensures.loads in let b = c.kind_in-before.ensures.loads in let d = c.kind_in-behind.ensures.loads in
+    subst (λ (v : CallerView). v.seat.trace.taken ≤ c.args.caller.now.seat.trace.taken + 5) (sym c.caller.view_is) (omega arith)

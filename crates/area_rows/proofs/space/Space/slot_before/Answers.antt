@@ -6,6 +6,7 @@ use Rattle.area_guard.specs.Reads.{layout_by}
 use Rattle.area_guard.specs.declared.guard.Pass.{Pass}
 use Rattle.area_rows.specs.Layouts.{IsSeen}
 use Rattle.area_rows.proofs.LayoutLoads.{seen_reads, own_blocks}
+use Rattle.area_rows.proofs.Reading.{step_taken}
 use Rattle.area_rows.proofs.BlockSlots.{rows_by, place_slot, place_before, block_before, none_before}
 use Rattle.area_rows.proofs.space.Space.slot_before.Goals as goal
 
@@ -66,3 +67,7 @@ returns-clause-before c =
 -- the load is a reading
 pub returns-clause-reading : goal.returns-clause-reading
 returns-clause-reading c = seen_reads c.load_told-last.ensures.seen
+
+-- and one step
+pub returns-clause-loads : goal.returns-clause-loads
+returns-clause-loads c = let t = step_taken _ _ _ _ c.load_told-last.ensures.seen.step in omega arith

@@ -2,6 +2,7 @@ use Rattle.std.proofs.Common.{ℕ, ◌≡◌, ◌+◌, ◌/◌, ◌%◌, List, s
 use Rattle.std.specs.Prelude.{slice_index}
 use Rattle.area_guard.specs.Reads.{layout_by}
 use Rattle.area_rows.proofs.LayoutLoads.{seen_reads, own_blocks}
+use Rattle.area_rows.proofs.Reading.{step_taken}
 use Rattle.area_rows.proofs.BlockSlots.{place_slot, place_behind, block_behind, none_behind}
 use Rattle.area_rows.proofs.space.Space.slot_behind.Goals as goal
 
@@ -48,3 +49,10 @@ returns-clause-behind c =
 -- the load is a reading
 pub returns-clause-reading : goal.returns-clause-reading
 returns-clause-reading c = seen_reads c.load_used.ensures.seen
+
+-- and one step
+pub returns-clause-loads : goal.returns-clause-loads
+returns-clause-loads c = let t = step_taken _ _ _ _ c.load_used.ensures.seen.step in omega arith
+
+pub returns-then-block-load_used-clause-loads : goal.returns-then-block-load_used-clause-loads
+returns-then-block-load_used-clause-loads c = let t = step_taken _ _ _ _ c.load_used.ensures.seen.step in omega arith
