@@ -1,0 +1,4 @@
+mod Tickets
+mod Weights
+pub mod Waiting
+mod Conflicting
