@@ -1,0 +1,5 @@
+mod AsBox
+mod Crossing
+mod Making
+mod News
+mod Refusals
