@@ -49,9 +49,9 @@
      call takes one of these pages, unless both are faults that aren't alone. This isn't proved of your memory: it rests
      on each step of the library being sequentially consistent, and on a compiler that moves no access across a call.
    - No call sleeps, and none takes a lock but in malloc and free. The calls that are written in this header wait
-     without a bound, by trying again; gz_space_try and gz_space_try_fault pause at most some ten thousand turns, and
-     for nobody. That a call which waits ever returns isn't claimed. Only open, share and close call the allocator, and
-     only the first two can fail for want of memory.
+     without a bound, by trying again; gz_space_try and gz_space_try_fault pause a bounded number of turns. That a call
+     which waits ever returns isn't claimed. Only open, share and close call the allocator, and only the first two can
+     fail for want of memory.
    - A space takes some 2.1 MB, written at its opening, and each caller 1 MB that is reserved and mostly not touched. It
      is that much at once since no call may fail later for want of memory: a call is refused with ENOMEM exactly where
      it would leave more than 131,061 rows, so there is room for all of them, and for each caller's plan of a change.
@@ -266,10 +266,10 @@ gz_space_answer gz_space_share(gz_space *from, gz_space *handle);
 
 /* One try of a call. Where its arguments decide it, it is DONE without a look at a page; otherwise it asks for all
    pages as a writer, makes the call under them, and gives them back, or with `keep` goes on holding them.
-   *round is 0 before the first try of a call, and counts those that were refused; each try writes what the next one is
-   to be given, which after DONE is 0 again. A try after 16 refused ones pauses some ten thousand turns with its place
-   in the lock's list, behind which others stay: else a call on all pages might never find a moment at which nobody
-   faults. A program that tries once, and has something else to do after LATER, may as well begin anew with 0.
+   *round is 0 before the first try of a call, and counts those that were answered LATER; each try writes what the next
+   one is to be given, which after DONE is 0 again. In a space of several regions the try after 16 of them may pause,
+   48,128 turns in all, with its place in the lock's list, behind which others stay: else a call on all pages might find
+   no moment at which nobody faults. A program that has something else to do after LATER may as well begin anew with 0.
    DONE, with the space's answer in *reply, where after `keep` all pages are held, whatever the reply is, unless the
    arguments decided it: by a length of 0, an address that isn't a page's, wrong flags or an end that is too high, as
    docs/PROFILE.md lists them. Or the first of IS_CLOSED, BAD_CALL, HOLDS, SPENT that applies, with the handle as it
@@ -283,7 +283,7 @@ gz_space_answer gz_space_try(gz_space *handle, const gz_space_call *call, uint32
 /* One try of a page fault: one access, READ, WRITE or EXEC, to the byte at addr. It holds the page, looks, and gives it
    back, or with `keep` goes on holding it. It holds it as a reader, or with `alone` as a writer: then no other fault of
    the page comes between, as where the page is filled. An address at or above page GZ_SPACE_LIMIT is MAPERR, with
-   nothing held. Where a writer has the page, the try looks again up to four times, with pauses between.
+   nothing held. A reader that meets a writer looks again up to four times, with 15,360 turns of pauses in all.
    The answers are those of gz_space_try; a fault has no rounds.
    The thread that has the handle. */
 GZ_SPACE_MUST_CHECK
