@@ -168,9 +168,9 @@ class caller {
         return make_held({ GZ_SPACE_BRK, 0, 0, 0, end, 0, 0, base });
     }
     held_reply fault_held(uint64_t addr, uint32_t access, bool alone = false) noexcept {
-        return held(fault_by(addr, access, alone, true));
+        return guarded(fault_by(addr, access, alone, true));
     }
-    held_reply make_held(const gz_space_call &call) noexcept { return held(make_by(call, true)); }
+    held_reply make_held(const gz_space_call &call) noexcept { return guarded(make_by(call, true)); }
 
     /* What the caller holds, with its number, in `held`: gz_space_held. */
     gz_space_answer held(gz_space_range &held) const noexcept {
@@ -216,7 +216,7 @@ class caller {
         if (place_) came.answer = gz_space_fault_by(&place_->handle, addr, access, alone, keep, &came.said);
         return came;
     }
-    held_reply held(const reply &came) noexcept {
+    held_reply guarded(const reply &came) noexcept {
         held_reply kept(came);
         gz_space_range range;
         if (came.answer == GZ_SPACE_DONE && held(range) == GZ_SPACE_DONE) kept.guard(place_);
