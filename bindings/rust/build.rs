@@ -1,8 +1,9 @@
 //! Finds the installed library: its header, its archive, and a C compiler for the header's own functions.
 //!
-//! The folder that the library was installed below is taken from GZ_RANGE_PREFIX. Where that isn't set, the file
-//! gz_range.pc is looked for in the folders of PKG_CONFIG_PATH and in the usual ones, and read by hand: of it the lines
-//! prefix=, includedir= and libdir= matter. So neither pkg-config nor another crate is needed.
+//! It serves both crates, gz-range and gz-space, each for the library of its own name. The folder that gz_range was
+//! installed below is taken from GZ_RANGE_PREFIX. Where that isn't set, the file gz_range.pc is looked for in the folders
+//! of PKG_CONFIG_PATH and in the usual ones, and read by hand: of it the lines prefix=, includedir= and libdir= matter.
+//! So neither pkg-config nor another crate is needed.
 
 use std::collections::HashMap;
 use std::env;
@@ -17,31 +18,33 @@ struct Installed {
 }
 
 fn main() {
-    for name in ["GZ_RANGE_PREFIX", "PKG_CONFIG_PATH", "CC", "AR"] {
+    let library = env::var("CARGO_PKG_NAME").expect("cargo names the crate").replace('-', "_");
+    let prefix = format!("{}_PREFIX", library.to_uppercase());
+    for name in [&prefix, "PKG_CONFIG_PATH", "CC", "AR"] {
         println!("cargo:rerun-if-env-changed={name}");
     }
     println!("cargo:rerun-if-changed=src/header.c");
-    let installed = find().unwrap_or_else(|| {
-        panic!("gz_range isn't installed: set GZ_RANGE_PREFIX to the folder that crates/range_c/install was given")
-    });
-    for needed in [installed.include.join("gz_range.h"), installed.lib.join("libgz_range.a")] {
+    let installed = find(&library, &prefix)
+        .unwrap_or_else(|| panic!("{library} isn't installed: set {prefix} to the folder that its install was given"));
+    for needed in [installed.include.join(format!("{library}.h")), installed.lib.join(format!("lib{library}.a"))] {
         assert!(needed.is_file(), "{} isn't there", needed.display());
         println!("cargo:rerun-if-changed={}", needed.display());
     }
-    compile_header(&installed.include);
+    compile_header(&library, &installed.include);
     // Named by file, so that no shared object of the same name is taken.
     println!("cargo:rustc-link-search=native={}", installed.lib.display());
-    println!("cargo:rustc-link-lib=static=gz_range");
+    println!("cargo:rustc-link-lib=static={library}");
 }
 
-fn find() -> Option<Installed> {
-    if let Some(prefix) = env::var_os("GZ_RANGE_PREFIX") {
+fn find(library: &str, prefix: &str) -> Option<Installed> {
+    if let Some(prefix) = env::var_os(prefix) {
         let prefix = PathBuf::from(prefix);
         return Some(Installed { include: prefix.join("include"), lib: prefix.join("lib") });
     }
     let named = env::var_os("PKG_CONFIG_PATH").unwrap_or_default();
     let usual = ["/usr/local/lib/pkgconfig", "/usr/lib/pkgconfig", "/usr/lib/x86_64-linux-gnu/pkgconfig"];
-    env::split_paths(&named).chain(usual.iter().map(PathBuf::from)).find_map(|folder| read(&folder.join("gz_range.pc")))
+    let file = format!("{library}.pc");
+    env::split_paths(&named).chain(usual.iter().map(PathBuf::from)).find_map(|folder| read(&folder.join(&file)))
 }
 
 /// Reads the places from a file for pkg-config: lines NAME=VALUE, in which ${NAME} stands for an earlier value.
@@ -61,9 +64,9 @@ fn read(file: &Path) -> Option<Installed> {
 }
 
 /// Compiles the functions that are C in the header itself, into an archive of their own.
-fn compile_header(include: &Path) {
+fn compile_header(library: &str, include: &Path) {
     let out = PathBuf::from(env::var_os("OUT_DIR").expect("cargo names a folder"));
-    let (object, archive) = (out.join("header.o"), out.join("libgz_range_header.a"));
+    let (object, archive) = (out.join("header.o"), out.join(format!("lib{library}_header.a")));
     let tool = |name: &str, usual: &str| env::var_os(name).unwrap_or_else(|| usual.into());
     run(Command::new(tool("CC", "cc"))
         .args(["-O2", "-fPIC", "-Wall", "-Wextra", "-Werror", "-c", "src/header.c", "-I"])
@@ -73,7 +76,7 @@ fn compile_header(include: &Path) {
     let _ = fs::remove_file(&archive);
     run(Command::new(tool("AR", "ar")).arg("rcs").arg(&archive).arg(&object));
     println!("cargo:rustc-link-search=native={}", out.display());
-    println!("cargo:rustc-link-lib=static=gz_range_header");
+    println!("cargo:rustc-link-lib=static={library}_header");
 }
 
 fn run(command: &mut Command) {
