@@ -97,7 +97,8 @@ pub struct Record {
     /// The steps that found a list not empty, the latest first. A look that the seat makes while it holds its range in
     /// that list too is none of them, whatever it finds.
     pub occupied: LinkedList<Occupied>,
-    /// The walks that the seat left, the latest first: what a cursor had looked at when the seat left its epoch with it.
+    /// The walks that the seat left, the latest first: what a cursor had looked at when the seat left its epoch with
+    /// it.
     pub walks: LinkedList<Looked>,
     /// The number of the last Walk, which `met` carries on.
     pub walked: u64,

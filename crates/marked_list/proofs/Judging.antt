@@ -128,7 +128,8 @@ module _ {P : Type 0} (p : SeatPart P) {n : ℕ} (k : KnowsNext p.core n) (even 
 
     -- the load leaves the cursor at its node, and all else as it was
     pub lo_loaded : IsLoad p q
-    lo_loaded = let later = on_made lo_made refl refl refl (may_walk_free p.core.own k.stands.own) refl (same_pools p.core (Some lo_cursor)) k.stands.inside.hand in
+    lo_loaded = let later = on_made lo_made refl refl refl (may_walk_free p.core.own k.stands.own) refl
+        (same_pools p.core (Some lo_cursor)) k.stands.inside.hand in
         let walk = same_walk lo_made (ap is_some k.stands.is) in let judged = same_judged lo_made refl (ap is_some k.stands.is) in
         let seen = ap (λ (v : View). seen_of v.cursor) core_lo ∙ sym (ap seen_of k.stands.is) in
         assumption (lo_made, ap (λ (v : View). v.own) core_lo)

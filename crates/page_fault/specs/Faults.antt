@@ -87,8 +87,8 @@ AsksPageOf (Fault addr access) before after = AsksPage addr access before after
 AsksPageOf call before after = ⊥
 
 -- how many steps on client words a fault makes up to its end, whatever there is beside it: at most SEARCH + 3 up to the
--- draw of its number, to find the row of its page, and none behind it. The pass counts them from the draw before on. All
--- of them are made under the page, since what the fault waits for is made of steps of the lock
+-- draw of its number, to find the row of its page, and none behind it. The pass counts them from the draw before on.
+-- All of them are made under the page, since what the fault waits for is made of steps of the lock
 abbrev pub FindsSoon : SeatState Pass → Answer → SeatState Pass → Type 0
 FindsSoon before (Given e) after = (after.pass.took ≤ before.pass.since + (SEARCH + 3)) × (after.pass.since ≡ 0)
 FindsSoon before NoEntry after = after.pass.since ≡ before.pass.since

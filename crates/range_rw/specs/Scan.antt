@@ -1,8 +1,8 @@
 -- A scan of the lists through a seat that holds nothing: what its calls leave of the seat, and why each answer comes.
 -- It begins in list 0, and goes on in the next list where the end of one was read, at a step of the call or before it,
 -- by the walk that stands there. A reader may rely on no list being left out: each was walked to its end, with a walk
--- of its own, and the record keeps these walks. The walk is that of Kogan, Dice and Issa 2020; a scan that stops after each node is this project's own
--- profile.
+-- of its own, and the record keeps these walks. The walk is that of Kogan, Dice and Issa 2020; a scan that stops after
+-- each node is this project's own profile.
 use Rattle.std.specs.Prelude.{◌≡◌, ◌≢◌, ◌⊎◌, ℕ, zero, suc, ◌+◌, ◌%◌, ◌<◌, ◌≤◌, ◌++◌, true, false, List, [], ◌∷◌, Option, Some, None, length, map}
 use Rattle.lock_core.specs.declared.range.Held.{Held}
 use Rattle.lock_core.specs.declared.views.Own.TheVariants.{Nothing}

@@ -15,7 +15,7 @@ pub returns-clause-refused : goal.returns-clause-refused
 returns-clause-refused c =
     let here = subst (λ (t : TableShape). IfErr c.make_call.result
     (λ _. IsRefusedRound t.cut everything c.args.call c.args.refused c.self.inside.caller c.make_call.new.caller))
-        c.deref.ensures c.make_call.ensures.refused in
+    c.deref.ensures c.make_call.ensures.refused in
     subst (λ (b : Behind). IfErr c.make_call.result (λ _. IsRefusedRound b.cut everything c.args.call c.args.refused b.caller c.make_call.new.caller))
     c.self.view_is here
 
