@@ -52,9 +52,10 @@
      without a bound, by trying again; gz_space_try and gz_space_try_fault pause a bounded number of turns. That a call
      which waits ever returns isn't claimed. Only open, share and close call the allocator, and only the first two can
      fail for want of memory.
-   - A space takes some 2.1 MB, written at its opening, and each caller 1 MB that is reserved and mostly not touched. It
-     is that much at once since no call may fail later for want of memory: a call is refused with ENOMEM exactly where
-     it would leave more than 131,061 rows, so there is room for all of them, and for each caller's plan of a change.
+   - A space takes some 2.1 MB, written at its opening, and each caller 1 MB that is reserved and mostly not touched;
+     for a moment the opening takes some 8.4 MB. It is that much at once since no call may fail later for want of
+     memory: a call is refused with ENOMEM exactly where it would leave more than 131,061 rows, so there is room for all
+     of them, and for each caller's plan of a change. A further handle takes some 300 bytes.
 
    What you owe. Nothing checks it:
    - A handle begins as GZ_SPACE_CLOSED, and afterwards only these calls write or copy it.

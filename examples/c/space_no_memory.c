@@ -93,9 +93,8 @@ static void try_with(unsigned callers, unsigned regions) {
 }
 
 int main(void) {
-    for (unsigned callers = 2; callers <= 16; callers += 7) {
-        try_with(callers, 1);
-        try_with(callers, 16);
-    }
+    try_with(2, 1);
+    try_with(2, 16);
+    try_with(5, 4);
     return 0;
 }
