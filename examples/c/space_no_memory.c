@@ -94,7 +94,6 @@ static void try_with(unsigned callers, unsigned regions) {
 
 int main(void) {
     try_with(2, 1);
-    try_with(2, 16);
-    try_with(5, 4);
+    try_with(3, 4);
     return 0;
 }
