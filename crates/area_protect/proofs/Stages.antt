@@ -173,6 +173,37 @@ first_round a b c d e {found} lo hi lock held reading look release = (
   reading.held ∙ held,
 )
 
+-- holding and reading are a look at which nothing more was seen
+pub looked_held : (a b c : CallerView) → IsLockCall a.seat b.seat → b.left ≡ a.left → IsAtRest b.seat.pass → IsReading b.seat c.seat
+    → c.left ≡ b.left → HasLooked a c
+looked_held a b c lock same_b rest reading same_c =
+    let seen : c.seat.pass.seen ≡ a.seat.pass.seen = reading.seen ∙ ap (λ (p : Pass). p.seen) lock.pass in
+    record {
+      table = reading.table ∙ lock.table;
+      number = reading.number ∙ lock.number;
+      start = reading.start ∙ ap (λ (p : Pass). p.start) lock.pass;
+      mine = reading.mine ∙ ap (λ (p : Pass). p.mine) lock.pass;
+      more = ([], seen ∙ sym (append-nil a.seat.pass.seen));
+      looks = ([], reading.looks ∙ ap (λ (p : Pass). p.looks) lock.pass);
+      rest = reading.read.pending ∙ rest;
+      taken = let l = lock.taken in let r = reading.taken in omega arith;
+      left = same_c ∙ same_b;
+    }
+
+-- it is one still when the range was given back
+pub looked_back : (a c e : CallerView) → HasLooked a c → IsRelease rest_of c.seat e.seat → e.left ≡ c.left → HasLooked a e
+looked_back a c e looked release same = record {
+  table = release.table ∙ looked.table;
+  number = release.number ∙ looked.number;
+  start = start_back release ∙ looked.start;
+  mine = ap (λ (p : Pass). p.mine) release.pass ∙ looked.mine;
+  more = subst (λ (l : List Entry). StartsWith l a.seat.pass.seen) (sym (seen_back release)) looked.more;
+  looks = (looked.looks.0, ap (λ (p : Pass). p.looks) release.pass ∙ looked.looks.1);
+  rest = ap (λ (p : Pass). p.pending) release.pass ∙ looked.rest;
+  taken = let l = looked.taken in let m = release.least in omega arith;
+  left = same ∙ looked.left;
+}
+
 -- holding, reading, looking and giving back are a look
 pub looked_round : (a b c d e : CallerView) {found : ℕ} → IsLockCall a.seat b.seat → b.left ≡ a.left → IsAtRest b.seat.pass → IsReading b.seat c.seat
     → c.left ≡ b.left → IsLook c.seat found d.seat → d.left ≡ c.left → IsRelease rest_of d.seat e.seat → e.left ≡ d.left

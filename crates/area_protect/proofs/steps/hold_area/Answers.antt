@@ -4,11 +4,11 @@ use Rattle.page_types.specs.declared.TheConstants.{LIMIT}
 use Rattle.page_types.specs.declared.calls.Kind.{Kind}
 use Rattle.page_types.specs.Named.{IsNamedOption}
 use Rattle.lock_core.specs.declared.range.Held.{Held}
-use Rattle.area_rows.specs.Callers.{CountsWhole, RowIs, Shows}
+use Rattle.area_rows.specs.Callers.{CountsWhole, RowIs, Shows, reading_on}
 use Rattle.range_rw.specs.Contract.{Record}
 use Rattle.range_rw.proofs.Asking.{asks_kept, for_only}
 use Rattle.area_protect.proofs.Looking.{look_counts}
-use Rattle.area_protect.proofs.Stages.{whole_back, looked_round, counts_on}
+use Rattle.area_protect.proofs.Stages.{whole_back, looked_held, looked_back, looked_round, counts_on}
 use Rattle.area_protect.proofs.steps.hold_area.Goals as goal
 
 -- another sequence word than the one that was found says that a call under everything came between; what is asked for
@@ -59,3 +59,19 @@ returns-in-Some-clause-asks g c = asks_kept (for_only c.acquire.ensures.asks) (c
 pub returns-in_default-clause-asks : goal.returns-in_default-clause-asks
 returns-in_default-clause-asks g c = asks_kept (for_only c.acquire.ensures.asks)
     (c.release-in_default.ensures.release.asked ∙ (c.row_of-row.ensures.reading.asked ∙ c.sequence-sequence.ensures.reading.asked))
+
+-- a row that is held was looked at
+pub returns-in-Some-clause-looked : goal.returns-in-Some-clause-looked
+returns-in-Some-clause-looked g c =
+    let a = c.acquire in let q = c.sequence-sequence in let r = c.row_of-row in
+    looked_held c.args.caller.now a.new.caller r.new.caller a.ensures.call a.ensures.left a.ensures.rest
+    (reading_on a.new.caller.seat q.new.caller.seat r.new.caller.seat q.ensures.reading r.ensures.reading) (r.ensures.left ∙ q.ensures.left)
+
+-- and one with other boundaries, which is given back
+pub returns-in_default-clause-looked : goal.returns-in_default-clause-looked
+returns-in_default-clause-looked g c =
+    let a = c.acquire in let q = c.sequence-sequence in let r = c.row_of-row in let d = c.release-in_default in
+    looked_back c.args.caller.now r.new.caller d.new.caller
+    (looked_held c.args.caller.now a.new.caller r.new.caller a.ensures.call a.ensures.left a.ensures.rest
+    (reading_on a.new.caller.seat q.new.caller.seat r.new.caller.seat q.ensures.reading r.ensures.reading) (r.ensures.left ∙ q.ensures.left))
+    d.ensures.release d.ensures.left
