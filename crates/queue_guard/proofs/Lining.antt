@@ -146,6 +146,7 @@ module _ {P : Type 0} where
     a.3,
     ap (λ (x : QueuePass P). place_with x held) a.5
         ∙ ap (λ (l : Look). record { telling = p.telling; look = l; held = held }) (noted_line words passes s held p r own a.0 a.1 a.4),
+    a.6,
   )
   acts_are_lines_law words passes s held p step ReadsLo q r own a = ap (λ (x : QueuePass P). place_with x held) a.6
   acts_are_lines_law words passes s held p step ReadsHi q r own a = ap (λ (x : QueuePass P). place_with x held) a.6
@@ -156,6 +157,7 @@ module _ {P : Type 0} where
     a.6,
     ap (λ (x : QueuePass P). place_with x held) a.9
         ∙ ap (λ (l : Look). record { telling = p.telling; look = l; held = held }) (judged_line words passes s held p r own a.0 a.1 a.2 a.3 a.4 a.6 a.7 a.8),
+    a.10,
   )
   acts_are_lines_law words passes s held p step WritesLo q r own a = ap (λ (x : QueuePass P). place_with x held) a.3
   acts_are_lines_law words passes s held p step WritesHi q r own a = ap (λ (x : QueuePass P). place_with x held) a.3

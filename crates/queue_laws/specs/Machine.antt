@@ -84,7 +84,7 @@ judged seats asked k ticket (Drawn t) = past_seat seats asked k
 
 -- the line of each step: when a seat at such a place may make it, and its place after it, by the next ticket and what
 -- all seats have told. A seat gains the range for which its look is over, gives a range back once it is silent, and
--- begins to look only while it holds nothing. That a range is free when it is gained is the lock's own promise
+-- looks only while it holds nothing. That a range is free when it is gained is the lock's own promise
 abbrev pub IsLine : ℕ → List Telling → Place → QueueStep → Place → Type 0
 IsLine next tellings p Count now = (p.telling ≡ Silent) × (now ≡ record p { telling = Counted })
 IsLine next tellings p Draw now = (p.telling ≡ Counted) × (now ≡ record p { telling = Drawn next })
@@ -94,9 +94,9 @@ IsLine next tellings p Hide now = (a : Announcement) × (p.telling ≡ Shown a) 
 IsLine next tellings p Uncount now = (p.telling ≡ Counted) × (now ≡ record p { telling = Silent })
 IsLine next tellings p (Begin asked) now = (p.held ≡ None) × (now ≡ record p { look = begun tellings asked })
 IsLine next tellings p Note now = (asked : Held) × (k : ℕ) × (p.look ≡ At asked k None)
-    × (now ≡ record p { look = noted (length tellings) p.telling asked k (telling_at tellings k) })
+    × (now ≡ record p { look = noted (length tellings) p.telling asked k (telling_at tellings k) }) × (p.held ≡ None)
 IsLine next tellings p Judge now = (asked : Held) × (k : ℕ) × (ticket : ℕ) × (p.look ≡ At asked k (Some ticket))
-    × (now ≡ record p { look = judged (length tellings) asked k ticket (telling_at tellings k) })
+    × (now ≡ record p { look = judged (length tellings) asked k ticket (telling_at tellings k) }) × (p.held ≡ None)
 IsLine next tellings p (Gain held) now = (p.held ≡ None) × (p.look ≡ Clear held) × (now ≡ record p { held = Some held })
 IsLine next tellings p Give now = (held : Held) × (p.held ≡ Some held) × (p.telling ≡ Silent) × (now ≡ record p { look = Idle; held = None })
 
