@@ -15,8 +15,8 @@ use Rattle.area_guard.specs.declared.guard.Pending.{Pending}
 use Rattle.area_guard.specs.declared.guard.Pending.TheVariants.{AtRest, Planned, OneRow}
 use Rattle.area_guard.specs.History.{FitsAndReplies, entries_of, entry_of, rows_after, HoldsFor, IsOwed, IsRunningSpace, Backs, AreBacked, Here}
 use Rattle.area_guard.specs.History.{Allowed, HasBlocks, HasDrawn, IsNew, MayLoad, MayStore, MayWrite, MayAdd}
-use Rattle.area_guard.specs.History.MayLoad.{number, glance, sequence, layout, gap_word, row}
-use Rattle.area_guard.specs.History.MayStore.{store_row, store_count, store_gap, store_layout}
+use Rattle.area_guard.specs.History.MayLoad.{number, glance, sequence, layout, row}
+use Rattle.area_guard.specs.History.MayStore.{store_row, store_count, store_layout}
 use Rattle.area_guard.specs.History.MayAdd.{draw, raise}
 use Rattle.area_guard.specs.declared.guard.Splice.{Splice}
 use Rattle.area_guard.specs.Rows.{nb_in, number_place, IsLayoutPlace}
@@ -98,7 +98,6 @@ module _ (grants : Grants) (start : List Area) (history : List Entry) (state : L
     runs = r.runs;
     began = λ worker pass at. (r.parts worker pass at).began;
     rows = r.rows;
-    gap = r.gap;
     pending = λ worker pass at. (backed worker pass at).pending;
     owed = λ worker pass at. (r.parts worker pass at).owed;
     sequence = r.sequence;
@@ -138,7 +137,6 @@ count_of : (grants : Grants) (words : List ℕ) (passes : List Pass) (worker val
 count_of grants words passes worker value here AtRest after is may = absurd may
 count_of grants words passes worker value here (Planned plan) after is (store_row index slot e v same, new) = absurd (omega arith)
 count_of grants words passes worker value here (Planned plan) after is (store_count e v same, new) = (plan, of_whole grants words passes worker here plan is, v)
-count_of grants words passes worker value here (Planned plan) after is (store_gap e same, new) = absurd (omega arith)
 count_of grants words passes worker value here (Planned plan) after is (store_layout index few e same, new) = absurd (omega arith)
 count_of grants words passes worker value here (OneRow c) after is may = let e : 2 ≡ 3 + c.index = may.0 in absurd (omega arith)
 
@@ -172,7 +170,7 @@ layout_stores grants words passes worker place value note after at may =
 add_draws : {grants : Grants} {words : List ℕ} {passes : List Pass} {worker : ℕ} {note : Note} {here : Here grants words passes worker} {after : Pass}
     {place : ℕ} → place ≡ number_place (nb_in words) → MayAdd grants words passes worker note here place after
     → HasDrawn grants words passes worker note here after
-add_draws at (raise plan e pends written right is) = absurd (omega arith)
+add_draws at (raise plan e pends written is) = absurd (omega arith)
 add_draws at (draw e keeps drew) = drew
 
 -- so a caller that makes such a step has drawn a number
@@ -219,13 +217,11 @@ load_keeps own free held words history place p after (number h o k e is) = same_
 load_keeps own free held words history place p after (glance f e is) = same_draw p _ after is refl refl refl refl
 load_keeps own free held words history place p after (sequence h e is) = same_draw p _ after is refl refl refl refl
 load_keeps own free held words history place p after (layout h e is) = same_draw p _ after is refl refl refl refl
-load_keeps own free held words history place p after (gap_word h e is) = same_draw p _ after is refl refl refl refl
 load_keeps own free held words history place p after (row i h slot e is) = same_draw p _ after is refl refl refl refl
 
 store_keeps : (plan : Splice) (place value : ℕ) (p after : Pass) → MayStore plan place value p after → Counts p after
 store_keeps plan place value p after (store_row i slot e v is) = same_draw p _ after is refl refl refl refl
 store_keeps plan place value p after (store_count e v is) = same_draw p _ after is refl refl refl refl
-store_keeps plan place value p after (store_gap e is) = same_draw p _ after is refl refl refl refl
 store_keeps plan place value p after (store_layout i few e is) = same_draw p _ after is refl refl refl refl
 
 write_keeps : (words : List ℕ) (pending : Pending) (place value : ℕ) (p after : Pass) → MayWrite words pending place value p after → Counts p after
@@ -238,7 +234,7 @@ raise_keeps : (grants : Grants) (words : List ℕ) (passes : List Pass) (worker 
     → MayAdd grants words passes worker note here place after → Counts here.pass after
 raise_keeps grants words passes worker place note here after differ (draw e keeps drew) =
     absurd (differ (e ∙ ap number_place (here.running.parts worker here.pass here.own).room.0))
-raise_keeps grants words passes worker place note here after differ (raise plan e pends written right is) = same_draw here.pass _ after is refl refl refl refl
+raise_keeps grants words passes worker place note here after differ (raise plan e pends written is) = same_draw here.pass _ after is refl refl refl refl
 
 -- a step of a caller at a moment, from the pass that it has there
 step_keeps : (grants : Grants) (words : List ℕ) (passes : List Pass) (worker : ℕ) (step : ClientStep) (note : Note) (after : Pass)
@@ -286,7 +282,6 @@ writes_low : (words : List ℕ) (pending : Pending) (place value : ℕ) (p after
 writes_low words AtRest place value p after nb may = absurd may
 writes_low words (Planned plan) place value p after nb (store_row index slot e v is, new) = omega arith
 writes_low words (Planned plan) place value p after nb (store_count e v is, new) = omega arith
-writes_low words (Planned plan) place value p after nb (store_gap e is, new) = omega arith
 writes_low words (Planned plan) place value p after nb (store_layout index few e is, new) = omega arith
 writes_low words (OneRow c) place value p after nb may = let e = may.0 in let few = may.2.there in omega arith
 
@@ -300,7 +295,7 @@ low_stands words place value wide low =
 adds_stand : {grants : Grants} {words : List ℕ} {passes : List Pass} {worker : ℕ} {note : Note} {here : Here grants words passes worker} {after : Pass}
     {place : ℕ} (value : ℕ) → HasBlocks words here.pass.blocks here.pass.keeps → MayAdd grants words passes worker note here place after
     → WordStands words (set words place value)
-adds_stand {words} value has (raise plan e pends written right is) =
+adds_stand {words} value has (raise plan e pends written is) =
     subst (λ (n : ℕ). WordStands words (set words n value)) (sym e) (low_stands words 1 value has.1 (omega arith))
 adds_stand {words} {place} value has (draw e keeps drew) = let blocks = has.0 in let wide = has.1 in
     (keeps_stays words place value (omega arith), λ unkept. absurd (true≢false (sym keeps ∙ (has.2 ∙ unkept))))

@@ -1,6 +1,6 @@
 -- That a draw of a number keeps the rule: the history grows by the entry, and what its call leaves is to be written.
 -- These are parts of the proofs in `Keeping`; a reader who trusts the check may pass them over.
-use Rattle.std.specs.Prelude.{All, Option, None, slice_index}
+use Rattle.std.specs.Prelude.{All, Option, slice_index}
 use Rattle.std.proofs.Common.{Bool, true, false, true≢false, ◌⊎◌, ◌≡◌, ◌≢◌, ℕ, ◌+◌, ◌*◌, ◌<◌, ◌≤◌, inl, inr, List, [], ◌∷◌, ◌++◌, length, set, sym, refl}
 use Rattle.std.proofs.Common.{ap, ◌∙◌, subst, arith, length-set, length-append, append_assoc, ⊎_elim}
 use Rattle.std.proofs.lemmas.List.{append-nil, get_or-set_same, get_or-set_other}
@@ -34,14 +34,12 @@ use Rattle.area_guard.specs.declared.guard.Pending.{Pending}
 use Rattle.area_guard.specs.declared.guard.Splice.{Splice}
 use Rattle.area_guard.specs.declared.guard.Pending.TheVariants.{AtRest, Planned, OneRow}
 use Rattle.row_plans.specs.Plans.{PlanShows}
-use Rattle.row_plans.specs.Gaps.{IsGapWord}
-use Rattle.row_plans.proofs.GapWords.{gap_less}
 use Rattle.area_guard.specs.Rows.{nb_in, keeps_in, number_place, room_of}
 use Rattle.area_guard.specs.Reads.{everything, StillStands}
 use Rattle.area_guard.specs.Changes.{alone, IsChange}
 use Rattle.area_guard.specs.History.{with_whole, IsPart, planned_calls, own_planned, planned_count, HoldsPages, IsShown}
 use Rattle.area_guard.specs.History.{RowsStandFor, IsRunningSpace, Backs, IsBacked, AreBacked, HoldsFor, Leaves, after_draw}
-use Rattle.area_guard.specs.History.MayLoad.{number, glance, sequence, layout, gap_word, row}
+use Rattle.area_guard.specs.History.MayLoad.{number, glance, sequence, layout, row}
 use Rattle.area_guard.specs.History.{Here, MayLoad, IsQuietDraw, Runs, IsRight, FitsIn, IsOfLastEntry, IsOwed, rows_after}
 use Rattle.area_guard.specs.Replies.{all_more, reply_named, left_named, left_few}
 use Rattle.area_guard.specs.Stands.{nb_stays, keeps_stays, room_stays, layout_beside, HasSameWords, exact_stands, all_stand, rows_beside, shown_set}
@@ -49,7 +47,7 @@ use Rattle.area_guard.specs.Slots.{slot_in}
 use Rattle.area_guard.specs.Parts.{own_more, own_same, count_set, most_set, room_kept, rows_fit_more}
 use Rattle.area_guard.specs.Parts.{whole_more, none_planned, planned_set, resting_of, none_is}
 use Rattle.area_guard.specs.Writes.{everything_pages, span_pages, clash, held_is, plan_length}
-use Rattle.area_guard.specs.RowStores.{in_or_out, shown_after_draw, others_back}
+use Rattle.area_guard.specs.RowStores.{shown_after_draw, others_back}
 
 -- the words with another number word
 abbrev pub numbered : List ℕ → ℕ → List ℕ
@@ -207,7 +205,6 @@ others_part start history words value worker p e differ own = record {
   owed = owed_on start history p.mine p.pending e own.owed;
   laid = λ l k. layout_beside words (number_place (nb_in words)) value (inr (omega arith)) (omega arith) ∙ own.laid l k;
   sequence = λ n c. get_or-set_other words (number_place (nb_in words)) 1 value 0 (λ same. omega arith) ∙ own.sequence n c;
-  gap = λ n c. get_or-set_other words (number_place (nb_in words)) 0 value 0 (λ same. omega arith) ∙ own.gap n c;
 }
 
 own_part : (start : List Areas) (history : List Entry) (state left : List Areas) (words : List ℕ) (value worker : ℕ)
@@ -223,7 +220,6 @@ own_part start history state left words value worker p e AtRest held is few runs
   owed = tt;
   laid = λ l none. absurd (none_is l none);
   sequence = λ n none. absurd (none_is n none);
-  gap = λ n none. absurd (none_is n none);
 }
 own_part start history state left words value worker p e (Planned plan) held is few runs right leaves own = record {
   began = own.began;
@@ -234,7 +230,6 @@ own_part start history state left words value worker p e (Planned plan) held is 
   owed = last_drawn start history p.mine state left (Planned plan) e runs right leaves;
   laid = λ l k. layout_beside words (number_place (nb_in words)) value (inr (omega arith)) (omega arith) ∙ own.laid l k;
   sequence = λ n c. get_or-set_other words (number_place (nb_in words)) 1 value 0 (λ same. omega arith) ∙ own.sequence n c;
-  gap = λ n c. get_or-set_other words (number_place (nb_in words)) 0 value 0 (λ same. omega arith) ∙ own.gap n c;
 }
 own_part start history state left words value worker p e (OneRow c) held is few runs right leaves own = record {
   began = own.began;
@@ -245,7 +240,6 @@ own_part start history state left words value worker p e (OneRow c) held is few 
   owed = last_drawn start history p.mine state left (OneRow c) e runs right leaves;
   laid = λ l k. layout_beside words (number_place (nb_in words)) value (inr (omega arith)) (omega arith) ∙ own.laid l k;
   sequence = λ n k. get_or-set_other words (number_place (nb_in words)) 1 value 0 (λ same. omega arith) ∙ own.sequence n k;
-  gap = λ n k. get_or-set_other words (number_place (nb_in words)) 0 value 0 (λ same. omega arith) ∙ own.gap n k;
 }
 
 -- what the rows show after a draw, where no plan is to be written
@@ -270,18 +264,6 @@ shown_drawn grants history state left words passes worker value p e (OneRow c) h
           (held_alone grants worker p.keeps held e.under l.0 l.1 has holds) l.2 s.0 rest refl s.1,
       rows_beside words (number_place (nb_in words)) value s.0 (inr (omega arith)) (omega arith) s.2,
     )
-
--- a call that isn't numbered under everything frees no page, so a gap word stays right
-gap_drawn : (state left : List Areas) (under : Under) (pending : Pending) (word : ℕ) → Leaves state under pending left
-    → planned_calls pending ≡ 0 → IsGapWord (kind_at state) word → IsGapWord (kind_at left) word
-gap_drawn state left under AtRest word leaves none right =
-    subst (λ (A : List Areas). IsGapWord (kind_at A) word) (sym (leaves_same state left under leaves)) right
-gap_drawn state left under (Planned plan) word leaves none right = absurd (omega arith)
-gap_drawn state left under (OneRow c) word leaves none right =
-    let change = (leaves_change state left under c leaves).2 in
-    gap_less (kind_at state) (kind_at left) word
-    (λ page low free. in_or_out c.place page (kind_at state page ≡ None) (λ i. absurd (none_is c.new (sym free ∙ change.after page i)))
-    (λ out. sym (change.elsewhere page out) ∙ free)) right
 
 -- a draw of a number: where the space keeps its history the number word counts one entry more, and otherwise it may be
 -- what it was
@@ -326,8 +308,6 @@ module _ (grants : Grants) (start : List Areas) (history : List Entry) (state le
         room = room_kept words (numbered words value) (row_count start) passes worker p q at (draw_most history e held p pending) same r.room;
         rows = λ none. shown_drawn grants history state left words passes worker value p e pending held backed exclusive has holds
             at rest leaves (omega arith) (r.rows (omega arith));
-        gap = λ none. subst (IsGapWord (kind_at left)) (sym (get_or-set_other words place 0 value 0 (λ e. omega arith)))
-            (gap_drawn state left e.under pending (slice_index words 0) leaves (omega arith) (r.gap (omega arith)));
         parts = λ other x there. ⊎_elim
             (λ t. subst (λ (z : ℕ × Pass). IsPart start (history ++ e ∷ []) (numbered words value) z.0 z.1) (λ i. (sym t.0 i, t.1 i))
             (own_part start history state left words value worker p e pending held is few r.runs
@@ -356,7 +336,6 @@ none_else unkept at (number h o keeps e is) = true≢false (sym keeps ∙ unkept
 none_else unkept at (glance f e is) = omega arith
 none_else unkept at (sequence h e is) = omega arith
 none_else unkept at (layout h among is) = ⊎_elim (λ two. omega arith) (λ t. let a = t.1 in omega arith) among
-none_else unkept at (gap_word h e is) = omega arith
 none_else unkept at (row i h few e is) = omega arith
 
 -- there is room for what a draw leaves to be written
@@ -445,7 +424,7 @@ module _ (grants : Grants) (start : List Areas) (history : List Entry) (state le
       → AreBacked grants (numbered words value) left (set passes worker (after_draw history e pending h p))
   drawn_backed worker p e under AtRest h at has holds leaves other x there =
       ⊎_elim (λ t. subst (λ (z : ℕ × Pass). IsBacked grants (numbered words value) left z.0 z.1) (λ i. (sym t.0 i, t.1 i))
-      (record { reads = inl (refl, refl, refl, refl); rows = λ held own. All-nil (StillStands held (numbered words value)); pending = tt }))
+      (record { reads = inl (refl, refl, refl); rows = λ held own. All-nil (StillStands held (numbered words value)); pending = tt }))
       (λ t. other_backed other x t.1 (subst (λ (A : List Areas). Backs grants A other x.pending)
       (sym (leaves_same state left under leaves)) (all other x t.1).pending)) (at_set passes worker other (after_draw history e AtRest h p) x there)
   drawn_backed worker p e under (Planned plan) h at has holds leaves other x there =

@@ -34,7 +34,6 @@ use Rattle.area_guard.specs.declared.guard.Pending.TheVariants.{AtRest, Planned,
 use Rattle.row_plans.specs.RowLists.{areas_from}
 use Rattle.area_guard.specs.Rows.{nb_in, keeps_in, number_place, rows_in, room_of, layout_in, slots_to, IsLayoutPlace, IsOneOf, IsSlot, RowsShow}
 use Rattle.row_plans.specs.Plans.{PlanShows}
-use Rattle.row_plans.specs.Gaps.{IsGapWord}
 use Rattle.area_guard.specs.Reads.{everything, StillStands, noted_at}
 use Rattle.std.specs.List.{splice}
 use Rattle.area_guard.specs.Changes.{IsIn, alone, new_word, IsInside, IsChange, MayReplace}
@@ -91,10 +90,6 @@ StillLaid words laid = (layout : List ℕ) → laid ≡ Some layout → layout_i
 -- what a caller has read of the sequence word under its range is so
 abbrev pub StillRaised : List ℕ → Option ℕ → Type 0
 StillRaised words sequence = (n : ℕ) → sequence ≡ Some n → slice_index words 1 ≡ n
-
--- so is what it has noted of the gap word
-abbrev pub StillGap : List ℕ → Option ℕ → Type 0
-StillGap words gap = (n : ℕ) → gap ≡ Some n → slice_index words 0 ≡ n
 
 -- the call may be numbered at this state with this reply and under this range, and leaves another: it fits, and the
 -- reply is right
@@ -157,8 +152,8 @@ HasBlocks words nb keeps = (nb ≡ nb_in words) × (36 + 129 * nb_in words ≤ l
 
 -- one caller's part: it began with the same areas, has seen a beginning of the history, stores just its own entries,
 -- no more of them than it may have, knows how many blocks there is room for and whether the space keeps its history,
--- what it has to write is what the last of these entries leaves, and what it has read of the layout, the sequence word
--- and the gap word is still so
+-- what it has to write is what the last of these entries leaves, and what it has read of the layout and the sequence
+-- word is still so
 pub record IsPart (start : List Areas) (history : List Entry) (words : List ℕ) (worker : ℕ) (pass : Pass) : Type 0 where
   pub began : pass.start ≡ start
   pub seen : StartsWith history pass.seen
@@ -168,7 +163,6 @@ pub record IsPart (start : List Areas) (history : List Entry) (words : List ℕ)
   pub owed : IsOwed start history pass.mine pass.pending
   pub laid : StillLaid words pass.laid
   pub sequence : StillRaised words pass.sequence
-  pub gap : StillGap words pass.gap
 
 -- 1 where a call under everything has its number and isn't written yet
 abbrev pub planned_calls : Pending → ℕ
@@ -209,7 +203,7 @@ RowsStandFor state passes words = (kinds : ℕ → Option Kind) × IsShown state
 
 -- a running address space: from the start the history leaves the state, and the client words and the callers' passes
 -- stand for both. A call under everything that isn't written yet leaves the sequence word one behind, and meanwhile the
--- row words and the gap word may be anything
+-- row words may be anything
 pub record IsRunningSpace (start : List Areas) (history : List Entry) (state : List Areas) (words : List ℕ) (passes : List Pass) : Type 0 where
   pub callers : length passes ≤ 16
   pub runs : Runs 0 start history state
@@ -226,7 +220,6 @@ pub record IsRunningSpace (start : List Areas) (history : List Entry) (state : L
   pub small : most_count passes < 2 ^ 62
   pub room : HasRoom (nb_in words) (row_count start) (most_count passes)
   pub rows : planned_count passes ≡ 0 → RowsStandFor state passes words
-  pub gap : planned_count passes ≡ 0 → IsGapWord (kind_at state) (slice_index words 0)
   pub parts : (worker : ℕ) (pass : Pass) → get_elem? passes worker ≡ some pass → IsPart start history words worker pass
   -- no entry is of another caller
   pub no_other : (worker : ℕ) → length passes ≤ worker → entries_of worker history ≡ []
@@ -242,7 +235,7 @@ HoldsPages grants worker = (h : Held) × Holds grants worker h × HasPages h
 
 -- a pass that has read nothing of what others may change
 abbrev pub HasReadNothing : Pass → Type 0
-HasReadNothing pass = (pass.laid ≡ None) × (pass.rows ≡ []) × (pass.sequence ≡ None) × (pass.gap ≡ None)
+HasReadNothing pass = (pass.laid ≡ None) × (pass.rows ≡ []) × (pass.sequence ≡ None)
 
 -- what is to be written is right for the last state, and its caller holds what its entry names
 abbrev pub Backs : Grants → List Areas → ℕ → Pending → Type 0
@@ -281,7 +274,6 @@ newcomer words number = record {
   laid = None;
   rows = [];
   sequence = None;
-  gap = None;
   pending = AtRest;
   drew = None;
   looks = [];
@@ -291,7 +283,7 @@ newcomer words number = record {
 
 -- a pass when its range is given back: what was read under it may change from now on
 abbrev pub rest_of : Pass → Pass
-rest_of p = record p { laid = None; rows = []; sequence = None; gap = None }
+rest_of p = record p { laid = None; rows = []; sequence = None }
 
 -- nothing is left to be written
 abbrev pub IsAtRest : Pass → Type 0
@@ -352,12 +344,11 @@ abbrev pub after_sequence : ℕ → Pass → Pass
 after_sequence n p = record p { sequence = Some n; since = p.since + 1 }
 
 -- the pass after a load of a word of the layout, with which the caller notes all of it, and the words of all slots,
--- also of those in which no row stands, and the gap word
+-- also of those in which no row stands
 abbrev pub after_seen : List ℕ → Pass → Pass
 after_seen words p = record p {
   laid = Some (layout_in words);
   rows = noted_at words (slots_to (nb_in words)) ++ p.rows;
-  gap = Some (slice_index words 0);
   since = p.since + 1;
 }
 
@@ -373,10 +364,6 @@ after_layout index word p = record p { laid = laid_with index word p.laid; since
 -- the pass after a load of a row
 abbrev pub after_row : ℕ → ℕ → Pass → Pass
 after_row index word p = record p { rows = record { index = index; word = word } ∷ p.rows; since = p.since + 1 }
-
--- the pass after a store of the gap word
-abbrev pub after_gap : ℕ → Pass → Pass
-after_gap word p = record p { gap = Some word; since = p.since + 1 }
 
 -- the rows that were read, but one
 abbrev pub without : ℕ → List ReadRow → List ReadRow
@@ -399,7 +386,6 @@ after_draw history e AtRest held p = record {
   laid = None;
   rows = [];
   sequence = None;
-  gap = None;
   pending = AtRest;
   drew = held;
   looks = p.looks;
@@ -416,7 +402,6 @@ after_draw history e (Planned plan) held p = record {
   laid = p.laid;
   rows = p.rows;
   sequence = p.sequence;
-  gap = p.gap;
   pending = Planned plan;
   drew = held;
   looks = p.looks;
@@ -433,7 +418,6 @@ after_draw history e (OneRow change) held p = record {
   laid = p.laid;
   rows = p.rows;
   sequence = p.sequence;
-  gap = p.gap;
   pending = OneRow change;
   drew = held;
   looks = p.looks;
@@ -447,7 +431,7 @@ after_raise p = record p { sequence = None; pending = AtRest; since = p.since + 
 
 -- the pass after the one row of a call over its area was stored: all is written, and what was read is read anew
 abbrev pub after_change : Pass → Pass
-after_change p = record p { laid = None; rows = []; sequence = None; gap = None; pending = AtRest; since = p.since + 1 }
+after_change p = record p { laid = None; rows = []; sequence = None; pending = AtRest; since = p.since + 1 }
 
 -- the loads that a caller may make: the number word, where the space keeps its history, and the sequence word at any
 -- time. What it has read of the sequence word, of the layout and of a row it remembers, and it reads the last two only
@@ -460,7 +444,6 @@ pub data MayLoad (own : Option Held → Type 0) (free held : Type 0) (words : Li
   glance : free → place ≡ 1 → after ≡ after_step p → MayLoad own free held words history place p after
   sequence : held → place ≡ 1 → after ≡ after_sequence (slice_index words 1) p → MayLoad own free held words history place p after
   layout : held → IsLayoutPlace p.blocks place → after ≡ after_seen words p → MayLoad own free held words history place p after
-  gap_word : held → place ≡ 0 → after ≡ after_step p → MayLoad own free held words history place p after
   row : (index : ℕ) → held → index < 128 * p.blocks → place ≡ 3 + index → after ≡ after_row index (slice_index words (3 + index)) p
       → MayLoad own free held words history place p after
 
@@ -502,13 +485,12 @@ pub record IsQuietDraw (grants : Grants) (words : List ℕ) (passes : List Pass)
 abbrev pub IsPlanRow : Splice → ℕ → Type 0
 IsPlanRow plan word = IsOneOf plan.old word ⊎ IsOneOf (rows_after plan) word
 
--- the stores of a call under everything: a row of its plan in a slot, the count of the rows that it leaves, the gap
--- word, or another word of the layout
+-- the stores of a call under everything: a row of its plan in a slot, the count of the rows that it leaves, or another
+-- word of the layout
 pub data MayStore (plan : Splice) (place value : ℕ) (p after : Pass) : Type 0 where
   store_row : (index : ℕ) → index < 128 * p.blocks → place ≡ 3 + index → IsPlanRow plan value
       → after ≡ after_store index value p → MayStore plan place value p after
   store_count : place ≡ 2 → value ≡ length (rows_after plan) → after ≡ after_layout 0 value p → MayStore plan place value p after
-  store_gap : place ≡ 0 → after ≡ after_gap value p → MayStore plan place value p after
   store_layout : (index : ℕ) → index ≤ p.blocks → place ≡ 3 + 128 * p.blocks + index → after ≡ after_layout (suc index) value p
       → MayStore plan place value p after
 
@@ -524,13 +506,13 @@ MayWrite words (OneRow change) place value p after = (place ≡ 3 + change.index
     × MayReplace words change × (after ≡ after_change p)
 
 -- the additions: a draw of a number in a space that keeps its history, and the raising of the sequence word where the
--- rows show what a call under everything has left, and the gap word is right for it
+-- rows show what a call under everything has left
 pub data MayAdd (grants : Grants) (words : List ℕ) (passes : List Pass) (worker : ℕ) (note : Note)
     (here : Here grants words passes worker) (place : ℕ) (after : Pass) : Type 0 where
   draw : place ≡ number_place here.pass.blocks → here.pass.keeps ≡ true → HasDrawn grants words passes worker note here after
       → MayAdd grants words passes worker note here place after
   raise : (plan : Splice) → place ≡ 1 → here.pass.pending ≡ Planned plan → RowsShow words (kind_at here.state)
-      → IsGapWord (kind_at here.state) (slice_index words 0) → after ≡ after_raise here.pass → MayAdd grants words passes worker note here place after
+      → after ≡ after_raise here.pass → MayAdd grants words passes worker note here place after
 
 -- the steps on client words that the guard allows
 abbrev pub Allowed : Grants → List ℕ → List Pass → ℕ → ClientStep → Note → Pass → Type 0

@@ -30,7 +30,7 @@ use Rattle.area_guard.specs.Changes.{alone}
 use Rattle.area_guard.specs.History.{IsRunningSpace, HoldsPages, HoldsJust, HoldsNothing, Backs, IsBacked, AreBacked, HasHistory}
 use Rattle.area_guard.specs.History.{rest_of, IsAtRest, entry_of, after_look, after_step, after_seen, after_sequence, after_row}
 use Rattle.area_guard.specs.History.{Here, MayLoad, IsQuietDraw, MayWrite, MayAdd, Allowed}
-use Rattle.area_guard.specs.History.MayLoad.{number, glance, sequence, layout, gap_word, row}
+use Rattle.area_guard.specs.History.MayLoad.{number, glance, sequence, layout, row}
 use Rattle.area_guard.specs.History.MayAdd.{draw, raise}
 use Rattle.area_guard.specs.Stands.{exact_stands, noted_stand}
 use Rattle.area_guard.specs.Parts.{none_is, no_wrap, looked, stepped, counted, raised, read, rested, replaced}
@@ -61,7 +61,6 @@ module _ (grants : Grants) (words : List ℕ) (history : List Entry) (state : Li
     rows = λ held has. All-append (StillStands held words) (noted_at words (slots_to (nb_in words))) p.rows (noted_stand held words) (b.rows held has);
     pending = b.pending;
   })
-  load_backed (gap_word h e is) = subst (IsBacked grants words state worker) (sym is) (record { reads = b.reads; rows = b.rows; pending = b.pending })
   load_backed (row index h slot e is) = subst (IsBacked grants words state worker) (sym is) (record {
     reads = inr h;
     rows = λ held has.
@@ -89,10 +88,6 @@ module _ (mine : Option Held → Type 0) (free held : Type 0) (start : List Area
       subst (λ (q : Pass). IsRunningSpace start history state words (set passes worker q)) (sym is)
       (replaced start history state words worker p (r.parts worker p at) passes (after_seen words p) r at
       (counted start history state words worker p (r.parts worker p at)) refl refl refl)
-  loads_keep (gap_word h e is) =
-      subst (λ (q : Pass). IsRunningSpace start history state words (set passes worker q)) (sym is)
-      (replaced start history state words worker p (r.parts worker p at) passes (after_step p) r at
-      (stepped start history state words worker p (r.parts worker p at)) refl refl refl)
   loads_keep (row index h slot e is) =
       subst (λ (q : Pass). IsRunningSpace start history state words (set passes worker q)) (sym is)
       (replaced start history state words worker p (r.parts worker p at) passes (after_row index (slice_index words (3 + index)) p) r at
@@ -117,13 +112,13 @@ adds_keep grants words passes worker note here place after (draw place_is keeps 
       drawn_backed grants here.start here.history here.state d.left words passes value here.running here.backed here.exclusive worker here.pass
           e note.under note.pending d.held.0 here.own d.held.1 d.held.2 d.leaves,
     )
-adds_keep grants words passes worker note here place after (raise plan one_is pends written right is) =
+adds_keep grants words passes worker note here place after (raise plan one_is pends written is) =
     subst (λ (z : ℕ × Pass). HasHistory grants (words_after words (adds z.0 1)) (set passes worker z.1)) (λ i. (sym one_is i, sym is i)) (
       here.start,
       here.history,
       here.state,
-      raise_keeps grants here.start here.history here.state words passes worker here.pass plan here.running here.backed here.exclusive here.own pends written
-          right,
+      raise_keeps grants here.start here.history here.state words passes worker here.pass plan here.running here.backed here.exclusive here.own pends
+          written,
       raise_backed grants here.start here.history here.state words passes worker here.pass plan here.running here.backed here.exclusive here.own pends,
     )
 
@@ -253,7 +248,7 @@ losses_keep grants words passes seat p kept at rest =
           (rested kept.0 kept.1 kept.2 words seat p (r.parts seat p at)) refl refl refl,
       λ other x there. ⊎_elim (λ t. subst (λ (z : ℕ × Pass). IsBacked (set grants seat None) words kept.2 z.0 z.1) (λ i. (sym t.0 i, t.1 i))
           (record {
-            reads = inl (refl, refl, refl, refl);
+            reads = inl (refl, refl, refl);
             rows = λ held has. All-nil (StillStands held words);
             pending = rest_backs (set grants seat None) kept.2 seat p.pending rest;
           })) (λ t. backed_on grants words seat None kept.2 other x t.0 (kept.4 other x t.1)) (at_set passes seat other (rest_of p) x there),

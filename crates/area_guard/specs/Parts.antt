@@ -3,7 +3,7 @@
 use Rattle.std.specs.Prelude.{Option, Some, None, slice_index, sum_by}
 use Rattle.std.proofs.Common.{◌≡◌, ◌≢◌, ℕ, suc, ◌+◌, ◌*◌, ◌^◌, ◌<◌, ◌≤◌, inl, inr, Bool, true, false, cond, eqb, List, [], ◌∷◌}
 use Rattle.std.proofs.Common.{◌++◌, length, set, sym, refl, ap, ◌∙◌, subst, arith, length-set, eq-eqb, ne_eqb, ⊎_elim}
-use Rattle.std.proofs.lemmas.List.{append-nil, get_or-set_same, get_or-set_other}
+use Rattle.std.proofs.lemmas.List.{append-nil, get_or-set_other}
 use Rattle.std.proofs.lemmas.List.Sums.{sum_by-cons, sum_by-set}
 use mathlib.Core.Option.{some}
 use lib.ListN.{get_elem?}
@@ -29,7 +29,7 @@ use Rattle.area_guard.specs.History.{planned_calls}
 use Rattle.area_guard.specs.History.{own_planned, planned_count, RowsStandFor, IsRunningSpace, HasReadNothing, rest_of}
 use Rattle.area_guard.specs.History.{StillLaid, laid_with, after_look, after_step, after_seen, after_layout, after_sequence, after_row, after_store}
 use Rattle.area_guard.specs.History.{after_raise}
-use Rattle.area_guard.specs.History.{after_change, after_gap}
+use Rattle.area_guard.specs.History.{after_change}
 use Rattle.area_guard.specs.Stands.{room_stays, layout_stays, layout_counted, layout_told, shown_set}
 
 keep_end : {A : Type 0} (b : Bool) (x : A) (xs ys zs : List A) → ys ≡ xs ++ zs → cond b (x ∷ ys) ys ≡ cond b (x ∷ xs) xs ++ zs
@@ -175,7 +175,6 @@ blank_part start history words others worker x n room own = record {
   owed = own.owed;
   laid = λ l e. absurd (none_is l (sym n.0 ∙ e));
   sequence = λ m e. absurd (none_is m (sym n.2 ∙ e));
-  gap = λ m e. absurd (none_is m (sym n.3 ∙ e));
 }
 
 -- the layout that was read, after it and the words have changed alike
@@ -197,7 +196,6 @@ beside_part start history words worker index value x slot own = record {
   owed = own.owed;
   laid = λ l e. layout_stays words (3 + index) value (λ same. omega arith) (omega arith) (let w = own.room.1 in omega arith) ∙ own.laid l e;
   sequence = λ n e. get_or-set_other words (3 + index) 1 value 0 (λ same. omega arith) ∙ own.sequence n e;
-  gap = λ n e. get_or-set_other words (3 + index) 0 value 0 (λ same. omega arith) ∙ own.gap n e;
 }
 
 module _ (start : List Areas) (history : List Entry) (state : List Areas) (words : List ℕ) (worker : ℕ) (p : Pass)
@@ -212,7 +210,6 @@ module _ (start : List Areas) (history : List Entry) (state : List Areas) (words
     owed = own.owed;
     laid = own.laid;
     sequence = own.sequence;
-    gap = own.gap;
   }
 
   pub stepped : IsPart start history words worker (after_step p)
@@ -225,7 +222,6 @@ module _ (start : List Areas) (history : List Entry) (state : List Areas) (words
     owed = own.owed;
     laid = own.laid;
     sequence = own.sequence;
-    gap = own.gap;
   }
 
   pub counted : IsPart start history words worker (after_seen words p)
@@ -238,7 +234,6 @@ module _ (start : List Areas) (history : List Entry) (state : List Areas) (words
     owed = own.owed;
     laid = λ l e. some_is (layout_in words) l e;
     sequence = own.sequence;
-    gap = λ n e. some_is (slice_index words 0) n e;
   }
 
   pub raised : IsPart start history words worker (after_sequence (slice_index words 1) p)
@@ -251,7 +246,6 @@ module _ (start : List Areas) (history : List Entry) (state : List Areas) (words
     owed = own.owed;
     laid = own.laid;
     sequence = λ n e. some_is (slice_index words 1) n e;
-    gap = own.gap;
   }
 
   pub read : (index word : ℕ) → IsPart start history words worker (after_row index word p)
@@ -264,7 +258,6 @@ module _ (start : List Areas) (history : List Entry) (state : List Areas) (words
     owed = own.owed;
     laid = own.laid;
     sequence = own.sequence;
-    gap = own.gap;
   }
 
   pub rested : IsPart start history words worker (rest_of p)
@@ -277,7 +270,6 @@ module _ (start : List Areas) (history : List Entry) (state : List Areas) (words
     owed = own.owed;
     laid = λ l e. absurd (none_is l e);
     sequence = λ n e. absurd (none_is n e);
-    gap = λ n e. absurd (none_is n e);
   }
 
   pub stored : (index value : ℕ) → index < 128 * p.blocks → IsPart start history (set words (3 + index) value) worker (after_store index value p)
@@ -290,7 +282,6 @@ module _ (start : List Areas) (history : List Entry) (state : List Areas) (words
     owed = own.owed;
     laid = λ l e. layout_stays words (3 + index) value (λ same. omega arith) (omega arith) (omega arith) ∙ own.laid l e;
     sequence = λ n e. get_or-set_other words (3 + index) 1 value 0 (λ same. omega arith) ∙ own.sequence n e;
-    gap = λ n e. get_or-set_other words (3 + index) 0 value 0 (λ same. omega arith) ∙ own.gap n e;
   }
 
   pub stored_count : (value : ℕ) → IsPart start history (set words 2 value) worker (after_layout 0 value p)
@@ -303,20 +294,6 @@ module _ (start : List Areas) (history : List Entry) (state : List Areas) (words
     owed = own.owed;
     laid = laid_still words (set words 2 value) 0 value p.laid own.laid (layout_counted words value (omega arith));
     sequence = λ n e. get_or-set_other words 2 1 value 0 (λ same. omega arith) ∙ own.sequence n e;
-    gap = λ n e. get_or-set_other words 2 0 value 0 (λ same. omega arith) ∙ own.gap n e;
-  }
-
-  pub stored_gap : (value : ℕ) → IsPart start history (set words 0 value) worker (after_gap value p)
-  stored_gap value = let wide = own.room.1 in record {
-    began = own.began;
-    seen = own.seen;
-    mine = own.mine;
-    few = own.few;
-    room = room_stays words p.blocks 0 value (omega arith) own.room;
-    owed = own.owed;
-    laid = λ l e. layout_stays words 0 value (λ same. omega arith) (omega arith) (omega arith) ∙ own.laid l e;
-    sequence = λ n e. get_or-set_other words 0 1 value 0 (λ same. omega arith) ∙ own.sequence n e;
-    gap = λ n e. get_or-set_same words 0 value 0 (omega arith) ∙ some_is value n e;
   }
 
   pub stored_layout : (index value : ℕ) → index ≤ p.blocks
@@ -336,7 +313,6 @@ module _ (start : List Areas) (history : List Entry) (state : List Areas) (words
             (subst (λ (n : ℕ). layout_in (set words n value) ≡ set (layout_in words) (suc index) value) at
             (layout_told words index value (omega arith) wide));
         sequence = λ n e. get_or-set_other words (3 + 128 * p.blocks + index) 1 value 0 (λ same. omega arith) ∙ own.sequence n e;
-        gap = λ n e. get_or-set_other words (3 + 128 * p.blocks + index) 0 value 0 (λ same. omega arith) ∙ own.gap n e;
       }
 
   pub raised_after : (value : ℕ) → IsPart start history (set words 1 value) worker (after_raise p)
@@ -349,7 +325,6 @@ module _ (start : List Areas) (history : List Entry) (state : List Areas) (words
     owed = tt;
     laid = λ l e. layout_stays words 1 value (λ same. omega arith) (omega arith) (omega arith) ∙ own.laid l e;
     sequence = λ n e. absurd (none_is n e);
-    gap = λ n e. get_or-set_other words 1 0 value 0 (λ same. omega arith) ∙ own.gap n e;
   }
 
   pub changed : (others : List ℕ) → HasBlocks others p.blocks p.keeps → IsPart start history others worker (after_change p)
@@ -362,7 +337,6 @@ module _ (start : List Areas) (history : List Entry) (state : List Areas) (words
     owed = tt;
     laid = λ l e. absurd (none_is l e);
     sequence = λ n e. absurd (none_is n e);
-    gap = λ n e. absurd (none_is n e);
   }
 
   -- another pass of this caller with as many entries, as many that it may have, and as much to write
@@ -387,7 +361,6 @@ module _ (start : List Areas) (history : List Entry) (state : List Areas) (words
         small = let m = most_set passes worker p q at may in let f = r.small in omega arith;
         room = room_kept words words (row_count start) passes worker p q at may refl r.room;
         rows = λ none. let s : RowsStandFor state passes words = r.rows (sym pending ∙ none) in (s.0, shown_set state passes worker p q s.0 at pends s.1, s.2);
-        gap = λ none. r.gap (sym pending ∙ none);
         parts = λ other x there. ⊎_elim
             (λ t. subst (λ (z : ℕ × Pass). IsPart start history words z.0 z.1) (λ i. (sym t.0 i, t.1 i)) part)
             (λ t. r.parts other x t.1)

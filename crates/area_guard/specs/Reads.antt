@@ -8,11 +8,9 @@ use Rattle.lock_core.specs.declared.range.Mode.TheVariants.{Writer}
 use Rattle.lock_core.specs.declared.range.Held.{Held}
 use Rattle.area_guard.specs.declared.guard.ReadRow.{ReadRow}
 use Rattle.area_guard.specs.declared.guard.Pass.{Pass}
-use Rattle.space_model.specs.Areas.{kind_at}
 use Rattle.row_plans.specs.RowWords.{row_start, row_kind}
-use Rattle.row_plans.specs.RowLists.{areas_from}
-use Rattle.row_plans.specs.Gaps.{IsGapWord}
 use Rattle.row_blocks.specs.Blocks.{blocks_of, rows_of, IsLaidOut, rows_in as rows_by}
+use Rattle.row_blocks.specs.Gaps.{GapsTold}
 use Rattle.area_guard.specs.Rows.{nb_in, slots_of, slots_to, IsRowOf}
 
 -- all pages, held as a writer
@@ -72,22 +70,19 @@ pub record KnowsWords (pass : Pass) : Type 0 where
   pub long : length layout ≡ pass.blocks + 2
   pub slots : (slot : ℕ) → slot < 128 * pass.blocks → (word : ℕ) × HasRead pass.rows slot word
 
--- the words that it knows are laid out in blocks; one block is free, and block 0 has at most 64 rows
+-- the words that it knows are laid out in blocks; one block is free, block 0 has at most 64 rows, and each body word
+-- tells the largest gap of its block
 pub record KnowsBlocks (pass : Pass) : Type 0 where
   pub laid : IsLaidOut pass.blocks (known_words pass)
   pub free : blocks_of pass.blocks (known_words pass) < pass.blocks
   pub short : rows_of pass.blocks (known_words pass) 0 < 64
+  pub told : GapsTold pass.blocks (known_words pass)
 
--- the gap word that a caller knows is right for these rows
-abbrev pub HasGap : Pass → List ℕ → Type 0
-HasGap pass rows = (word : ℕ) × (pass.gap ≡ Some word) × IsGapWord (kind_at (areas_from rows)) word
-
--- it knows all rows that there are, and a gap word that is right for them
+-- it knows all rows that there are
 pub record KnowsRows (pass : Pass) : Type 0 where
   pub words : KnowsWords pass
   pub blocks : KnowsBlocks pass
   pub counted : known_count pass ≡ length (known_rows pass)
-  pub gap : HasGap pass (known_rows pass)
 
 -- a row that was read stands still, in a slot, as far as held pages tell: it starts on the same side of each of them;
 -- where it starts at one or right behind one, it starts there; where one lies in it, it has its kind; and where

@@ -21,7 +21,6 @@ use Rattle.space_model.specs.Areas.{kind_at, row_count}
 use Rattle.space_model.proofs.Changing.{within-before, within-inside, within-after}
 use Rattle.lock_core.specs.Grants.{Grants, Holds, IsExclusive}
 use Rattle.lock_core.specs.declared.range.Held.{Held}
-use Rattle.row_plans.specs.Gaps.{IsGapWord}
 use Rattle.area_guard.specs.declared.guard.Change.{Change}
 use Rattle.area_guard.specs.declared.guard.Pass.{Pass}
 use Rattle.area_guard.specs.declared.guard.Pending.{Pending}
@@ -36,7 +35,7 @@ use Rattle.area_guard.specs.Writes.{span_pages, clash}
 use Rattle.area_guard.specs.Beside.{apart_pages, all_stand_on}
 
 -- a page is in a span, or isn't
-pub in_or_out : (span : Span) (page : ℕ) (P : Type 0) → (IsIn span page → P) → ((IsIn span page → ⊥) → P) → P
+in_or_out : (span : Span) (page : ℕ) (P : Type 0) → (IsIn span page → P) → ((IsIn span page → ⊥) → P) → P
 in_or_out span page P yes_in no_in = elim (cases_lt page span.lo) [
   | inl lt ↦ no_in (λ i. absurd (omega arith))
   | inr ge ↦ elim (cases_lt page span.hi) [
@@ -181,8 +180,6 @@ module _ (grants : Grants) (start : List Areas) (history : List Entry) (state : 
             (nb_stays words (3 + c.index) value (omega arith)) r.room;
         rows = λ no_plan. let s : RowsStandFor state passes words = r.rows (sym pending ∙ no_plan) in
             (with_change c s.0, shown_after_store s.0 s.1, may.shows s.0 s.2);
-        gap = λ no_plan. subst (IsGapWord (kind_at state)) (sym (get_or-set_other words (3 + c.index) 0 value 0 (λ e. omega arith)))
-            (r.gap (sym pending ∙ no_plan));
         parts = λ other x there. ⊎_elim (λ t. subst (λ (z : ℕ × Pass). IsPart start history (set words (3 + c.index) value) z.0 z.1) (λ i. (sym t.0 i, t.1 i))
             (changed start history state words worker p (r.parts worker p at) (set words (3 + c.index) value)
             (room_stays words p.blocks (3 + c.index) value (omega arith) room)))
@@ -208,7 +205,7 @@ module _ (grants : Grants) (start : List Areas) (history : List Entry) (state : 
   pub change_backed : MayReplace words c → AreBacked grants (set words (3 + c.index) (new_word c)) state (set passes worker (after_change p))
   change_backed may other x there = ⊎_elim
       (λ t. subst (λ (z : ℕ × Pass). IsBacked grants (set words (3 + c.index) (new_word c)) state z.0 z.1) (λ i. (sym t.0 i, t.1 i)) (record {
-        reads = inl (refl, refl, refl, refl);
+        reads = inl (refl, refl, refl);
         rows = λ held has. All-nil (StillStands held (set words (3 + c.index) (new_word c)));
         pending = tt;
       })) (λ t. stood_beside may other x t.0 t.1) (at_set passes worker other (after_change p) x there)

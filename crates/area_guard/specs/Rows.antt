@@ -11,6 +11,7 @@ use Rattle.page_types.specs.declared.calls.Kind.{Kind}
 use Rattle.row_plans.specs.RowWords.{row_start}
 use Rattle.row_plans.specs.RowLists.{ShowFrom, IsBareGap}
 use Rattle.row_blocks.specs.Blocks.{pieces, run, blocks_of, rows_of, IsLaidOut, rows_in as rows_by}
+use Rattle.row_blocks.specs.Gaps.{GapsTold}
 
 -- how many blocks there is room for: the last word before the sixteen quotas tells it. It is never stored after the
 -- opening
@@ -54,7 +55,7 @@ IsLayoutPlace nb place = (place ≡ 2) ⊎ ((3 + 128 * nb ≤ place) × (place <
 
 -- the slots of a block by a layout: its head, and those of its body
 abbrev pub block_slots : List ℕ → ℕ → List ℕ
-block_slots layout i = i ∷ run (length layout - 2 + 127 * (slice_index layout (2 + i) / 128)) (slice_index layout (2 + i) % 128)
+block_slots layout i = i ∷ run (length layout - 2 + 127 * (slice_index layout (2 + i) / 128 % 2048)) (slice_index layout (2 + i) % 128)
 
 -- the slots in which rows stand by a layout, in order of pages: the row of slot s is client word 3 + s
 abbrev pub slots_of : List ℕ → List ℕ
@@ -65,7 +66,7 @@ slots_of layout = pieces (block_slots layout) (slice_index layout 1)
 abbrev pub slot_at : List ℕ → ℕ → ℕ
 slot_at layout index =
     if index % 128 == 0 then index / 128
-    else (length layout - 2 + 127 * (slice_index layout (2 + index / 128) / 128) + index % 128 - 1)
+    else (length layout - 2 + 127 * (slice_index layout (2 + index / 128) / 128 % 2048) + index % 128 - 1)
 
 -- the slots in which rows stand
 abbrev pub slots_in : List ℕ → List ℕ
@@ -76,7 +77,8 @@ abbrev pub slots_to : ℕ → List ℕ
 slots_to nb = run 0 (128 * nb)
 
 -- the row words show these kinds of the pages below LIMIT. They stand in blocks, as many as the row count; there is
--- room for these before the last seventeen words; one block is free, and block 0 has at most 64 rows
+-- room for these before the last seventeen words; one block is free, block 0 has at most 64 rows, and each body word
+-- tells the largest gap of its block
 pub record RowsShow (words : List ℕ) (kinds : ℕ → Option Kind) : Type 0 where
   pub room : 36 + 129 * nb_in words ≤ length words
   pub some : 0 < slice_index words 2
@@ -87,6 +89,7 @@ pub record RowsShow (words : List ℕ) (kinds : ℕ → Option Kind) : Type 0 wh
   pub counted : slice_index words 2 ≡ length (slots_in words)
   pub free : blocks_of (nb_in words) (drop 3 words) < nb_in words
   pub short : rows_of (nb_in words) (drop 3 words) 0 < 64
+  pub told : GapsTold (nb_in words) (drop 3 words)
 
 -- one of these slots
 abbrev pub IsOneOf : List ℕ → ℕ → Type 0

@@ -5,14 +5,19 @@ use Rattle.std.proofs.Common.{◌≡◌, ℕ, suc, ◌+◌, ◌-◌, ◌*◌, �
 use Rattle.std.proofs.Common.{sym, refl, ap, ◌∙◌, subst, arith}
 use Rattle.std.proofs.lemmas.List.{get_or-drop, get_or-take, get_or-map, get_or-set_other, drop-set-add, length-drop, length-take-le}
 use Rattle.std.proofs.lemmas.List.Elements.{All-set}
-use Rattle.std.specs.Prelude.{All, Option, slice_index}
+use Rattle.std.specs.Prelude.{All, Option, None, slice_index}
 use mathlib.Core.Option.{some}
 use lib.ListN.{get_elem?}
 use Rattle.lock_core.proofs.ByPlace.{below, there, at_or}
 use Rattle.page_types.specs.declared.calls.Kind.{Kind}
 use Rattle.space_model.specs.declared.areas.Area.{Area}
 use Rattle.space_model.specs.declared.entries.Entry.{Entry}
+use Rattle.page_types.specs.declared.TheConstants.{LIMIT}
 use Rattle.row_plans.specs.RowLists.{ShowFrom, IsBareGap}
+use Rattle.row_plans.specs.Gaps.{free_of}
+use Rattle.row_plans.proofs.FreeStays.{free_stays}
+use Rattle.row_blocks.specs.Gaps.{GapsTold}
+use Rattle.row_blocks.proofs.KeptGaps.{told_freed}
 use Rattle.row_blocks.specs.Blocks.{pieces, run, blocks_of, rows_of, IsLaidOut, slots_of as slots_by, slots_in as slots_all, rows_in as rows_by}
 use Rattle.row_blocks.proofs.Pieces.{same_pieces}
 use Rattle.row_blocks.proofs.Slots.{rows_are as words_are, length-slots_in, length-rows_in, kth_slot, slot_below, slots_differ, at_slot, laid_stored, stored}
@@ -53,7 +58,7 @@ module _ (words : List ℕ) (room : 36 + 129 * nb_in words ≤ length words) whe
       ap (pieces (block_slots layout)) layout_blocks
       ∙ same_pieces (slots_by (nb_in words) (drop 3 words)) (block_slots layout) (blocks_of (nb_in words) (drop 3 words)) (λ i lt.
       let e = layout_told i (omega arith) in
-      (λ j. i ∷ run (first j + 127 * (e j / 128)) (e j % 128)))
+      (λ j. i ∷ run (first j + 127 * (e j / 128 % 2048)) (e j % 128)))
 
 module _ (words : List ℕ) (kinds : ℕ → Option Kind) (s : RowsShow words kinds) where
   abbrev nb : ℕ
@@ -140,17 +145,22 @@ module _ (words : List ℕ) (kinds : ℕ → Option Kind) (s : RowsShow words ki
     kept_told : (t : ℕ) → 128 * nb ≤ t → slice_index (set blocks slot value) t ≡ slice_index blocks t
     kept_told t le = let b = slot_in slot is in get_or-set_other blocks slot t value 0 (λ e. omega arith)
 
-  -- a store in a slot sets the row of that slot alone
-  pub row_set : (k slot value : ℕ) → get_elem? (slots_in words) k ≡ some slot → rows_in (set words (3 + slot) value) ≡ set (rows_in words) k value
-  row_set k slot value at =
+  -- a store in a slot sets the row of that slot alone, in the words behind the row count
+  kept_rows : (k slot value : ℕ) → get_elem? (slots_in words) k ≡ some slot → rows_by nb (set blocks slot value) ≡ set (rows_in words) k value
+  kept_rows k slot value at =
       let p = place_in k slot at in
-      ap (λ (z : ℕ × List ℕ). rows_by z.0 z.1) (both_set slot value (k, at))
-      ∙ (ap (λ (n : ℕ). rows_by nb (set blocks n value)) (sym p.1) ∙ stored nb blocks k value s.laid p.0)
+      ap (λ (n : ℕ). rows_by nb (set blocks n value)) (sym p.1) ∙ stored nb blocks k value s.laid p.0
 
-  -- so the words show the kinds that the rows show then
+  -- and so in all words
+  pub row_set : (k slot value : ℕ) → get_elem? (slots_in words) k ≡ some slot → rows_in (set words (3 + slot) value) ≡ set (rows_in words) k value
+  row_set k slot value at = ap (λ (z : ℕ × List ℕ). rows_by z.0 z.1) (both_set slot value (k, at)) ∙ kept_rows k slot value at
+
+  -- so the words show the kinds that the rows show then, and their body words tell the same gaps, where the same pages
+  -- are free
   pub shows_set : (others : ℕ → Option Kind) (k slot value : ℕ) → get_elem? (slots_in words) k ≡ some slot
+      → ((p : ℕ) → p < LIMIT → others p ≡ None → kinds p ≡ None) → ((p : ℕ) → p < LIMIT → kinds p ≡ None → others p ≡ None)
       → ShowFrom 0 (set (rows_in words) k value) others → IsBareGap value → RowsShow (set words (3 + slot) value) others
-  shows_set others k slot value at show bare =
+  shows_set others k slot value at stays_free stayed_free show bare =
       let is : IsSlot words slot = (k, at) in
       let stays : slice_index (set words (3 + slot) value) 2 ≡ slice_index words 2 = get_or-set_other words (3 + slot) 2 value 0 (λ e. omega arith) in
       let wide = length-set words (3 + slot) value in
@@ -171,6 +181,9 @@ module _ (words : List ℕ) (kinds : ℕ → Option Kind) (s : RowsShow words ki
         free = subst (λ (z : ℕ × List ℕ). blocks_of z.0 z.1 < z.0) back
             (subst (λ (n : ℕ). n < nb) (sym (kept_told slot value is (128 * nb) (omega arith))) s.free);
         short = subst (λ (z : ℕ × List ℕ). rows_of z.0 z.1 0 < 64) back (subst (λ (n : ℕ). n < 64) (sym first) s.short);
+        told = subst (λ (z : ℕ × List ℕ). GapsTold z.0 z.1) back (told_freed _ s.laid (kept_told slot value is)
+            (λ n lt. ap (λ (l : List ℕ). free_of l n) (kept_rows k slot value at)
+            ∙ free_stays (rows_in words) kinds others k value s.show show stays_free stayed_free n lt) s.told);
       }
 
   -- words that show kinds show any others that their rows show
@@ -185,4 +198,5 @@ module _ (words : List ℕ) (kinds : ℕ → Option Kind) (s : RowsShow words ki
     counted = s.counted;
     free = s.free;
     short = s.short;
+    told = s.told;
   }

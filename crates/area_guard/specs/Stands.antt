@@ -25,7 +25,8 @@ use Rattle.row_plans.specs.RowLists.{ShowFrom, IsBareGap}
 use Rattle.row_blocks.specs.Blocks.{run, blocks_of, rows_of, IsLaidOut, rows_in as rows_by}
 use Rattle.area_guard.specs.Rows.{nb_in, keeps_in, number_place, layout_in, rows_in, slots_of, slots_in, slots_to, AreNeighbours, IsOneOf, IsSlot}
 use Rattle.area_guard.specs.Rows.{IsRowOf, RowsShow}
-use Rattle.area_guard.specs.Alike.{also_laid, also_rows, also_free, also_short}
+use Rattle.row_blocks.specs.Gaps.{GapsTold}
+use Rattle.area_guard.specs.Alike.{also_laid, also_rows, also_free, also_short, also_told}
 use Rattle.area_guard.specs.Reads.{everything, noted_at, StillStands}
 use Rattle.area_guard.specs.History.{HasBlocks, LagsAt, ShowsBefore, IsShown, without}
 
@@ -206,6 +207,7 @@ rows_beside words place value kinds beside low s =
       counted = count ∙ (s.counted ∙ ap (λ (l : List ℕ). length (slots_of l)) (sym layout));
       free = subst (λ (n : ℕ). blocks_of n (drop 3 two) < n) (sym nb) (also_free (drop 3 two) s.laid fits same s.free);
       short = subst (λ (n : ℕ). rows_of n (drop 3 two) 0 < 64) (sym nb) (also_short (drop 3 two) s.laid fits same s.free s.short);
+      told = subst (λ (n : ℕ). GapsTold n (drop 3 two)) (sym nb) (also_told (drop 3 two) s.laid fits same s.told);
     }
 
 -- a store by the caller who holds everything: of a row

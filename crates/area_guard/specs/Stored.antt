@@ -8,8 +8,6 @@ use mathlib.Core.Option.{some}
 use lib.ListN.{get_elem?}
 use Rattle.space_model.specs.declared.areas.Area.{Area}
 use Rattle.space_model.specs.declared.entries.Entry.{Entry}
-use Rattle.space_model.specs.Areas.{kind_at}
-use Rattle.row_plans.specs.Gaps.{IsGapWord}
 use Rattle.space_model.specs.declared.entries.Under.TheVariants.{Whole}
 use Rattle.space_model.specs.History.{IsLegal, StateAfter}
 use Rattle.lock_core.specs.Grants.{Grants, Holds}
@@ -36,15 +34,13 @@ pub record IsStoredOnce (passes : List Pass) (e : Entry) : Type 0 where
       → (worker ≡ e.worker) × (other ≡ place) × (f ≡ e)
 
 -- the history has as many entries as the number word says, where the space keeps it. It runs from the start with which
--- each caller began to the state that the rows show, and for which the gap word is right, unless a call under
--- everything isn't written yet; what is to be written is right for that state and is what its caller's last entry
--- leaves, and the caller holds the range. The entry of each number is stored once, every stored entry is one of them,
--- and each caller has seen a beginning
+-- each caller began to the state that the rows show, unless a call under everything isn't written yet; what is to be
+-- written is right for that state and is what its caller's last entry leaves, and the caller holds the range. The entry
+-- of each number is stored once, every stored entry is one of them, and each caller has seen a beginning
 pub record IsStored (grants : Grants) (words : List ℕ) (passes : List Pass) (history : List Entry) (start state : List Area) : Type 0 where
   pub runs : Runs 0 start history state
   pub began : (worker : ℕ) (pass : Pass) → get_elem? passes worker ≡ some pass → pass.start ≡ start
   pub rows : planned_count passes ≡ 0 → RowsStandFor state passes words
-  pub gap : planned_count passes ≡ 0 → IsGapWord (kind_at state) (slice_index words 0)
   pub pending : (worker : ℕ) (pass : Pass) → get_elem? passes worker ≡ some pass → Backs grants state worker pass.pending
   pub owed : (worker : ℕ) (pass : Pass) → get_elem? passes worker ≡ some pass → IsOwed start history pass.mine pass.pending
   pub sequence : slice_index words 1 + planned_count passes ≡ whole_count history
@@ -84,7 +80,7 @@ LayoutIsOfWhole = (grants : Grants) (words : List ℕ) (passes : List Pass) (wor
     → (plan : Splice) × IsOfWhole grants passes worker plan
 
 -- while a call under everything is to be written, its caller stores rows that stood before it or that it leaves, in
--- slots, their count, the gap word, and words of the layout; and no word that stands there already
+-- slots, their count, and words of the layout; and no word that stands there already
 abbrev pub StoresAreNew : Type 0
 StoresAreNew = (grants : Grants) (words : List ℕ) (passes : List Pass) (worker place value : ℕ) (note : Note) (pass after : Pass)
     (plan : Splice) → get_elem? passes worker ≡ some pass → pass.pending ≡ Planned plan

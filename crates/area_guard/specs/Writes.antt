@@ -22,7 +22,6 @@ use Rattle.area_guard.specs.declared.guard.Splice.{Splice}
 use Rattle.area_guard.specs.declared.guard.Pending.TheVariants.{AtRest, Planned, OneRow}
 use Rattle.area_guard.specs.Rows.{nb_in, RowsShow}
 use Rattle.row_plans.specs.Plans.{PlanShows}
-use Rattle.row_plans.specs.Gaps.{IsGapWord}
 use Rattle.row_plans.specs.RowLists.{areas_from}
 use Rattle.row_plans.proofs.PlanLeft.{counted_rows}
 use Rattle.row_plans.proofs.RowLists.{areas_back}
@@ -30,11 +29,11 @@ use Rattle.area_guard.specs.Reads.{everything, StillStands}
 use Rattle.area_guard.specs.Changes.{alone}
 use Rattle.area_guard.specs.History.{HasBlocks, IsPart, planned_calls, planned_count, ShowsBefore, IsShown, IsRunningSpace}
 use Rattle.area_guard.specs.History.{HasPages, HoldsPages, HasReadNothing, Backs, IsBacked, AreBacked, after_layout, rows_after}
-use Rattle.area_guard.specs.History.{after_store, after_gap, after_raise, MayStore}
-use Rattle.area_guard.specs.History.MayStore.{store_row, store_count, store_gap, store_layout}
+use Rattle.area_guard.specs.History.{after_store, after_raise, MayStore}
+use Rattle.area_guard.specs.History.MayStore.{store_row, store_count, store_layout}
 use Rattle.area_guard.specs.Stands.{nb_stays, room_stays, number_stays, all_stand, same_low, rows_beside, stored_all, laid_all}
 use Rattle.area_guard.specs.Parts.{count_set, most_set, room_kept, no_wrap, whole_few, planned_set, planned_le, planned_of, blank_part}
-use Rattle.area_guard.specs.Parts.{stored, stored_count, stored_gap, stored_layout, raised_after}
+use Rattle.area_guard.specs.Parts.{stored, stored_count, stored_layout, raised_after}
 
 -- who holds everything as a writer holds pages alone, and nobody else does
 pub everything_pages : HasPages everything
@@ -129,7 +128,6 @@ module _ (grants : Grants) (start : List Areas) (history : List Entry) (state : 
         small = let m = most_set passes worker p q at may in omega arith;
         room = room_kept words (set words place value) (row_count start) passes worker p q at may (nb_stays words place value (omega arith)) r.room;
         rows = λ none. absurd (omega arith);
-        gap = λ none. absurd (omega arith);
         parts = λ other x there. ⊎_elim (λ t. subst (λ (z : ℕ × Pass). IsPart start history (set words place value) z.0 z.1) (λ i. (sym t.0 i, t.1 i)) part)
             (λ t. other_part place value other x low t.0 t.1) (at_set passes worker other q x there);
         no_other = λ other le. r.no_other other (omega arith);
@@ -167,15 +165,6 @@ module _ (grants : Grants) (start : List Areas) (history : List Entry) (state : 
         store_backed (set words 2 value) (after_layout 0 value p) (laid_all words 2 value p.rows (inl refl) (omega arith) own_rows)
             (backed worker p at).pending,
       )
-  stores_keep place value after (store_gap e is) =
-      let room = wide.1 in
-      subst (λ (z : ℕ × Pass). IsRunningSpace start history state (set words z.0 value) (set passes worker z.1)
-      × AreBacked grants (set words z.0 value) state (set passes worker z.1)) (λ i. (sym e i, sym is i)) (
-        store_keeps 0 value (after_gap value p) (λ e. omega arith) (omega arith)
-            (stored_gap start history state words worker p (r.parts worker p at) value) refl refl refl,
-        store_backed (set words 0 value) (after_gap value p) (all_stand (Some everything) words (set words 0 value)
-            (same_low words 0 value (omega arith) (omega arith)) p.rows own_rows) (backed worker p at).pending,
-      )
   stores_keep place value after (store_layout index few e is) =
       let same = wide.0 in
       let room = wide.1 in
@@ -197,9 +186,8 @@ module _ (grants : Grants) (start : List Areas) (history : List Entry) (state : 
     elsewhere = λ page free. refl;
   }
 
-  pub raise_keeps : RowsShow words (kind_at state) → IsGapWord (kind_at state) (slice_index words 0)
-      → IsRunningSpace start history state (words_after words (adds 1 1)) (set passes worker (after_raise p))
-  raise_keeps written right =
+  pub raise_keeps : RowsShow words (kind_at state) → IsRunningSpace start history state (words_after words (adds 1 1)) (set passes worker (after_raise p))
+  raise_keeps written =
       let q : Pass = after_raise p in
       let value = (slice_index words 1 + 1) % 2 ^ 64 in
       let room = wide.1 in
@@ -222,7 +210,6 @@ module _ (grants : Grants) (start : List Areas) (history : List Entry) (state : 
         small = let m = most_set passes worker p q at refl in omega arith;
         room = room_kept words (set words 1 value) (row_count start) passes worker p q at refl (nb_stays words 1 value (omega arith)) r.room;
         rows = λ none. (kind_at state, shown_after, rows_beside words 1 value (kind_at state) (inl (omega arith)) (omega arith) written);
-        gap = λ none. subst (IsGapWord (kind_at state)) (sym (get_or-set_other words 1 0 value 0 (λ e. omega arith))) right;
         parts = λ other x there. ⊎_elim (λ t. subst (λ (z : ℕ × Pass). IsPart start history (set words 1 value) z.0 z.1) (λ i. (sym t.0 i, t.1 i))
             (raised_after start history state words worker p (r.parts worker p at) value)) (λ t. other_part 1 value other x (omega arith) t.0 t.1)
             (at_set passes worker other q x there);

@@ -97,9 +97,6 @@ pub struct Pass {
     pub rows: LinkedList<ReadRow>,
     /// The sequence word, where the caller has read it under the range that it holds.
     pub sequence: Option<u64>,
-    /// The gap word (`IsGapWord` of `row_plans`), where the caller has noted it with the layout under the range that it
-    /// holds, or stored it.
-    pub gap: Option<u64>,
     /// What the caller's last call still has to write.
     pub pending: Pending,
     /// What the caller held at the step that drew its last number.

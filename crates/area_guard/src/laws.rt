@@ -29,7 +29,7 @@ pub fn count_is_of_everything()
 {}
 
 /// While a call under everything has its number and isn't written yet, its caller stores nothing but rows that stood
-/// before this call or that it leaves, in slots; their count; the gap word; and the words that say which words are
+/// before this call or that it leaves, in slots; their count; and the words that say which words are
 /// rows. None of these is stored where it stands already. It does nothing.
 pub fn stores_are_new()
     ensures { StoresAreNew }

@@ -9,7 +9,7 @@ use mathlib.Core.Option.{some}
 use lib.ListN.{get_elem?}
 use Rattle.atomic_table.specs.Seated.{TableId}
 use Rattle.atomic_table.proofs.Lists.{at_index}
-use Rattle.page_types.specs.declared.TheConstants.{ROWS}
+use Rattle.page_types.specs.declared.TheConstants.{LIMIT, ROWS}
 use Rattle.page_types.specs.Named.{IsNamedCall, IsNamedReply}
 use Rattle.space_model.specs.declared.areas.Area.{Area}
 use Rattle.space_model.specs.declared.entries.Entry.{Entry}
@@ -28,12 +28,15 @@ use Rattle.area_guard.specs.Slots.{slots_as}
 use Rattle.area_guard.specs.Rows.{nb_in, keeps_by, blocks_by, rows_in, RowsShow, number_place}
 use Rattle.area_guard.specs.History.{IsPart, own_planned, planned_calls, planned_count, ShowsBefore, IsShown, IsRunningSpace, IsBacked, AreBacked, HasRoom}
 use Rattle.area_guard.specs.History.{HasHistory, own_count, entry_count, own_most, most_count, newcomer}
+use Rattle.row_plans.specs.RowWords.{row_start}
 use Rattle.row_plans.specs.RowLists.{rows_from, areas_from, ShowFrom, IsBareGap}
 use Rattle.row_plans.proofs.RowLists.{length-rows, shows_from, areas_back, bare_from}
 use Rattle.row_blocks.specs.Blocks.{IsLaidOut, blocks_of, rows_of, rows_in as rows_by}
+use Rattle.row_blocks.specs.Gaps.{GapsTold}
 use Rattle.row_blocks.proofs.Slots.{length-slots_in, length-rows_in}
 use Rattle.area_rows.specs.Callers.{CallerView, AreNewCallersIn, new_pass}
 use Rattle.area_rows.specs.Opening.{IsOpening, told_of}
+use Rattle.area_rows.proofs.Moments.{starts_below}
 
 -- the number of all words of a table tells how many blocks there are, where it was chosen so
 pub blocks_told : (table : TableId) {words : ℕ} (nb : ℕ) (keeps : Bool) → table.words ≡ words → words % 514 ≡ told_of nb keeps → nb % 8 ≡ 0 → nb ≤ 2048
@@ -65,6 +68,10 @@ shows start areas named = shows_from 0 start (kind_at start) (omega arith) areas
 pub some_start : (start : List Area) → IsAreaList start → HasNamedKinds start → 0 < length (rows_from 0 start)
 some_start start areas named = some_rows (rows_from 0 start) (kind_at start) (shows start areas named)
 
+-- and each starts at or below the limit
+pub start_low : (start : List Area) → IsAreaList start → HasNamedKinds start → All (λ w. row_start w ≤ LIMIT) (rows_from 0 start)
+start_low start areas named = starts_below 0 (rows_from 0 start) (kind_at start) (shows start areas named)
+
 module _ {start : List Area} {calls : List ℕ} {nb : ℕ} {keeps : Bool} {words : List ℕ} (o : IsOpening start calls nb keeps words) (areas : IsAreaList start)
     (named : HasNamedKinds start) where
   rows_back : rows_in words ≡ rows_from 0 start
@@ -90,6 +97,7 @@ module _ {start : List Area} {calls : List ℕ} {nb : ℕ} {keeps : Bool} {words
             ∙ (sym (length-slots_in (nb_in words) (drop 3 words)) ∙ sym (ap length (slots_as words room laid))))));
         free = subst (λ (n : ℕ). blocks_of n (drop 3 words) < n) back o.free;
         short = subst (λ (n : ℕ). rows_of n (drop 3 words) 0 < 64) back o.short;
+        told = subst (λ (n : ℕ). GapsTold n (drop 3 words)) back o.told;
       }
 
   -- a newcomer over the opening's words has the pass that a new caller has
@@ -169,7 +177,6 @@ runs_new {start} {calls} {nb} {keeps} {words} o areas named few callers enough s
       small = omega arith;
       room = subst (λ (z : ℕ × ℕ). HasRoom z.0 (row_count start) z.1) (λ i. (sym o.blocks i, sym most i)) enough;
       rows = λ none. (kind_at start, shown_new start calls nb keeps (length calls), opens_rows o areas named few);
-      gap = λ none some. let word = o.gap in absurd (omega arith);
       parts = λ worker pass at.
           let f = at_firsts first 0 (length calls) worker pass at in
           subst (λ (q : Pass). IsPart start [] words worker q) (sym f.1) (record {
@@ -181,7 +188,6 @@ runs_new {start} {calls} {nb} {keeps} {words} o areas named few callers enough s
             owed = tt;
             laid = λ l e. absurd (none_is l e);
             sequence = λ n e. absurd (none_is n e);
-            gap = λ n e. absurd (none_is n e);
           });
       no_other = λ worker le. refl;
       total = sym (no_entries first 0 (length calls) (λ i. refl));
@@ -192,7 +198,7 @@ backs_new : (grants : Grants) (words : List ℕ) (start : List Area) (calls : Li
 backs_new grants words start calls room keeps callers worker pass at =
     let f = at_firsts (first_of start calls room keeps) 0 callers worker pass at in
     subst (λ (q : Pass). IsBacked grants words start worker q) (sym f.1)
-    (record { reads = inl (refl, refl, refl, refl); rows = λ held has. All-nil (StillStands held words); pending = tt })
+    (record { reads = inl (refl, refl, refl); rows = λ held has. All-nil (StillStands held words); pending = tt })
 
 -- the words of an opening meet the guard
 pub opens : (grants : Grants) {start : List Area} {calls : List ℕ} {nb : ℕ} {keeps : Bool} {words : List ℕ} → IsOpening start calls nb keeps words
@@ -219,7 +225,6 @@ caller_with s left more = record {
   count = 0;
   cut = record { at = record { block = 0; place = 0 }; gone = 0 };
   more = more;
-  gap = 0;
   change = None;
 }
 
@@ -254,7 +259,6 @@ pub one_caller : (lists : ℕ) (table : TableId) (start : List Area) (calls : Li
       count = 0;
       cut = record { at = record { block = 0; place = 0 }; gone = 0 };
       more = [];
-      gap = 0;
       change = None;
     } → AreNewCallersIn lists table start calls (made ++ c ∷ [])
 one_caller lists table start calls made {c} {n} e all is =
@@ -264,6 +268,5 @@ one_caller lists table start calls made {c} {n} e all is =
       count = 0;
       cut = record { at = record { block = 0; place = 0 }; gone = 0 };
       more = [];
-      gap = 0;
       change = None;
     }) made c n e all is

@@ -18,18 +18,19 @@ pub head_slot : (layout : List ℕ) (i : ℕ) → slot_at layout (128 * i) ≡ i
 head_slot layout i =
     let place : (128 * i) % 128 ≡ 0 = omega arith in
     let block : 128 * i / 128 ≡ i = omega arith in
-    (λ k. if place k == 0 then block k else (length layout - 2 + 127 * (slice_index layout (2 + block k) / 128) + place k - 1))
+    (λ k. if place k == 0 then block k else (length layout - 2 + 127 * (slice_index layout (2 + block k) / 128 % 2048) + place k - 1))
 
 -- and behind the head so many words behind the beginning of the body
-pub body_slot : (layout : List ℕ) (i m : ℕ) → m < 127 → slot_at layout (128 * i + (m + 1)) ≡ length layout - 2 + 127 * (slice_index layout (2 + i) / 128) + m
+pub body_slot : (layout : List ℕ) (i m : ℕ) → m < 127
+    → slot_at layout (128 * i + (m + 1)) ≡ length layout - 2 + 127 * (slice_index layout (2 + i) / 128 % 2048) + m
 body_slot layout i m lt =
     let n : ℕ = 128 * i + (m + 1) in
     let place : (128 * i + (m + 1)) % 128 ≡ m + 1 = omega arith in
     let block : (128 * i + (m + 1)) / 128 ≡ i = omega arith in
     let body : slice_index layout (2 + n / 128) ≡ slice_index layout (2 + i) = ap (λ (k : ℕ). slice_index layout (2 + k)) block in
     let behind : (n % 128 == 0) ≡ false = ne_eqb (n % 128) 0 (λ e. absurd (omega arith)) in
-    let far : ℕ = length layout - 2 + 127 * (slice_index layout (2 + n / 128) / 128) + n % 128 - 1 in
-    let same : far ≡ length layout - 2 + 127 * (slice_index layout (2 + i) / 128) + m = omega arith in
+    let far : ℕ = length layout - 2 + 127 * (slice_index layout (2 + n / 128) / 128 % 2048) + n % 128 - 1 in
+    let same : far ≡ length layout - 2 + 127 * (slice_index layout (2 + i) / 128 % 2048) + m = omega arith in
     ap (λ (b : Bool). if b then n / 128 else far) behind ∙ same
 
 -- how many rows a block has behind its head, by a layout
@@ -37,13 +38,13 @@ abbrev pub rows_by : List ℕ → ℕ → ℕ
 rows_by layout i = slice_index layout (2 + i) % 128
 
 block_long : (layout : List ℕ) (i : ℕ) → length (block_slots layout i) ≡ suc (rows_by layout i)
-block_long layout i = ap suc (length-run (length layout - 2 + 127 * (slice_index layout (2 + i) / 128)) (rows_by layout i))
+block_long layout i = ap suc (length-run (length layout - 2 + 127 * (slice_index layout (2 + i) / 128 % 2048)) (rows_by layout i))
 
 block_at : (layout : List ℕ) (i j : ℕ) → j ≤ rows_by layout i → get_or (block_slots layout i) j 0 ≡ slot_at layout (128 * i + j)
 block_at layout i zero le = let e : 128 * i ≡ 128 * i + 0 = omega arith in sym (head_slot layout i) ∙ ap (slot_at layout) e
 block_at layout i (suc m) le =
     let e : 128 * i + (m + 1) ≡ 128 * i + suc m = omega arith in
-    at_run (length layout - 2 + 127 * (slice_index layout (2 + i) / 128)) (rows_by layout i) m (omega arith)
+    at_run (length layout - 2 + 127 * (slice_index layout (2 + i) / 128 % 2048)) (rows_by layout i) m (omega arith)
     ∙ (sym (body_slot layout i m (omega arith)) ∙ ap (slot_at layout) e)
 
 module _ (layout : List ℕ) (i j : ℕ) (in_use : i < slice_index layout 1) (le : j ≤ rows_by layout i) where
@@ -102,12 +103,12 @@ last_place layout i last =
 
 -- the slot of a place of a block, from its body word
 pub place_slot : (layout : List ℕ) (nb i j : ℕ) {told : ℕ} (slot : ℕ) → length layout ≡ nb + 2 → slice_index layout (2 + i) ≡ told → j < 128
-    → (j ≡ 0 → slot ≡ i) → (0 < j → slot + 1 ≡ nb + 127 * (told / 128) + j) → slot_at layout (128 * i + j) ≡ slot
+    → (j ≡ 0 → slot ≡ i) → (0 < j → slot + 1 ≡ nb + 127 * (told / 128 % 2048) + j) → slot_at layout (128 * i + j) ≡ slot
 place_slot layout nb i j slot long is low head body = elim (cases_lt 0 j) [
   | inl some_place ↦
       let up : 128 * i + (j - 1 + 1) ≡ 128 * i + j = omega arith in
       let at = body_slot layout i (j - 1) (omega arith) in
-      let block = ap (λ (x : ℕ). x / 128) is in
+      let block = ap (λ (x : ℕ). x / 128 % 2048) is in
       let e = body some_place in
       sym (ap (slot_at layout) up) ∙ (at ∙ omega arith)
   | inr none ↦
@@ -156,7 +157,7 @@ module _ (layout : List ℕ) (i j : ℕ) (in_use : i < slice_index layout 1) whe
 
 -- a place behind the head is a slot
 pub body_there : (layout : List ℕ) (nb i : ℕ) {told : ℕ} (from place : ℕ) → length layout ≡ nb + 2 → slice_index layout (2 + i) ≡ told
-    → i < slice_index layout 1 → 0 < place → place ≤ told % 128 → from + 1 ≡ nb + 127 * (told / 128) → IsOneOf (slots_of layout) (from + place)
+    → i < slice_index layout 1 → 0 < place → place ≤ told % 128 → from + 1 ≡ nb + 127 * (told / 128 % 2048) → IsOneOf (slots_of layout) (from + place)
 body_there layout nb i from place long is in_use some_place le begins =
     let rows = ap (λ (x : ℕ). x % 128) is in
     let slot : slot_at layout (128 * i + place) ≡ from + place =

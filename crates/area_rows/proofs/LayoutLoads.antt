@@ -10,15 +10,13 @@ use Rattle.lock_core.specs.declared.range.Held.{Held}
 use Rattle.lock_core.specs.Client.{loads, IsAllowed, IsMade}
 use Rattle.range_rw.specs.Contract.{SeatState, TableShape, IsClientCall}
 use Rattle.space_model.specs.declared.entries.Entry.{Entry}
-use Rattle.space_model.specs.declared.areas.Area.{Area}
-use Rattle.space_model.specs.Areas.{kind_at, row_count}
+use Rattle.space_model.specs.Areas.{row_count}
 use Rattle.area_guard.specs.declared.guard.Note.{Note}
 use Rattle.area_guard.specs.declared.guard.Pass.{Pass}
 use Rattle.area_guard.specs.declared.guard.ReadRow.{ReadRow}
 use Rattle.area_guard.specs.Draws.{only_load}
-use Rattle.area_guard.specs.History.MayLoad.{number, glance, sequence, layout, gap_word, row}
+use Rattle.area_guard.specs.History.MayLoad.{number, glance, sequence, layout, row}
 use Rattle.area_guard.specs.Keeping.{no_note}
-use Rattle.area_guard.specs.Writes.{everything_pages}
 use Rattle.area_guard.specs.Rows.{nb_in, layout_in, slots_to, rows_in, blocks_by, room_of, IsLayoutPlace, IsInReach, RowsShow}
 use Rattle.area_guard.specs.Parts.{rows_fit}
 use Rattle.area_guard.specs.Reads.{everything, HasRead, StillStands, layout_by, noted_at, known_rows, KnowsRows}
@@ -29,10 +27,8 @@ use Rattle.plan_words.proofs.Seeing.{seen_words, known_blocks}
 use Rattle.area_rows.specs.Callers.{IsHeldPages, IsReading}
 use Rattle.area_rows.specs.Layouts.{IsLayout, IsSeen, layout_place}
 use Rattle.area_rows.proofs.Reading.{read_behind, step_reads}
-use Rattle.area_rows.proofs.Moments.{held_pages, here_at, stands, nobody_plans, rows_are}
+use Rattle.area_rows.proofs.Moments.{held_pages, here_at, stands, rows_are}
 use Rattle.area_rows.proofs.Stepping.{rows_here, whole_list, step_of}
-use Rattle.row_plans.specs.RowLists.{areas_from}
-use Rattle.row_plans.specs.Gaps.{IsGapWord}
 use Rattle.row_plans.proofs.PlanLeft.{counted_rows}
 
 -- the layout of words that show kinds
@@ -68,7 +64,6 @@ module _ {own : Option Held → Type 0} {free held : Type 0} {words : List ℕ} 
   layout_tells at (glance f e is) = absurd (⊎_elim (λ two. omega arith) (λ t. let a = t.0 in omega arith) at)
   layout_tells at (sequence h e is) = absurd (⊎_elim (λ two. omega arith) (λ t. let a = t.0 in omega arith) at)
   layout_tells at (layout h e is) = is
-  layout_tells at (gap_word h e is) = absurd (⊎_elim (λ two. omega arith) (λ t. let a = t.0 in omega arith) at)
   layout_tells at (row i h few e is) = absurd (⊎_elim (λ two. omega arith) (λ t. let a = t.0 in omega arith) at)
 
 module _ (note : Note) (seat : ℕ) (held : Option Held) (pass : Pass) where
@@ -89,9 +84,9 @@ has_noted words (s ∷ rest) rows all slot word h = ⊎_elim (λ t. ap (λ (n : 
 
 -- with a word of the layout a caller that holds everything knows all rows
 pub seen_all : {words : List ℕ} {kinds : ℕ → Option Kind} (p : Pass) {keeps : Bool} → HasBlocks words p.blocks keeps → RowsShow words kinds
-    → IsGapWord (kind_at (areas_from (rows_in words))) (slice_index words 0) → ((slot word : ℕ)
-    → HasRead p.rows slot word → slice_index words (3 + slot) ≡ word) → KnowsRows (after_seen words p) × (known_rows (after_seen words p) ≡ rows_in words)
-seen_all {words} {kinds} p room s right stand =
+    → ((slot word : ℕ) → HasRead p.rows slot word → slice_index words (3 + slot) ≡ word)
+    → KnowsRows (after_seen words p) × (known_rows (after_seen words p) ≡ rows_in words)
+seen_all {words} {kinds} p room s stand =
     let k = seen_words words p room in
     let at = known_at words (after_seen words p) room k (has_noted words (slots_to (nb_in words)) p.rows stand) (λ old e. ap layout_by e) in
     let b = known_blocks words kinds (after_seen words p) room s k at in (
@@ -99,7 +94,6 @@ seen_all {words} {kinds} p room s right stand =
         words = k;
         blocks = b.0;
         counted = sym (rows_many words kinds s) ∙ sym (ap length b.1);
-        gap = (slice_index words 0, refl, subst (λ (l : List ℕ). IsGapWord (kind_at (areas_from l)) (slice_index words 0)) (sym b.1) right);
       },
       b.1,
     )
@@ -135,7 +129,6 @@ seen_is {s} {u} index {place} found same_blocks le at some_held pages rest call 
       blocks = same_blocks;
       step = step_of (subst (λ (n : ℕ). IsClientCall s n u) at call) seen;
       again = λ old laid. part.laid old laid;
-      gap = λ old noted. part.gap old noted;
       all = λ everywhere.
           let granted : get_elem? made.0 s.number ≡ some (Some everything) = m.grant ∙ ap some everywhere in
           let stood : All (StillStands (Some everything) words) s.pass.rows =
@@ -144,10 +137,7 @@ seen_is {s} {u} index {place} found same_blocks le at some_held pages rest call 
           let rested : IsAtRest here.pass = ap (λ (x : Pass). x.pending) same ∙ rest in
           let list = whole_list no_note s.number s.held s.pass here rested granted in
           let are = rows_are here granted rested refl in
-          let right : IsGapWord (kind_at (areas_from (rows_in words))) (slice_index words 0) =
-          subst (λ (A : List Area). IsGapWord (kind_at A) (slice_index words 0)) (sym are.1)
-          (here.running.gap (nobody_plans here rested (everything, granted, everything_pages))) in
-          let known = seen_all s.pass part.room rows.2 right
+          let known = seen_all s.pass part.room rows.2
           (λ slot word has. (stands (Some everything) words s.pass.rows slot word stood has).word refl) in
           let long = counted_rows (rows_in words) list in let state = ap row_count are.1 in
           let fits = rows_fit here.start here.history here.state words made.2 here.running in (
@@ -164,7 +154,6 @@ seen_reads {a} s = step_reads s.step refl refl refl refl refl (record {
   laid = λ old e. ap (λ (l : List ℕ). Some l) (s.again old e);
   rows = λ slot word h. read_behind (noted_at s.words (slots_to (nb_in s.words))) a.pass.rows slot word h;
   sequence = λ m e. e;
-  gap = λ m e. ap Some (s.gap m e);
   pending = refl;
   blocks = refl;
 })

@@ -1,8 +1,8 @@
 -- What is so at a moment of the running space of a caller that holds pages: nobody else has a plan to write, and the
 -- rows show the state at each held page.
-use Rattle.std.proofs.Common.{◌≡◌, ℕ, suc, ◌+◌, ◌<◌, List, [], ◌∷◌, length, get_or, set, sym, refl, ap, ◌∙◌, subst, arith, ⊎_elim}
+use Rattle.std.proofs.Common.{◌≡◌, ℕ, suc, ◌+◌, ◌<◌, ◌≤◌, List, [], ◌∷◌, length, get_or, set, sym, refl, ap, ◌∙◌, subst, arith, ⊎_elim}
 use Rattle.std.proofs.lemmas.Bool.{false≢true}
-use Rattle.std.proofs.lemmas.List.Elements.{All-head, All-tail}
+use Rattle.std.proofs.lemmas.List.Elements.{All-cons, All-head, All-nil, All-tail}
 use Rattle.std.proofs.lemmas.List.Sums.{sum_by-cons}
 use Rattle.std.specs.Prelude.{All, Option, Some, None, IsSome, slice_index}
 use mathlib.Core.Option.{some, some-injective}
@@ -59,6 +59,13 @@ shows_agree page [] kinds other same s = s
 shows_agree page (w ∷ rest) kinds other same s =
     let l = starts_low (rows_start rest) rest kinds s.4 in
     (s.0, s.1, s.2, λ p from below. same p (omega arith) ∙ s.3 p from below, shows_agree (rows_start rest) rest kinds other same s.4)
+
+-- each of them starts at or below the limit
+pub starts_below : (page : ℕ) (rows : List ℕ) (kinds : ℕ → Option Kind) → ShowFrom page rows kinds → All (λ w. row_start w ≤ LIMIT) rows
+starts_below page [] kinds s = All-nil (λ (w : ℕ). row_start w ≤ LIMIT)
+starts_below page (w ∷ rest) kinds s =
+    let l = starts_low page (w ∷ rest) kinds s in let e = s.0 in
+    All-cons (λ (v : ℕ). row_start v ≤ LIMIT) w rest (omega arith) (starts_below (rows_start rest) rest kinds s.4)
 
 -- rows that show kinds show any others that are the same at each page below the limit
 pub rows_agree : {words : List ℕ} {kinds : ℕ → Option Kind} (other : ℕ → Option Kind) → ((p : ℕ) → p < LIMIT → other p ≡ kinds p) → RowsShow words kinds
@@ -165,7 +172,6 @@ moment_of {grants} {words} {passes} {seat} here s granted n same = record {
     laid = λ layout e. ap (λ (x : Pass). x.laid) same ∙ e;
     rows = λ index word h. subst (λ (x : Pass). HasRead x.rows index word) (sym same) h;
     sequence = λ k e. ap (λ (x : Pass). x.sequence) same ∙ e;
-    gap = λ k e. ap (λ (x : Pass). x.gap) same ∙ e;
     pending = ap (λ (x : Pass). x.pending) same;
     blocks = ap (λ (x : Pass). x.blocks) same;
   };

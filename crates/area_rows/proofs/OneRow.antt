@@ -8,7 +8,7 @@ use mathlib.Core.Option.{some}
 use lib.ListN.{get_elem?}
 use Rattle.page_types.specs.declared.calls.Kind.{Kind}
 use Rattle.area_guard.specs.declared.guard.Change.{Change}
-use Rattle.area_guard.specs.Changes.{with_change}
+use Rattle.area_guard.specs.Changes.{IsIn, with_change}
 use Rattle.area_guard.specs.RowStores.{in_change, out_of_change}
 use Rattle.area_rows.specs.declared.row.Row.{Row}
 use Rattle.area_rows.specs.OneStore.{IsOneStore}
@@ -142,6 +142,12 @@ module _ {rows : List ℕ} (kinds : ℕ → Option Kind) {k : ℕ} {row : Row} {
 
   own_row : ShownAt rows kinds k
   own_row = shown_at 0 rows kinds k show f.there
+
+  -- the pages of the change are mapped before it
+  pub mapped_there : (p : ℕ) → IsIn c.place p → kinds p ≡ Some c.old
+  mapped_there p i =
+      let low = i.0 in let high = i.1 in let lo = f.lo in let hi = f.hi in
+      own_row.within p (omega arith) (omega arith) ∙ (f.kind ∙ old)
 
   -- the row before, where there is one
   row_before : (i : ℕ) → suc i ≡ k → ShownAt rows kinds i

@@ -162,7 +162,7 @@ read_behind (r ∷ front) rows index word has = inr (read_behind front rows inde
 -- a load of a row is one
 pub row_reads : (a b : SeatState Pass) (index word : ℕ) → IsClientStep a (3 + index) (after_row index word a.pass) b → IsReading a b
 row_reads a b index word s = step_reads s refl refl refl refl refl
-    (record { laid = λ layout e. e; rows = λ i w h. inr h; sequence = λ n e. e; gap = λ n e. e; pending = refl; blocks = refl })
+    (record { laid = λ layout e. e; rows = λ i w h. inr h; sequence = λ n e. e; pending = refl; blocks = refl })
 
 -- what a range has shown lasts while the caller reads more rows
 pub shows_on : {a b : SeatState Pass} (what : List ℕ → List Area → Type 0) → IsReading a b → Shows a what → Shows b what

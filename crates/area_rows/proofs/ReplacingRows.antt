@@ -1,7 +1,8 @@
 -- A caller that holds its area and a page on each side, and has read the rows round it, may store its change: what it
 -- has read is so still, whatever other callers do beside its pages.
 use Rattle.std.proofs.Common.{◌≡◌, ℕ, suc, ◌+◌, ◌-◌, ◌<◌, ◌≤◌, inl, inr, List, get_or, set, sym, refl, ap, ◌∙◌, subst, arith, ⊎_elim}
-use Rattle.std.specs.Prelude.{All, Option, Some, slice_index}
+use Rattle.std.proofs.lemmas.Bool.{cases_lt}
+use Rattle.std.specs.Prelude.{All, Option, None, Some, slice_index}
 use mathlib.Core.Option.{some, some-injective}
 use lib.ListN.{get_elem?}
 use Rattle.page_types.specs.declared.TheConstants.{LIMIT}
@@ -22,7 +23,8 @@ use Rattle.area_guard.specs.Rows.{IsInReach}
 use Rattle.area_guard.specs.Slots.{slots_many, rows_are, slots_apart, shows_set, slot_in as slot_below}
 use Rattle.area_guard.specs.Reads.{IsHeldPage, HasRead, StillStands}
 use Rattle.area_guard.specs.Changes.{IsIn, alone, new_word, with_change, MayReplace}
-use Rattle.area_guard.specs.Parts.{some_is}
+use Rattle.area_guard.specs.RowStores.{in_change, out_of_change}
+use Rattle.area_guard.specs.Parts.{none_is, some_is}
 use Rattle.area_guard.specs.Writes.{span_pages}
 use Rattle.area_guard.specs.Keeping.{no_note}
 use Rattle.area_guard.specs.History.{planned_calls, RowsStandFor, HasHistory, Allowed, MayWrite, after_change}
@@ -35,7 +37,7 @@ use Rattle.area_rows.proofs.Moments.{stands, only_own_plan, here_at}
 use Rattle.area_rows.proofs.Neighbours.{row_there, next_same, none_next, word_says, end_is}
 use Rattle.area_rows.proofs.Stepping.{step_of}
 use Rattle.area_rows.proofs.Reading.{below_end, kind_now, row_is_still}
-use Rattle.area_rows.proofs.OneRow.{IsRowIn, replaced_shows}
+use Rattle.area_rows.proofs.OneRow.{IsRowIn, mapped_there, replaced_shows}
 use Rattle.row_plans.specs.RowWords.{row_start, row_kind}
 use Rattle.row_plans.specs.RowLists.{ShowFrom, areas_from}
 use Rattle.row_plans.proofs.ReadBack.{start_back, kind_back}
@@ -172,6 +174,16 @@ behind_there : (rows : List ReadRow) (slots : List ℕ) (slot next : ℕ) {behin
     → behind ≡ Some kind → AreNeighbours slots slot next × (word : ℕ) × HasRead rows next word × (behind ≡ row_kind word)
 behind_there rows slots slot next {behind} kind read is = ⊎_elim (λ t. absurd (some_none kind behind t.1 is)) (λ t. t) read
 
+-- a page is in a span, or isn't
+in_or_out : (span : Span) (page : ℕ) (P : Type 0) → (IsIn span page → P) → ((IsIn span page → ⊥) → P) → P
+in_or_out span page P yes_in no_in = elim (cases_lt page span.lo) [
+  | inl lt ↦ no_in (λ i. absurd (omega arith))
+  | inr ge ↦ elim (cases_lt page span.hi) [
+    | inl less ↦ yes_in (ge, less)
+    | inr over ↦ no_in (λ i. absurd (omega arith))
+  ]
+]
+
 -- so the change may be stored
 module _ (c : Change) {words : List ℕ} {kinds : ℕ → Option Kind} (s : RowsShow words kinds) {row : Row} {next : ℕ} {before behind : Option Kind}
     {read : List ReadRow} (a : IsAround c.span words read row next before behind) (named : IsNamedKind c.kind) (old : row.kind ≡ Some c.old)
@@ -206,7 +218,12 @@ module _ (c : Change) {words : List ℕ} {kinds : ℕ → Option Kind} (s : Rows
       → RowsShow (set words (3 + c.index) (new_word c)) (with_change c others)
   shows_after store others o =
       let r = replaced o store in
-      shows_set words others o (with_change c others) r.0 c.index (new_word c) r.1 r.2
+      let mapped = mapped_there others c (new_word c) o.show (row_in s a) old named_word kind_word from c.place.ordered until in
+      shows_set words others o (with_change c others) r.0 c.index (new_word c) r.1
+      (λ p low free. in_or_out c.place p (others p ≡ None) (λ i. absurd (none_is c.new (sym free ∙ in_change c others p i)))
+      (λ out. sym (out_of_change c others p out) ∙ free))
+      (λ p low free. in_or_out c.place p (with_change c others p ≡ None) (λ i. absurd (none_is c.old (sym free ∙ mapped p i)))
+      (λ out. out_of_change c others p out ∙ free)) r.2
       (λ none. absurd (some_none c.kind (row_kind (new_word c)) none kind_word))
 
   used : IsOneStore own_slot next row before behind c → IsSlot words c.index

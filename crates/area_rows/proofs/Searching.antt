@@ -1,5 +1,5 @@
 -- What the two searches have found, over the heads and in a block, is a row and its end as they were read.
-use Rattle.std.proofs.Common.{◌≡◌, ℕ, ◌+◌, ◌-◌, ◌*◌, ◌/◌, ◌<◌, ◌≤◌, List, length, sym, ap, ◌∙◌, subst, arith, inl, inr, ⊎_elim}
+use Rattle.std.proofs.Common.{◌≡◌, ℕ, ◌+◌, ◌-◌, ◌*◌, ◌/◌, ◌%◌, ◌<◌, ◌≤◌, List, length, sym, ap, ◌∙◌, subst, arith, inl, inr, ⊎_elim}
 use Rattle.std.proofs.lemmas.Bool.{cases_lt}
 use Rattle.std.specs.Prelude.{slice_index}
 use Rattle.page_types.specs.declared.TheConstants.{LIMIT}
@@ -14,7 +14,7 @@ use Rattle.area_rows.proofs.Halving.{found_word, found_end}
 use Rattle.area_rows.proofs.BlockSlots.{rows_by, head_slot, body_slot, slot_of_place, next_in_block, next_head, last_place}
 
 module _ (heads body rows : List ReadRow) (layout : List ℕ) (page i j from head stop word end : ℕ)
-    (some_rows : j ≤ rows_by layout i) (place : from + 1 ≡ length layout - 2 + 127 * (slice_index layout (2 + i) / 128))
+    (some_rows : j ≤ rows_by layout i) (place : from + 1 ≡ length layout - 2 + 127 * (slice_index layout (2 + i) / 128 % 2048))
     (first : IsAmong heads page (slice_index layout 1) LIMIT (slots_on 0) i 1 head stop)
     (second : IsAmong body page (rows_by layout i + 1) stop (slots_on from) j 1 word end)
     (keep : (slot w : ℕ) → HasRead heads slot w → HasRead body slot w) (keep_all : (slot w : ℕ) → HasRead body slot w → HasRead rows slot w) where

@@ -5,6 +5,7 @@ use Rattle.std.specs.Prelude.{◌↔◌, All, Option, Some, None, IsSome, slice_
 use mathlib.Core.Option.{some, some-injective}
 use lib.ListN.{get_elem?}
 use Rattle.page_types.specs.declared.TheConstants.{LIMIT}
+use Rattle.page_types.specs.declared.calls.Kind.{Kind}
 use Rattle.page_types.specs.declared.pages.Span.{Span}
 use Rattle.page_types.specs.Named.{IsNamedCall}
 use Rattle.lock_core.specs.declared.range.Held.{Held}
@@ -29,22 +30,19 @@ use Rattle.area_guard.specs.History.{rows_after, Runs, StartsWith, planned_calls
 use Rattle.area_guard.specs.History.{IsAtRest, IsRight}
 use Rattle.area_guard.specs.History.{Leaves, FitsIn, HoldsFor, pending_of, entry_of, after_look, after_step, after_sequence, after_row, after_draw}
 use Rattle.area_guard.specs.declared.guard.Pending.TheVariants.{AtRest, Planned, OneRow}
-use Rattle.area_guard.specs.History.MayLoad.{number, glance, sequence, layout, gap_word, row}
+use Rattle.area_guard.specs.History.MayLoad.{number, glance, sequence, layout, row}
 use Rattle.area_guard.specs.Reads.{everything, slots_by, layout_by, IsHeldPage, HasRead, words_of, known_rows, known_words, KnowsRows, StillStands}
 use Rattle.area_guard.specs.Draws.{only_load, kept_load, none_else, draw_keeps as draw_on, draw_pending, draw_mine, draw_seen, draw_start, draw_drew}
 use Rattle.area_guard.specs.Draws.{draw_looks, draw_since, draw_took, draw_blocks, draw_most, plan_fits}
-use Rattle.space_model.specs.Areas.{kind_at}
 use Rattle.row_plans.specs.declared.planning.Cut.{Cut}
 use Rattle.row_plans.specs.RowWords.{row_start}
-use Rattle.row_plans.specs.Plans.{IsRowList}
-use Rattle.row_plans.specs.RowLists.{areas_from}
-use Rattle.row_plans.specs.Gaps.{IsGapWord}
+use Rattle.row_plans.specs.Plans.{IsRowList, PlanShows}
 use Rattle.area_rows.specs.Halving.{IsOnSameSide}
 use Rattle.area_rows.specs.Callers.{IsMoment, Shows, KeepsRead, KeepsRows, CountsWhole, IsReading, IsLook, IsNumbered, IsDrawn, IsClientStep, CallerView}
 use Rattle.area_rows.specs.Callers.{HasSameRows, plan_of, IsKnown, HasToWrite, HasToStore, IsReadRound, IsHeldPages}
 use Rattle.area_rows.proofs.Reading.{step_reads}
 use Rattle.area_rows.proofs.Neighbours.{slot_now, first_row, word_says}
-use Rattle.area_rows.proofs.Moments.{held_some, held_pages, row_list, stands, only_own_plan, nobody_plans, rows_are, here_of, here_at, moment_of}
+use Rattle.area_rows.proofs.Moments.{held_some, held_pages, row_list, starts_below, stands, only_own_plan, nobody_plans, rows_are, here_of, here_at, moment_of}
 use Rattle.row_blocks.specs.declared.positions.Position.{Position}
 use Rattle.row_blocks.specs.Blocks.{rows_in as rows_by}
 use Rattle.plan_words.specs.Places.{number_in, number_at}
@@ -57,7 +55,6 @@ module _ {own : Option Held → Type 0} {free held : Type 0} {words : List ℕ} 
   look_tells place at (glance f e is) = absurd (omega arith)
   look_tells place at (sequence h e is) = absurd (omega arith)
   look_tells place at (layout h among is) = absurd (⊎_elim (λ two. omega arith) (λ t. let a = t.1 in omega arith) among)
-  look_tells place at (gap_word h e is) = absurd (omega arith)
   look_tells place at (row i h few e is) = absurd (omega arith)
 
   sequence_tells : MayLoad own free held words history 1 p after → (free × (after ≡ after_step p)) ⊎ (after ≡ after_sequence (slice_index words 1) p)
@@ -65,7 +62,6 @@ module _ {own : Option Held → Type 0} {free held : Type 0} {words : List ℕ} 
   sequence_tells (glance f e is) = inl (f, is)
   sequence_tells (sequence h e is) = inr is
   sequence_tells (layout h at is) = absurd (⊎_elim (λ two. omega arith) (λ t. let a = t.0 in omega arith) at)
-  sequence_tells (gap_word h e is) = absurd (omega arith)
   sequence_tells (row i h few e is) = absurd (omega arith)
 
   row_tells : (index : ℕ) → index < 128 * p.blocks → MayLoad own free held words history (3 + index) p after
@@ -74,13 +70,12 @@ module _ {own : Option Held → Type 0} {free held : Type 0} {words : List ℕ} 
   row_tells index slot (glance f e is) = absurd (omega arith)
   row_tells index slot (sequence h e is) = absurd (omega arith)
   row_tells index slot (layout h at is) = absurd (⊎_elim (λ two. omega arith) (λ t. let a = t.0 in omega arith) at)
-  row_tells index slot (gap_word h e is) = absurd (omega arith)
   row_tells index slot (row i h few e is) = let same : i ≡ index = omega arith in is ∙ (λ k. after_row (same k) (slice_index words (3 + same k)) p)
 
 draw_keeps : (history : List Entry) (e : Entry) (pending : Pending) (held : Option Held) (p : Pass) → KeepsRows pending p (after_draw history e pending held p)
 draw_keeps history e AtRest held p = tt
-draw_keeps history e (Planned plan) held p = (refl, refl, refl)
-draw_keeps history e (OneRow c) held p = (refl, refl, refl)
+draw_keeps history e (Planned plan) held p = (refl, refl)
+draw_keeps history e (OneRow c) held p = (refl, refl)
 
 -- a caller that holds a range remembers the sequence word
 pub may_sequence : (note : Note) (seat : ℕ) (held : Option Held) (pass : Pass) → IsHeldPages held → IsAllowed HasHistory Allowed note seat held pass (loads 1)
@@ -230,7 +225,7 @@ module _ (note : Note) (seat : ℕ) (held : Option Held) (pass : Pass) where
     -- an addition to the number word draws the number that it found, with the entry that the note becomes
     added : (place : ℕ) (s : IsMade HasHistory Allowed note seat held pass (adds place 1) found after) → place ≡ number_place pass.blocks
         → MayAdd s.0 s.1 s.2 seat note s.5.1 place after → HasDrawn s.0 s.1 s.2 seat note s.5.1 after × (found ≡ length s.5.1.history)
-    added place s at (raise rows e pends written right is) = absurd (omega arith)
+    added place s at (raise rows e pends written is) = absurd (omega arith)
     added place s at (draw e keeps drew) =
         let here = s.5.1 in
         let part = here.running.parts seat here.pass here.own in
@@ -298,13 +293,12 @@ remembers p n again = record {
   laid = λ old e. e;
   rows = λ index word h. h;
   sequence = λ k e. ap Some (again k e);
-  gap = λ k e. e;
   pending = refl;
   blocks = refl;
 }
 
 keeps_all : (p : Pass) → KeepsRead p (after_step p)
-keeps_all p = record { laid = λ old e. e; rows = λ index word h. h; sequence = λ k e. e; gap = λ k e. e; pending = refl; blocks = refl }
+keeps_all p = record { laid = λ old e. e; rows = λ index word h. h; sequence = λ k e. e; pending = refl; blocks = refl }
 
 -- how many entries are under everything, by the sequence word that a caller remembers
 counts_whole : (u : SeatState Pass) (found : ℕ) → u.pass.sequence ≡ Some found → IsSome u.held → IsHeldPages u.held → CountsWhole u found
@@ -335,22 +329,21 @@ sequence_is {s} {u} found pages call made =
     )) (sequence_tells (only_load (λ e. omega arith) made.5.1))
 
 -- a pass that has read the same over as many blocks knows the same
-pub knows_on : {p : Pass} (q : Pass) → q.laid ≡ p.laid → q.rows ≡ p.rows → q.gap ≡ p.gap → q.blocks ≡ p.blocks → KnowsRows p → KnowsRows q
-knows_on {p} q same_laid same_rows same_gap same_blocks knows =
-    let k : KnowsRows (record p { laid = q.laid; rows = q.rows; gap = q.gap; blocks = q.blocks }) =
-    coe 1 0 (i. KnowsRows (record p { laid = same_laid i; rows = same_rows i; gap = same_gap i; blocks = same_blocks i })) knows in
+pub knows_on : {p : Pass} (q : Pass) → q.laid ≡ p.laid → q.rows ≡ p.rows → q.blocks ≡ p.blocks → KnowsRows p → KnowsRows q
+knows_on {p} q same_laid same_rows same_blocks knows =
+    let k : KnowsRows (record p { laid = q.laid; rows = q.rows; blocks = q.blocks }) =
+    coe 1 0 (i. KnowsRows (record p { laid = same_laid i; rows = same_rows i; blocks = same_blocks i })) knows in
     record {
       words = record { layout = k.words.layout; laid = k.words.laid; long = k.words.long; slots = k.words.slots };
-      blocks = record { laid = k.blocks.laid; free = k.blocks.free; short = k.blocks.short };
+      blocks = record { laid = k.blocks.laid; free = k.blocks.free; short = k.blocks.short; told = k.blocks.told };
       counted = k.counted;
-      gap = k.gap;
     }
 
 -- a caller that has drawn a number under everything has its plan to write
-pub writes_plan : {before after : CallerView} {e : Entry} {under : Under} → HasSameRows before after → before.seat.held ≡ Some everything
-    → IsDrawn before.seat e (pending_of under (plan_of before) before.change) after.seat → under ≡ Whole → IsKnown before
-    → 0 < length (rows_after (plan_of before)) → HasToWrite after
-writes_plan {before} {after} {under} same held d whole known some_row =
+pub writes_plan : {before after : CallerView} {e : Entry} {under : Under} {kinds : ℕ → Option Kind} → HasSameRows before after
+    → before.seat.held ≡ Some everything → IsDrawn before.seat e (pending_of under (plan_of before) before.change) after.seat → under ≡ Whole → IsKnown before
+    → PlanShows (rows_after (plan_of before)) kinds → HasToWrite after
+writes_plan {before} {after} {under} {kinds} same held d whole known shows =
     let is : pending_of under (plan_of before) before.change ≡ Planned (plan_of before) =
     ap (λ (w : Under). pending_of w (plan_of before) before.change) whole in
     let k : KeepsRows (Planned (plan_of before)) before.seat.pass after.seat.pass =
@@ -367,17 +360,17 @@ writes_plan {before} {after} {under} same held d whole known some_row =
       held = d.numbered.held ∙ held;
       pending = d.writes ∙ (is ∙ ap Planned (sym plan));
       known = record {
-        rows = knows_on after.seat.pass k.0 k.1 k.2 d.blocks known.rows;
+        rows = knows_on after.seat.pass k.0 k.1 d.blocks known.rows;
         list = subst IsRowList (sym rows) known.list;
         counted = same.count ∙ (known.counted ∙ ap length (sym rows));
         at = omega arith;
         there = omega arith;
         grows = omega arith;
         stays = λ some_rows. let s = known.stays (omega arith) in omega arith;
-        gap = subst (λ (z : Splice × ℕ). IsGapWord (kind_at (areas_from (rows_after z.0))) z.1) (λ i. (sym plan i, sym same.gap i)) known.gap;
       };
-      some = subst (λ (s : Splice). 0 < length (rows_after s)) (sym plan) some_row;
+      some = subst (λ (s : Splice). 0 < length (rows_after s)) (sym plan) shows.some;
       fits = subst (λ (s : Splice). length (rows_after s) ≤ room_of after.seat.pass.blocks) (sym plan) fits;
+      low = subst (λ (s : Splice). All (λ w. row_start w ≤ LIMIT) (rows_after s)) (sym plan) (starts_below 0 _ _ shows.show);
     }
 
 -- what was read round a change is read still where the range and the rows are the same

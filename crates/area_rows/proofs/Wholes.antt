@@ -25,17 +25,18 @@ use Rattle.area_guard.specs.declared.guard.Pending.{Pending}
 use Rattle.area_guard.specs.Rows.{keeps_in, blocks_by, keeps_by, number_place, rows_in}
 use Rattle.area_guard.specs.Writes.{everything_pages}
 use Rattle.area_guard.specs.Slots.{layout_long}
-use Rattle.area_guard.specs.Reads.{everything, known_rows, KnowsRows, StillStands}
+use Rattle.area_guard.specs.Reads.{everything, known_rows, known_words, KnowsRows, StillStands}
 use Rattle.area_guard.specs.History.{HasBlocks, StartsWith, Runs, RowsStandFor, IsAtRest, HoldsFor, rest_of}
 use Rattle.row_plans.specs.RowLists.{areas_from}
 use Rattle.row_plans.specs.declared.planning.Cut.{Cut}
 use Rattle.row_plans.specs.Loads.{TakesLoads}
 use Rattle.row_plans.specs.Loads.TakesLoads.{by_arguments as no_load, by_pages}
-use Rattle.row_plans.specs.Plans.{PlanShows, spliced, IsPlan, LeavesRows}
+use Rattle.row_plans.specs.Plans.{PlanShows, spliced, IsPlan, IsRowList, LeavesRows}
 use Rattle.row_plans.proofs.PlanLeft.{counted_rows}
-use Rattle.area_rows.specs.Callers.{CallerView, IsMoment, MayNumber, IsKnown, HasPlanned, IsReading, entry_in, IsNumbered, IsDrawn, IsWritten}
+use Rattle.area_rows.specs.Callers.{CallerView, IsMoment, MayNumber, IsKnown, HasPlanned, IsReading, entry_in, IsNumbered, IsDrawn, IsWritten, place_loads}
 use Rattle.area_rows.specs.Called.{IsLastPlace, IsLastStep, IsCalled, EndsAtOnce, EndsSoon}
 use Rattle.area_rows.proofs.Moments.{stands, nobody_plans, rows_are, here_of}
+use Rattle.row_blocks.specs.Blocks.{IsLaidOut, rows_in as rows_by}
 use Rattle.row_blocks.specs.declared.positions.Position.{Position}
 use Rattle.row_blocks.proofs.RowSplices.{splice_none}
 use Rattle.plan_words.specs.Places.{number_at}
@@ -242,31 +243,32 @@ rows_shown c held rest known start history state words m =
     (rows_are (here_of m) (m.granted ∙ ap some held) (m.read.pending ∙ rest) (rows_now c held rest known.rows start history state words m)).1
 
 -- as many loads between two other numbers of steps
-loads_from : (rows : List ℕ) (c : Call) (before after from until : ℕ) → until + before ≡ from + after → TakesLoads rows c before after
-    → TakesLoads rows c from until
-loads_from rows c before after from until same (no_load reply is none) = no_load reply is (omega arith)
-loads_from rows c before after from until same (by_pages judged undecided is looks) =
+loads_from : (rows : List ℕ) (fit : ℕ) (c : Call) (before after from until : ℕ) → until + before ≡ from + after → TakesLoads rows fit c before after
+    → TakesLoads rows fit c from until
+loads_from rows fit c before after from until same (no_load reply is none) = no_load reply is (omega arith)
+loads_from rows fit c before after from until same (by_pages judged undecided is looks) =
     by_pages judged undecided is (λ at stops. let l = looks at stops in omega arith)
 
 -- its steps from the draw on are those of the writing
 pub ends_soon : {b n w : SeatState Pass} {p : CallerView} {e : Entry} {pending : Pending} → IsReading b p.seat → p.seat.held ≡ Some everything
-    → IsAtRest p.seat.pass → IsKnown p → IsDrawn p.seat e pending n → IsWritten n w
-    → TakesLoads (known_rows p.seat.pass) e.call (b.trace.taken + 1) p.seat.trace.taken
-    → w.trace.taken ≤ n.trace.taken + (2 * length p.more + 13 * blocks_by b.table + 1833)
+    → IsAtRest p.seat.pass → IsKnown p → p.seat.pass.blocks ≡ blocks_by b.table → IsDrawn p.seat e pending n → IsWritten n w
+    → TakesLoads (known_rows p.seat.pass) (place_loads p.seat.pass.blocks (known_words p.seat.pass)) e.call (b.trace.taken + 1) p.seat.trace.taken
+    → w.trace.taken ≤ n.trace.taken + (3 * length p.more + 16 * blocks_by b.table + 2362)
     → ((why : Why) → e.reply ≡ Refused why → w.trace.taken ≡ n.trace.taken + 1) → EndsSoon b e w
-ends_soon {b} {n} {w} {p} {e} reading held rest known drawn written loads steps refused =
-    let num = drawn.numbered in
+ends_soon {b} {n} {w} {p} {e} reading held rest known blocks drawn written loads steps refused =
+    let num = drawn.numbered in let words = known_words p.seat.pass in
     let counted = written.counted in let none = drawn.since in
     record {
       history = num.history;
       state = num.state;
       runs = subst (λ (l : List Area). Runs 0 l num.history num.state) reading.start num.runs;
       in_order = num.in_order;
-      rows = known_rows p.seat.pass;
-      list = known.list;
-      shown = rows_shown p held rest known _ _ _ _ drawn.moment;
-      took = subst (λ (k : ℕ). TakesLoads (known_rows p.seat.pass) e.call (b.pass.since + 1) k) (sym (written.took ∙ drawn.took))
-          (loads_from _ e.call _ _ _ _ (let all = reading.counted in omega arith) loads);
+      words = words;
+      laid = subst (λ (nb : ℕ). IsLaidOut nb words) blocks known.rows.blocks.laid;
+      list = subst (λ (nb : ℕ). IsRowList (rows_by nb words)) blocks known.list;
+      shown = subst (λ (nb : ℕ). areas_from (rows_by nb words) ≡ num.state) blocks (rows_shown p held rest known _ _ _ _ drawn.moment);
+      took = subst (λ (z : ℕ × ℕ). TakesLoads (rows_by z.0 words) (place_loads z.0 words) e.call (b.pass.since + 1) z.1)
+          (λ i. (blocks i, sym (written.took ∙ drawn.took) i)) (loads_from _ _ e.call _ _ _ _ (let all = reading.counted in omega arith) loads);
       seen = written.seen ∙ num.seen;
       since =
           let rows = rows_counted p held rest known _ _ _ _ drawn.moment in
@@ -286,10 +288,12 @@ ends_from {a} {b} {w} {e} call soon =
       state = soon.state;
       runs = subst (λ (x : Pass). Runs 0 x.start soon.history soon.state) call.pass soon.runs;
       in_order = soon.in_order;
-      rows = soon.rows;
-      list = soon.list;
-      shown = soon.shown;
-      took = subst (λ (x : Pass). TakesLoads soon.rows e.call (x.since + 1) w.pass.took) call.pass soon.took;
+      words = soon.words;
+      laid = subst (λ (nb : ℕ). IsLaidOut nb soon.words) blocks soon.laid;
+      list = subst (λ (nb : ℕ). IsRowList (rows_by nb soon.words)) blocks soon.list;
+      shown = subst (λ (nb : ℕ). areas_from (rows_by nb soon.words) ≡ soon.state) blocks soon.shown;
+      took = subst (λ (z : ℕ × Pass). TakesLoads (rows_by z.0 soon.words) (place_loads z.0 soon.words) e.call (z.1.since + 1) w.pass.took)
+          (λ i. (blocks i, call.pass i)) soon.took;
       seen = soon.seen;
       since = let most = soon.since in omega arith;
       refused = soon.refused;
@@ -307,10 +311,12 @@ ends_back {a} {w} {d} {e} soon last release =
       state = soon.state;
       runs = soon.runs;
       in_order = soon.in_order;
-      rows = soon.rows;
+      words = soon.words;
+      laid = soon.laid;
       list = soon.list;
       shown = soon.shown;
-      took = subst (λ (x : Pass). TakesLoads soon.rows e.call (a.pass.since + 1) x.took) (sym release.pass) soon.took;
+      took = subst (λ (x : Pass). TakesLoads (rows_by (blocks_by a.table) soon.words) (place_loads (blocks_by a.table) soon.words) e.call
+          (a.pass.since + 1) x.took) (sym release.pass) soon.took;
       seen = ap (λ (x : Pass). x.seen) release.pass ∙ soon.seen;
       since = let most = soon.since in omega arith;
       refused = λ why is. since ∙ soon.refused why is;

@@ -1,8 +1,8 @@
 -- What a caller has to write its seat has to write, and where it may plan its seat may load all rows, as `plan_words`
 -- asks for it.
 use Rattle.std.proofs.Common.{◌≡◌, ℕ, ◌+◌, ◌*◌, ◌<◌, ◌≤◌, List, length, sym, ap, ◌∙◌, subst, arith}
-use Rattle.std.specs.Prelude.{Option, Some, None, MatchOption, unwrap_or}
-use Rattle.page_types.specs.declared.calls.Kind.{Kind}
+use Rattle.std.specs.Prelude.{All}
+use Rattle.page_types.specs.declared.TheConstants.{LIMIT}
 use Rattle.range_rw.specs.Contract.{SeatState, TableShape}
 use Rattle.row_blocks.specs.declared.positions.Position.{Position}
 use Rattle.area_guard.specs.declared.guard.Pass.{Pass}
@@ -10,14 +10,13 @@ use Rattle.area_guard.specs.declared.guard.Splice.{Splice}
 use Rattle.area_guard.specs.declared.guard.Pending.TheVariants.{Planned}
 use Rattle.area_guard.specs.Rows.{blocks_by, room_of}
 use Rattle.area_guard.specs.History.{rows_after}
-use Rattle.space_model.specs.Areas.{kind_at}
-use Rattle.row_plans.specs.RowLists.{areas_from}
-use Rattle.row_plans.specs.Gaps.{IsGapWord}
-use Rattle.area_guard.specs.Reads.{known_count, known_rows, HasGap, KnowsBlocks}
+use Rattle.row_plans.specs.RowWords.{row_start}
+use Rattle.area_guard.specs.Reads.{known_count, known_rows, KnowsBlocks}
 use Rattle.plan_words.specs.Places.{number_at, splice_at}
 use Rattle.plan_words.specs.Writing.{WritesPlan, plan_at, splice_in}
 use Rattle.plan_words.specs.Reading.{MayLoadAll}
 use Rattle.area_rows.specs.Callers.{CallerView, HasToWrite, MayPlan, plan_of}
+use Rattle.area_rows.proofs.Moments.{starts_below}
 
 -- where a caller may plan its seat may load all rows
 pub may_load : (shape : TableShape) {nb count : ℕ} {s : SeatState Pass} → 36 + 129 * nb ≤ shape.client → nb ≡ blocks_by shape.table → nb ≤ 2048
@@ -40,13 +39,8 @@ pub may_load_in : {shape now : TableShape} {v w : CallerView} {nb count : ℕ} �
 may_load_in {shape} {count} space caller wide is few blocks may = may_load shape wide is few blocks
     (subst (λ (z : TableShape × CallerView). MayPlan z.0.table count z.1.seat) (λ i. (sym space i, sym caller i)) may)
 
--- the gap word of a plan is right, or one that says nothing takes its place
-pub gap_or : (P : Type 0) (kinds : ℕ → Option Kind) (word : Option ℕ) → MatchOption word P (IsGapWord kinds) → IsGapWord kinds (unwrap_or word 0)
-gap_or P kinds None right = λ some. absurd (omega arith)
-gap_or P kinds (Some word) right = right
-
 -- a seat may write its splice: so many rows go from a position on, and these come
-pub record IsReady (shape : TableShape) (nb count : ℕ) (at : Position) (gone : ℕ) (more : List ℕ) (gap : ℕ) (seat : SeatState Pass) : Type 0 where
+pub record IsReady (shape : TableShape) (nb count : ℕ) (at : Position) (gone : ℕ) (more : List ℕ) (seat : SeatState Pass) : Type 0 where
   pub writes : WritesPlan shape seat
   pub blocks : seat.pass.blocks ≡ nb
   pub stands : KnowsBlocks seat.pass
@@ -59,12 +53,12 @@ pub record IsReady (shape : TableShape) (nb count : ℕ) (at : Position) (gone :
   pub stays : 0 < number_at seat.pass at + gone + length more → 0 < number_at seat.pass at + length more
   pub fits : length (rows_after (plan_at seat)) ≤ room_of nb
   pub some : 0 < length (rows_after (plan_at seat))
-  pub right : IsGapWord (kind_at (areas_from (rows_after (plan_at seat)))) gap
-  pub stood : HasGap seat.pass (known_rows seat.pass)
+  pub low : All (λ w. row_start w ≤ LIMIT) (known_rows seat.pass)
+  pub low_after : All (λ w. row_start w ≤ LIMIT) (rows_after (plan_at seat))
 
 -- the seat of a caller that has its plan to write may
 pub ready : (shape : TableShape) {nb : ℕ} {v : CallerView} → 36 + 129 * nb ≤ shape.client → nb ≡ blocks_by shape.table → nb ≤ 2048
-    → v.seat.table ≡ shape.table → v.seat.pass.blocks ≡ blocks_by v.seat.table → HasToWrite v → IsReady shape nb v.count v.cut.at v.cut.gone v.more v.gap v.seat
+    → v.seat.table ≡ shape.table → v.seat.pass.blocks ≡ blocks_by v.seat.table → HasToWrite v → IsReady shape nb v.count v.cut.at v.cut.gone v.more v.seat
 ready shape {nb} {v} wide is few table blocks has =
     let plan : plan_at v.seat ≡ plan_of v = ap splice_in has.pending in
     let known = has.known in let counted = known.counted in
@@ -85,6 +79,6 @@ ready shape {nb} {v} wide is few table blocks has =
       stays = known.stays;
       fits = subst (λ (z : ℕ × Splice). length (rows_after z.1) ≤ room_of z.0) (λ i. (all i, sym plan i)) has.fits;
       some = subst (λ (p : Splice). 0 < length (rows_after p)) (sym plan) has.some;
-      right = subst (λ (p : Splice). IsGapWord (kind_at (areas_from (rows_after p))) v.gap) (sym plan) known.gap;
-      stood = known.rows.gap;
+      low = starts_below 0 _ _ known.list.show;
+      low_after = subst (λ (p : Splice). All (λ w. row_start w ≤ LIMIT) (rows_after p)) (sym plan) has.low;
     }

@@ -16,6 +16,7 @@ use Rattle.space_model.specs.declared.entries.Under.TheVariants.{Nothing, Reader
 use Rattle.row_plans.specs.RowLists.{areas_from}
 use Rattle.row_plans.specs.Plans.{IsRowList}
 use Rattle.row_plans.specs.Loads.{TakesLoads}
+use Rattle.row_blocks.specs.Blocks.{IsLaidOut, rows_in}
 use Rattle.range_rw.specs.Contract.{SeatState, AsksFor}
 use Rattle.lock_core.specs.declared.range.Held.{Held}
 use Rattle.area_guard.specs.declared.guard.Pass.{Pass}
@@ -24,7 +25,7 @@ use Rattle.area_rows.specs.declared.answer.Answer.TheVariants.{Given, Spent}
 use Rattle.area_guard.specs.Reads.{everything}
 use Rattle.area_guard.specs.Rows.{blocks_by, number_place}
 use Rattle.area_guard.specs.History.{Runs, IsAtRest}
-use Rattle.area_rows.specs.Callers.{CallerView, IsNumbered, entry_in}
+use Rattle.area_rows.specs.Callers.{CallerView, IsNumbered, entry_in, place_loads}
 
 -- the client word of a call's last step, over so many blocks: the number word; over an area this, or a row word where
 -- a row changes; under everything the sequence word
@@ -62,21 +63,23 @@ IsAnswered before line call (Given e) after = (0 < before.left) × IsCalled befo
 IsAnswered before line call Spent after = (before.left ≡ 0) × (after ≡ before)
 
 -- how a call under everything goes on from where it holds all pages. Up to its draw it made no more steps on client
--- words than one plan of the call loads on the rows that show the state before its entry, and one; the pass counts them
--- from the draw before on. From the draw on it made at most two for each row of that state and for SPARE more, 13 for
--- each block that the space has room for, and 1833 more; after a refusal the one that raises the sequence word. That
--- was the last of them, and behind it came at most two steps of the lock, by which the pages were given back
+-- words than one plan of the call loads on the rows that show the state before its entry, as they are laid out in
+-- blocks, and one; the pass counts them from the draw before on. A search for a place takes one load for each block in
+-- use and 277 more. From the draw on it made at most three for each row of that state and for SPARE more, 16 for each
+-- block that the space has room for, and 2362 more; after a refusal the one that raises the sequence word. That was the
+-- last of them, and behind it came at most two steps of the lock, by which the pages were given back
 pub record EndsSoon (before : SeatState Pass) (e : Entry) (after : SeatState Pass) : Type 0 where
   pub history : List Entry
   pub state : List Areas
   pub runs : Runs 0 before.pass.start history state
   pub in_order : IsAreaList state
-  pub rows : List ℕ
-  pub list : IsRowList rows
-  pub shown : areas_from rows ≡ state
-  pub took : TakesLoads rows e.call (before.pass.since + 1) after.pass.took
+  pub words : List ℕ
+  pub laid : IsLaidOut (blocks_by before.table) words
+  pub list : IsRowList (rows_in (blocks_by before.table) words)
+  pub shown : areas_from (rows_in (blocks_by before.table) words) ≡ state
+  pub took : TakesLoads (rows_in (blocks_by before.table) words) (place_loads (blocks_by before.table) words) e.call (before.pass.since + 1) after.pass.took
   pub seen : after.pass.seen ≡ history ++ entry_in history e ∷ []
-  pub since : after.pass.since ≤ 2 * (row_count state + SPARE) + 13 * blocks_by before.table + 1833
+  pub since : after.pass.since ≤ 3 * (row_count state + SPARE) + 16 * blocks_by before.table + 2362
   pub refused : (why : Why) → e.reply ≡ Refused why → after.pass.since ≡ 1
   pub step : ℕ
   pub client : after.trace.client ≡ Some (record { place = 1; step = step })

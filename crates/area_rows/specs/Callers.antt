@@ -1,7 +1,7 @@
 -- What contracts see of a caller and of a space, and what each call says. What a caller's range has shown of the
 -- history is stated as what is so at every moment at which the caller holds that range and has read those rows; so it
 -- lasts while the caller keeps both. The definitions are this project's own.
-use Rattle.std.specs.Prelude.{Bool, true, false, ℕ, ◌≡◌, ◌≢◌, ◌<◌, ◌≤◌, ◌+◌, ◌-◌, ◌/◌, ◌%◌, Option, Some, None, List, [], ◌∷◌, ◌++◌, length, min}
+use Rattle.std.specs.Prelude.{All, Bool, true, false, ℕ, ◌≡◌, ◌≢◌, ◌<◌, ◌≤◌, ◌+◌, ◌-◌, ◌/◌, ◌%◌, Option, Some, None, List, [], ◌∷◌, ◌++◌, length, min}
 use Rattle.std.specs.Prelude.{slice_index, ◌⊎◌}
 use mathlib.Core.Option.{some}
 use lib.ListN.{get_elem?}
@@ -35,9 +35,9 @@ use Rattle.area_guard.specs.Rows.{layout_in, slots_of, slot_at, slots_in, AreNei
 use Rattle.area_guard.specs.Rows.{blocks_by, keeps_by, number_place, room_of, IsInReach}
 use Rattle.row_plans.specs.declared.planning.Cut.{Cut}
 use Rattle.row_plans.specs.Plans.{IsRowList, spliced, IsPlan}
-use Rattle.row_plans.specs.RowLists.{areas_from}
-use Rattle.row_plans.specs.Gaps.{IsGapWord}
+use Rattle.row_plans.specs.Loads.{fit_loads}
 use Rattle.area_guard.specs.Reads.{everything, IsHeldPage, HasRead, known_rows, KnowsRows}
+use Rattle.row_blocks.specs.Blocks.{blocks_of}
 use Rattle.row_blocks.specs.declared.positions.Position.{Position}
 use Rattle.plan_words.specs.Places.{number_at, splice_at}
 pub use Rattle.plan_words.specs.Writing.{KeepsRead, IsWritten}
@@ -49,15 +49,14 @@ use Rattle.area_guard.specs.History.{IsRunningSpace, AreBacked, HasPages, HoldsF
 use Rattle.area_guard.specs.History.{after_look, rows_after}
 
 -- a caller: its seat in the lock's table, whose pass is what it knows of the space; how many numbers it may still draw;
--- how many rows there were at its last plan, which of them go by it, which come in their place, and the gap word for
--- the rows behind it; and the row that its last plan over an area changes, if any
+-- how many rows there were at its last plan, which of them go by it, and which come in their place; and the row that
+-- its last plan over an area changes, if any
 pub record CallerView : Type 0 where
   pub seat : SeatState Pass
   pub left : ℕ
   pub count : ℕ
   pub cut : Cut Position
   pub more : List ℕ
-  pub gap : ℕ
   pub change : Option Change
 
 -- a caller's last plans are as they were
@@ -65,7 +64,6 @@ pub record HasSameRows (before after : CallerView) : Type 0 where
   pub count : after.count ≡ before.count
   pub cut : after.cut ≡ before.cut
   pub more : after.more ≡ before.more
-  pub gap : after.gap ≡ before.gap
   pub change : after.change ≡ before.change
 
 -- a splice of the rows that a seat knows: so many go from a position on
@@ -77,8 +75,7 @@ abbrev pub plan_of : CallerView → Splice
 plan_of c = splice_of c.seat c.cut c.more
 
 -- a caller knows all rows, which are a list of rows, and how many there are, and its plan is a splice of them: it
--- begins at a row, brings at most SPARE rows more than go, and leaves one where the first one goes; and it has a gap
--- word that is right for the rows after the splice
+-- begins at a row, brings at most SPARE rows more than go, and leaves one where the first one goes
 pub record IsKnown (c : CallerView) : Type 0 where
   pub rows : KnowsRows c.seat.pass
   pub list : IsRowList (known_rows c.seat.pass)
@@ -87,7 +84,11 @@ pub record IsKnown (c : CallerView) : Type 0 where
   pub there : number_at c.seat.pass c.cut.at + c.cut.gone ≤ length (known_rows c.seat.pass)
   pub grows : length c.more ≤ c.cut.gone + SPARE
   pub stays : 0 < number_at c.seat.pass c.cut.at + c.cut.gone + length c.more → 0 < number_at c.seat.pass c.cut.at + length c.more
-  pub gap : IsGapWord (kind_at (areas_from (rows_after (plan_of c)))) c.gap
+
+-- how many loads a search for a place takes in words that are laid out in so many blocks: a row is found, and then one
+-- word of each block in use is read, and the rows of two blocks
+abbrev pub place_loads : ℕ → List ℕ → ℕ
+place_loads nb words = fit_loads (blocks_of nb words + 257)
 
 -- a closed space: the areas that are left and the whole history
 pub record ClosedView : Type 0 where
@@ -145,13 +146,14 @@ pub record HasPlanned (call : Call) (reply : Reply) (count : ℕ) (c : CallerVie
   pub known : IsKnown c
 
 -- a caller has its plan to write: it holds everything, has numbered the call, knows the rows that stand there, and the
--- table has room for those after the plan's splice
+-- table has room for those after the plan's splice, none of which starts above LIMIT
 pub record HasToWrite (c : CallerView) : Type 0 where
   pub held : c.seat.held ≡ Some everything
   pub pending : c.seat.pass.pending ≡ Planned (plan_of c)
   pub known : IsKnown c
   pub some : 0 < length (rows_after (plan_of c))
   pub fits : length (rows_after (plan_of c)) ≤ room_of c.seat.pass.blocks
+  pub low : All (λ w. row_start w ≤ LIMIT) (rows_after (plan_of c))
 
 -- where the row in a slot ends, by what was read: where the one in the next slot starts, or at LIMIT
 abbrev pub IsRowEnd : List ReadRow → List ℕ → ℕ → ℕ → Type 0
@@ -276,7 +278,6 @@ new_pass start blocks keeps most = record {
   laid = None;
   rows = [];
   sequence = None;
-  gap = None;
   pending = AtRest;
   drew = None;
   looks = [];
@@ -294,7 +295,6 @@ AreNewCallersIn lists table start calls callers = (k : ℕ) (c : CallerView) →
       count = 0;
       cut = record { at = record { block = 0; place = 0 }; gone = 0 };
       more = [];
-      gap = 0;
       change = None;
     }
 
@@ -374,8 +374,8 @@ pub record IsNumbered (before : SeatState Pass) (e : Entry) (after : SeatState P
 -- a caller that has rows to write still has what it has read of the old ones
 abbrev pub KeepsRows : Pending → Pass → Pass → Type 0
 KeepsRows AtRest old new = Unit {0}
-KeepsRows (Planned plan) old new = (new.laid ≡ old.laid) × (new.rows ≡ old.rows) × (new.gap ≡ old.gap)
-KeepsRows (OneRow change) old new = (new.laid ≡ old.laid) × (new.rows ≡ old.rows) × (new.gap ≡ old.gap)
+KeepsRows (Planned plan) old new = (new.laid ≡ old.laid) × (new.rows ≡ old.rows)
+KeepsRows (OneRow change) old new = (new.laid ≡ old.laid) × (new.rows ≡ old.rows)
 
 -- the same by one step on the number word, made at a moment of the running space whose history is the one before the
 -- entry; so what the caller's range has shown is so of the state that this history leaves. What was held at the draw

@@ -38,7 +38,7 @@ callers_count callers = entry_count (map caller_pass callers)
 
 -- a caller from its seat and what it has besides
 abbrev pub caller_of : SeatState Pass → Kept → CallerView
-caller_of s k = record { seat = s; left = k.left; count = k.count; cut = k.cut; more = k.plan.items; gap = k.gap; change = k.change }
+caller_of s k = record { seat = s; left = k.left; count = k.count; cut = k.cut; more = k.plan.items; change = k.change }
 
 -- a seat and the rest of a caller belong together
 pub record IsPair (s : SeatState Pass) (k : Kept) (c : CallerView) : Type 0 where

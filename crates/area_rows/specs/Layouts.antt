@@ -15,7 +15,7 @@ pub record IsLayout (nb : ℕ) (layout : List ℕ) : Type 0 where
   pub long : length layout ≡ nb + 2
   pub some : 0 < slice_index layout 1
   pub free : slice_index layout 1 < nb
-  pub bodies : (i : ℕ) → i < nb → slice_index layout (2 + i) / 128 < nb
+  pub bodies : (i : ℕ) → i < nb → slice_index layout (2 + i) / 128 % 2048 < nb
   pub short : slice_index layout (2 + 0) % 128 < 64
 
 -- where the words of a layout over so many blocks stand among the client words: the row count, and the others one
@@ -24,10 +24,9 @@ abbrev pub layout_place : ℕ → ℕ → ℕ
 layout_place nb zero = 2
 layout_place nb (suc k) = 3 + 128 * nb + k
 
--- a load of a word of the layout: one step, with which the caller notes the layout, the words of all slots of the
--- moment, and the gap word. There is a row, and there are at most ROWS. The layout and the gap word are those that it
--- has read before, and its slots are in reach. Where it holds everything it knows all rows then, which are a list of
--- rows for which there is room
+-- a load of a word of the layout: one step, with which the caller notes the layout and the words of all slots of the
+-- moment. There is a row, and there are at most ROWS. The layout is the one that it has read before, and its slots are
+-- in reach. Where it holds everything it knows all rows then, which are a list of rows for which there is room
 pub record IsSeen (before : SeatState Pass) (index found : ℕ) (after : SeatState Pass) : Type 0 where
   pub words : List ℕ
   pub layout : IsLayout (blocks_by before.table) (layout_in words)
@@ -40,6 +39,5 @@ pub record IsSeen (before : SeatState Pass) (index found : ℕ) (after : SeatSta
   pub blocks : before.pass.blocks ≡ blocks_by before.table
   pub step : IsClientStep before (layout_place (blocks_by before.table) index) (after_seen words before.pass) after
   pub again : (old : List ℕ) → before.pass.laid ≡ Some old → layout_in words ≡ old
-  pub gap : (old : ℕ) → before.pass.gap ≡ Some old → slice_index words 0 ≡ old
   pub all : before.held ≡ Some everything → KnowsRows after.pass × (known_rows after.pass ≡ rows_in words) × IsRowList (rows_in words)
       × (length (rows_in words) ≤ room_of (blocks_by before.table))

@@ -4,6 +4,7 @@ use Rattle.space_model.specs.declared.areas.Area.{Area}
 use Rattle.space_model.specs.Areas.{row_count}
 use Rattle.row_plans.specs.RowLists.{rows_from}
 use Rattle.row_blocks.specs.Blocks.{IsLaidOut, blocks_of, rows_of, rows_in}
+use Rattle.row_blocks.specs.Gaps.{GapsTold}
 use Rattle.area_guard.specs.Rows.{keeps_in, number_place}
 use Rattle.area_guard.specs.History.{HasRoom}
 
@@ -13,18 +14,18 @@ abbrev pub told_of : ℕ → Bool → ℕ
 told_of nb true = nb / 8
 told_of nb false = nb / 8 + 257
 
--- no entry, none under everything, no gap word, the rows of these areas in so many blocks of which one is free, whether
--- the space keeps its history, and how many numbers each caller may draw
+-- no entry, none under everything, the rows of these areas in so many blocks of which one is free, with their largest
+-- gaps, whether the space keeps its history, and how many numbers each caller may draw
 pub record IsOpening (start : List Area) (calls : List ℕ) (nb : ℕ) (keeps : Bool) (words : List ℕ) : Type 0 where
   pub wide : 36 + 129 * nb ≤ length words
   pub number : slice_index words (number_place nb) ≡ 0
-  pub gap : slice_index words 0 ≡ 0
   pub sequence : slice_index words 1 ≡ 0
   pub count : slice_index words 2 ≡ row_count start
   pub laid : IsLaidOut nb (drop 3 words)
   pub rows : rows_in nb (drop 3 words) ≡ rows_from 0 start
   pub free : blocks_of nb (drop 3 words) < nb
   pub short : rows_of nb (drop 3 words) 0 < 64
+  pub told : GapsTold nb (drop 3 words)
   pub blocks : slice_index words (length words - 17) ≡ nb
   pub kept : keeps_in words ≡ keeps
   pub quotas : (n : ℕ) → n < length calls → slice_index words (length words - 16 + n) ≡ slice_index calls n

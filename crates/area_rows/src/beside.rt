@@ -22,15 +22,15 @@ pub(crate) struct Beside {
 /// The slot of a place of a block, of which the body word is given.
 fn slot_in(blocks: u32, block: u32, place: u32, told: u64) -> u32
     requires blocks { blocks ≤ 2048 }
-    requires body { told / 128 < blocks }
+    requires body { told / 128 % 2048 < blocks }
     requires place { place < 128 }
     ensures head { place ≡ 0 → result ≡ block }
-    ensures body { 0 < place → result + 1 ≡ blocks + 127 * (told / 128) + place }
+    ensures body { 0 < place → result + 1 ≡ blocks + 127 * (told / 128 % 2048) + place }
 {
     if place == 0 {
         block
     } else {
-        blocks + 127 * (told / 128) as u32 + (place - 1)
+        blocks + 127 * (told / 128 % 2048) as u32 + (place - 1)
     }
 }
 

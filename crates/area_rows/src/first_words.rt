@@ -1,11 +1,13 @@
-//! The words of a space at its opening: the counts, a gap word that says nothing, the rows of the start in blocks,
-//! words that aren't used, how many blocks there is room for, and how many numbers each caller may draw. A reader may
-//! rely on the number of all words of a table telling how many blocks there are, with any number of lists.
-ghost use Rattle.std.specs.Prelude.{ℕ, ◌≡◌, ◌≤◌, ◌<◌, ◌+◌, ◌*◌, ◌-◌, ◌/◌, ◌%◌, ◌^◌, ◌++◌, IfOk, OnOk, drop, length, slice_index};
+//! The words of a space at its opening: the counts, the rows of the start in blocks, words that aren't used, how many
+//! blocks there is room for, and how many numbers each caller may draw. A reader may rely on the number of all words of
+//! a table telling how many blocks there are, with any number of lists.
+ghost use Rattle.std.specs.Prelude.{ℕ, All, ◌≡◌, ◌≤◌, ◌<◌, ◌+◌, ◌*◌, ◌-◌, ◌/◌, ◌%◌, ◌^◌, ◌++◌, IfOk, OnOk, drop, length, slice_index};
 ghost use Rattle.page_types.specs.declared.TheConstants.{LIMIT};
 ghost use Rattle.space_model.specs.Areas.{IsAreaList, HasNamedKinds, row_count};
 ghost use Rattle.row_plans.specs.RowLists.{gap_rows, rows_from};
+ghost use Rattle.row_plans.specs.RowWords.{row_start};
 ghost use Rattle.row_blocks.specs.Blocks.{IsLaidOut, blocks_of, rows_of, rows_in};
+ghost use Rattle.row_blocks.specs.Gaps.{GapsTold};
 ghost use Rattle.area_guard.specs.Rows.{keeps_in, number_place};
 ghost use Rattle.area_rows.specs.Opening.{IsOpening, told_of};
 
@@ -69,7 +71,7 @@ pub(crate) fn spare_words(lock: u64, blocks: u32, keeps: bool) -> u32
     ((told + 513 * wide) % 514) as u32
 }
 
-/// All words but those of the rows: no entry, none under everything, no gap word, the row count, whether the space
+/// All words but those of the rows: no entry, none under everything, the row count, whether the space
 /// keeps its history, how many blocks there are, and how many numbers each caller may draw.
 fn words_around(
     alloc: Global,
@@ -84,7 +86,6 @@ fn words_around(
     requires spare { spare < 514 }
     ensures wide { IfOk result (λ words. length words.items ≡ 36 + 129 * blocks + spare) }
     ensures number { IfOk result (λ words. slice_index words.items (number_place blocks) ≡ 0) }
-    ensures gap { IfOk result (λ words. slice_index words.items 0 ≡ 0) }
     ensures sequence { IfOk result (λ words. slice_index words.items 1 ≡ 0) }
     ensures count { IfOk result (λ words. slice_index words.items 2 ≡ rows) }
     ensures blocks { IfOk result (λ words. slice_index words.items (length words.items - 17) ≡ blocks) }
@@ -107,10 +108,12 @@ fn lay_rows(words: &mut Vec<u64>, blocks: usize, rows: &[u64])
     requires wide { 4 + 129 * blocks ≤ length words.old.items }
     requires some { 0 < length rows.now }
     requires room { 2 * length rows.now < 129 * (blocks - 2) }
+    requires low { All (λ w. row_start w ≤ LIMIT) rows.now }
     ensures laid { IsLaidOut blocks (drop 3 words.new.items) }
     ensures same { rows_in blocks (drop 3 words.new.items) ≡ rows.now }
     ensures free { blocks_of blocks (drop 3 words.new.items) < blocks }
     ensures short { rows_of blocks (drop 3 words.new.items) 0 < 64 }
+    ensures told { GapsTold blocks (drop 3 words.new.items) }
     ensures length { length words.new.items ≡ length words.old.items }
     ensures first { (s : ℕ) → s < 3 → slice_index words.new.items s ≡ slice_index words.old.items s }
     ensures above { (s : ℕ) → 4 + 129 * blocks ≤ s → slice_index words.new.items s ≡ slice_index words.old.items s }

@@ -165,7 +165,7 @@ impl Space {
         let heads = self.halve(caller, page, 0, used, LIMIT, steps);
         steps.tick();
         let told = self.load_told(caller, heads.place);
-        let body = self.blocks + 127 * (told / 128) as u32;
+        let body = self.blocks + 127 * (told / 128 % 2048) as u32;
         let rows = (told % 128) as u32;
         let found = self.halve(caller, page, body - 1, rows + 1, heads.end, steps);
         let word = self.word_of(caller, heads, found, steps);

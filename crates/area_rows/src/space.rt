@@ -73,8 +73,6 @@ pub struct Caller {
     /// The row words that come in their place, with room for `SPARE` more than the table has room for: a call may
     /// change as many rows as there are. The room is touched only as far as rows come.
     pub(crate) plan: Vec<u64>,
-    /// A gap word that is right for the rows after the last plan.
-    pub(crate) gap: u64,
     /// The row that the last plan over an area changes, or None where it changes nothing.
     pub(crate) change: Option<Change>,
 }
@@ -88,7 +86,7 @@ impl Model for Caller {
 
     ghost Value = { CallerView };
 
-    ghost view = { λ c. record { seat = c.seat; left = c.left; count = c.count; cut = c.cut; more = c.plan.items; gap = c.gap; change = c.change } };
+    ghost view = { λ c. record { seat = c.seat; left = c.left; count = c.count; cut = c.cut; more = c.plan.items; change = c.change } };
 
     ghost invariant = { λ c. (c.seat.number ≡ c.worker) × (c.keeps ≡ true → c.mine.items ≡ c.seat.pass.mine)
         × (c.keeps ≡ true → vec_len c.mine + c.left ≤ vec_capacity c.mine) × (length c.seat.pass.mine + c.left ≤ c.seat.pass.most)

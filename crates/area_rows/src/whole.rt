@@ -12,11 +12,12 @@ ghost use Rattle.row_plans.specs.RowLists.{areas_from};
 ghost use Rattle.row_plans.specs.Plans.{spliced, IsPlan, LeavesRows};
 ghost use Rattle.row_plans.specs.Loads.{TakesLoads};
 ghost use Rattle.range_rw.specs.Contract.{AsksFor};
-ghost use Rattle.area_guard.specs.Reads.{everything, known_rows};
+ghost use Rattle.area_guard.specs.Reads.{everything, known_rows, known_words};
+ghost use Rattle.area_guard.specs.Rows.{blocks_by};
 ghost use Rattle.page_types.specs.Classes.{IsFault};
 ghost use Rattle.area_guard.specs.History.{IsAtRest};
 ghost use Rattle.plan_words.specs.Places.{number_at};
-ghost use Rattle.area_rows.specs.Callers.{HasPlanned, IsKnown, IsReading, MayPlan};
+ghost use Rattle.area_rows.specs.Callers.{HasPlanned, IsKnown, IsReading, MayPlan, place_loads};
 ghost use Rattle.area_rows.specs.Called.{AsksAtCall, IsAnswered, IsCalled, EndsAtOnce, EndsSoon, TakesSteps};
 
 use crate::answer::Answer;
@@ -39,7 +40,8 @@ impl Caller {
         ensures plan { IsPlan call.now result.0 result.1 (spliced (λ at. number_at self.new.seat.pass at) (known_rows self.new.seat.pass)
             self.new.cut self.new.more) (areas_from (known_rows self.new.seat.pass)) }
         ensures leaves { (why : Why) → result.0 ≡ Refused why → LeavesRows self.new.cut self.new.more }
-        ensures loads { TakesLoads (known_rows self.new.seat.pass) call.now self.old.seat.trace.taken self.new.seat.trace.taken }
+        ensures loads { TakesLoads (known_rows self.new.seat.pass) (place_loads self.new.seat.pass.blocks (known_words self.new.seat.pass)) call.now
+            self.old.seat.trace.taken self.new.seat.trace.taken }
     {
         let rows = HeldRows {
             words: HeldWords {
@@ -51,7 +53,6 @@ impl Caller {
         let planned = plan_rows(&rows, &mut self.seat, call, &mut self.plan);
         self.count = count;
         self.cut = planned.cut;
-        self.gap = planned.gap.unwrap_or(0);
         (planned.reply, planned.rows)
     }
 }
@@ -63,9 +64,8 @@ impl Space {
     /// range back. That of a refused call leaves the rows as they are: none goes and none comes, so `write_plan` takes
     /// one step. It takes no memory. The row count is one load, and a call that its arguments decide takes no more.
     /// Another one searches the pages that it names, once or twice, by at most 24 loads a search and four for each row
-    /// that starts among them; one that looks for a place goes through the rows from the last of its window down to
-    /// the first place where the pages fit, or from the page down that the gap word names; and a change takes 25 loads
-    /// and six for each row among its pages.
+    /// that starts among them; one that looks for a place takes one load for each block in use and 277 more; and a
+    /// change takes 25 loads and six for each row among its pages.
     pub fn plan(&self, caller: &mut Caller, call: &Call) -> (Reply, u32)
         requires table { caller.old.seat.table ≡ self.now.table }
         requires held { caller.old.seat.held ≡ Some everything }
@@ -79,7 +79,9 @@ impl Space {
         ensures leaves { (why : Why) → result.0 ≡ Refused why → LeavesRows caller.new.cut caller.new.more }
         ensures reading { IsReading caller.old.seat caller.new.seat }
         ensures left { caller.new.left ≡ caller.old.left }
-        ensures loads { TakesLoads (known_rows caller.new.seat.pass) call.now (caller.old.seat.trace.taken + 1) caller.new.seat.trace.taken }
+        ensures blocks { caller.new.seat.pass.blocks ≡ blocks_by self.now.table }
+        ensures loads { TakesLoads (known_rows caller.new.seat.pass) (place_loads caller.new.seat.pass.blocks (known_words caller.new.seat.pass))
+            call.now (caller.old.seat.trace.taken + 1) caller.new.seat.trace.taken }
     {
         let count = self.load_count(caller) as u32;
         caller.plan_call(self, count, call)
@@ -110,9 +112,9 @@ impl Space {
     /// caller holds all pages, plans the call, draws its number, writes what it leaves, and gives the pages back. The
     /// caller is of this space, holds nothing and has a number left; `line` is the line of the input that names the
     /// call, counted from 1. Up to the draw it makes no more steps on client words than one plan of the call loads on
-    /// the rows that there are, and one. Behind the draw it makes at most two for each row that there was and for four
-    /// more, 13 for each block that the space has room for, and 1833 more; one where the call is refused. Then one step
-    /// or two give the pages back.
+    /// the rows that there are, and one. Behind the draw it makes at most three for each row that there was and for
+    /// four more, 16 for each block that the space has room for, and 2362 more; one where the call is refused. Then one
+    /// step or two give the pages back.
     pub fn call_whole<R: Wait>(&self, wait: &R, caller: &mut Caller, line: u32, call: Call) -> Entry
         requires table { caller.old.seat.table ≡ self.now.table }
         requires free { caller.old.seat.held ≡ None }

@@ -13,8 +13,7 @@ use Rattle.lock_core.specs.Grants.{Grants}
 use Rattle.lock_core.specs.Client.{adds, IsAllowed}
 use Rattle.space_model.specs.Areas.{kind_at}
 use Rattle.row_plans.specs.RowLists.{ShowFrom, IsBareGap}
-use Rattle.row_plans.specs.Gaps.{IsGapWord}
-use Rattle.row_plans.proofs.GapWords.{gap_shown}
+use Rattle.row_blocks.specs.Gaps.{GapsTold}
 use Rattle.area_guard.specs.declared.guard.Pass.{Pass}
 use Rattle.area_guard.specs.declared.guard.Pending.TheVariants.{Planned}
 use Rattle.area_guard.specs.declared.guard.Splice.{Splice}
@@ -23,13 +22,13 @@ use Rattle.area_guard.specs.Reads.{everything}
 use Rattle.area_guard.specs.History.{HasHistory, Allowed, IsPlanRow, rows_after, after_raise}
 use Rattle.area_guard.specs.History.MayAdd.{raise}
 use Rattle.area_guard.specs.Keeping.{no_note}
-use Rattle.area_guard.specs.Alike.{also_laid, also_rows, also_free, also_short}
+use Rattle.area_guard.specs.Alike.{also_laid, also_rows, also_free, also_short, also_told}
 use Rattle.area_guard.specs.Slots.{slots_as}
 use Rattle.row_blocks.specs.Blocks.{blocks_of, rows_of, IsLaidOut, rows_in as rows_by}
 use Rattle.std.specs.List.{splice}
 use Rattle.row_blocks.proofs.RowSplices.{length-splice, splice_none}
 use Rattle.row_blocks.proofs.Slots.{length-slots_in, length-rows_in}
-use Rattle.area_guard.specs.Reads.{known_count, known_rows, known_words, HasGap, KnowsWords, KnowsBlocks}
+use Rattle.area_guard.specs.Reads.{known_count, known_rows, known_words, KnowsWords, KnowsBlocks}
 use Rattle.plan_words.proofs.Moments.{here_at, part_at, backs_at}
 use Rattle.plan_words.proofs.Storing.{word_now, count_now}
 
@@ -65,27 +64,19 @@ module _ (seat : ℕ) {held : Option Held} {pass : Pass} (plan : Splice) (all : 
         counted = stands ∙ (sym (ap length rows) ∙ sym slots);
         free = subst (λ (n : ℕ). blocks_of n blocks < n) nb (also_free blocks b.laid fits same b.free);
         short = subst (λ (n : ℕ). rows_of n blocks 0 < 64) nb (also_short blocks b.laid fits same b.free b.short);
+        told = subst (λ (n : ℕ). GapsTold n blocks) nb (also_told blocks b.laid fits same b.told);
       }
 
-  -- and the gap word that is noted is right for it
-  gap_right : (grants : Grants) (words : List ℕ) (passes : List Pass) (kept : HasHistory grants words passes) → get_elem? passes seat ≡ some pass
-      → HasGap pass (rows_after plan) → IsGapWord (kind_at kept.2) (slice_index words 0)
-  gap_right grants words passes kept own gap =
-      let part = part_at grants words passes seat pass kept own in
-      let shows = (backs_at grants words passes seat pass kept own plan planned).1 in
-      subst (IsGapWord (kind_at kept.2)) (sym (part.gap gap.0 gap.1)) (gap_shown (rows_after plan) (kind_at kept.2) gap.0 shows.show gap.2)
-
   -- so the sequence word may be raised
-  pub may_raise : KnowsBlocks pass → known_rows pass ≡ rows_after plan → known_count pass ≡ length (rows_after plan) → HasGap pass (rows_after plan)
+  pub may_raise : KnowsBlocks pass → known_rows pass ≡ rows_after plan → known_count pass ≡ length (rows_after plan)
       → IsAllowed HasHistory Allowed no_note seat held pass (adds 1 1)
-  may_raise b has counted gap grants words passes m there small =
+  may_raise b has counted grants words passes m there small =
       let here = here_at m in (
         after_raise pass,
         (
           refl,
           here,
-          raise plan refl planned (written_shows grants words passes m.met m.grant m.own b has counted)
-              (gap_right grants words passes m.met m.own gap) refl,
+          raise plan refl planned (written_shows grants words passes m.met m.grant m.own b has counted) refl,
         ),
       )
 
@@ -112,6 +103,18 @@ more_rows plan is inside =
     (All-drop (IsOneOf (rows_after plan)) plan.first (rows_after plan) (all_one_of (rows_after plan))) in
     subst (All (IsPlanRow plan)) (sym is) (All-weaker (IsOneOf (rows_after plan)) (IsPlanRow plan) (λ w one. inr one) plan.more
     (subst (All (IsOneOf (rows_after plan))) here all))
+
+-- what is so of all rows after a splice is so of those that came
+pub more_all : (P : ℕ → Type 0) (plan : Splice) {more : List ℕ} → more ≡ plan.more → plan.first ≤ length plan.old → All P (rows_after plan) → All P more
+more_all P plan is inside all =
+    let front : List ℕ = take plan.first plan.old in
+    let back : List ℕ = drop plan.end plan.old in
+    let long : length front ≡ plan.first = length-take-le plan.first plan.old inside in
+    let behind : drop plan.first (rows_after plan) ≡ plan.more ++ back = drop_at front (plan.more ++ back) plan.first long in
+    let here : take (length plan.more) (drop plan.first (rows_after plan)) ≡ plan.more =
+    ap (take (length plan.more)) behind ∙ take_at plan.more back (length plan.more) refl in
+    subst (All P) (here ∙ sym is)
+    (All-take P (length plan.more) (drop plan.first (rows_after plan)) (All-drop P plan.first (rows_after plan) all))
 
 -- where no row goes and none comes the rows after a splice are those before it
 pub none_written : (plan : Splice) {gone : ℕ} {more : List ℕ} → plan.end ≡ plan.first + gone → gone ≡ 0 → more ≡ plan.more → length more ≡ 0

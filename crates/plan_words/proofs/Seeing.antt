@@ -13,7 +13,8 @@ use Rattle.area_guard.specs.Slots.{layout_long}
 use Rattle.row_blocks.specs.Blocks.{run, blocks_of, rows_of, IsLaidOut, rows_in as rows_by}
 use Rattle.area_guard.specs.Reads.{known_rows, known_words, KnowsWords, KnowsBlocks}
 use Rattle.plan_words.proofs.Knowing.{known_long}
-use Rattle.area_guard.specs.Alike.{also_laid, also_rows, also_free, also_short}
+use Rattle.row_blocks.specs.Gaps.{GapsTold}
+use Rattle.area_guard.specs.Alike.{also_laid, also_rows, also_free, also_short, also_told}
 
 -- the words of numbers from one on are read as they are noted
 noted_run : (words : List ℕ) (rows : List ReadRow) (from n k : ℕ) → k < n
@@ -50,12 +51,14 @@ known_blocks words kinds pass room s k at =
     let laid : IsLaidOut pass.blocks blocks = subst (λ (n : ℕ). IsLaidOut n blocks) nb s.laid in
     let free : blocks_of pass.blocks blocks < pass.blocks = subst (λ (n : ℕ). blocks_of n blocks < n) nb s.free in
     let short : rows_of pass.blocks blocks 0 < 64 = subst (λ (n : ℕ). rows_of n blocks 0 < 64) nb s.short in
+    let told : GapsTold pass.blocks blocks = subst (λ (n : ℕ). GapsTold n blocks) nb s.told in
     let same : (t : ℕ) → t < 129 * pass.blocks + 1 → slice_index (known_words pass) t ≡ slice_index blocks t =
     λ (t : ℕ) lt. at t lt ∙ sym (get_or-drop 3 words t 0) in (
       record {
         laid = also_laid (known_words pass) laid fits same;
         free = also_free (known_words pass) laid fits same free;
         short = also_short (known_words pass) laid fits same free short;
+        told = also_told (known_words pass) laid fits same told;
       },
       also_rows (known_words pass) laid fits same ∙ ap (λ (n : ℕ). rows_by n blocks) (sym nb),
     )

@@ -23,31 +23,30 @@ use Rattle.space_model.specs.declared.entries.Entry.{Entry}
 use Rattle.area_guard.specs.Rows.{nb_in, layout_in, slots_to}
 use Rattle.area_guard.specs.Reads.{everything, HasRead, noted_at}
 use Rattle.area_guard.specs.Writes.{everything_pages}
-use Rattle.area_guard.specs.History.{StillLaid, StillGap, HasBlocks, HasHistory, HoldsJust, HoldsNothing, HoldsPages, Allowed, Here}
+use Rattle.area_guard.specs.History.{StillLaid, HasBlocks, HasHistory, HoldsJust, HoldsNothing, HoldsPages, Allowed, Here}
 use Rattle.area_guard.specs.History.{IsNew, IsPlanRow, MayLoad, MayStore, MayWrite, MayAdd}
-use Rattle.area_guard.specs.History.{laid_with, without, rows_after, after_seen, after_layout, after_row, after_store, after_gap, after_step, after_raise}
-use Rattle.area_guard.specs.History.MayLoad.{number, glance, sequence, layout, gap_word, row}
-use Rattle.area_guard.specs.History.MayStore.{store_row, store_count, store_gap, store_layout}
+use Rattle.area_guard.specs.History.{laid_with, without, rows_after, after_seen, after_layout, after_row, after_store, after_raise}
+use Rattle.area_guard.specs.History.MayLoad.{number, glance, sequence, layout, row}
+use Rattle.area_guard.specs.History.MayStore.{store_row, store_count, store_layout}
 use Rattle.area_guard.specs.History.MayAdd.{draw, raise}
 use Rattle.area_guard.specs.Draws.{only_load}
 use Rattle.area_guard.specs.Keeping.{no_note, steps_keep}
 use Rattle.area_guard.specs.Slots.{layout_long}
 use Rattle.area_guard.specs.Reads.{known_count, known_words, KnowsWords}
-use Rattle.plan_words.specs.Writing.{HoldsWords, KeepsGap, KeepsRead, WritesPlan, IsWriting, IsWritten, IsCountedOn, plan_at, splice_in}
+use Rattle.plan_words.specs.Writing.{HoldsWords, KeepsRead, WritesPlan, IsWriting, IsWritten, IsCountedOn, plan_at, splice_in}
 use Rattle.plan_words.proofs.Knowing.{known_at, count_at, same_known, set_known}
 use Rattle.plan_words.proofs.Moments.{here_at, part_at, rows_at}
 
--- a pass that knows another layout, other rows and another gap word, one step later
-abbrev knows : Option (List ℕ) → List ReadRow → Option ℕ → Pass → Pass
-knows laid rows gap p = record p { laid = laid; rows = rows; gap = gap; since = p.since + 1 }
+-- a pass that knows another layout and other rows, one step later
+abbrev knows : Option (List ℕ) → List ReadRow → Pass → Pass
+knows laid rows p = record p { laid = laid; rows = rows; since = p.since + 1 }
 
 -- a caller knows others words than before, and all of them
 record Learns (p after : Pass) : Type 0 where
   laid : Option (List ℕ)
   rows : List ReadRow
-  gap : Option ℕ
-  is : after ≡ knows laid rows gap p
-  all : KnowsWords (knows laid rows gap p)
+  is : after ≡ knows laid rows p
+  all : KnowsWords (knows laid rows p)
 
 -- rows that are read, after one was stored
 has_one : (index i w : ℕ) (r : ReadRow) (kept : List ReadRow) (b : Bool) → eqb r.index index ≡ b → (i ≡ index → ⊥)
@@ -71,11 +70,9 @@ load_learns : {own : Option Held → Type 0} {free held : Type 0} {words : List 
 load_learns place lt room k (number h o keeps e is) = absurd (omega arith)
 load_learns place lt room k (glance f e is) = absurd (omega arith)
 load_learns place lt room k (sequence h e is) = absurd (omega arith)
-load_learns place lt room k (gap_word h e is) = absurd (omega arith)
 load_learns {words} place {p} lt room k (layout h at is) = record {
   laid = Some (layout_in words);
   rows = noted_at words (slots_to (nb_in words)) ++ p.rows;
-  gap = Some (slice_index words 0);
   is = is;
   all = record {
     layout = layout_in words;
@@ -87,7 +84,6 @@ load_learns {words} place {p} lt room k (layout h at is) = record {
 load_learns {words} place {p} lt room k (row i h slot e is) = record {
   laid = p.laid;
   rows = record { index = i; word = slice_index words (3 + i) } ∷ p.rows;
-  gap = p.gap;
   is = is;
   all = record {
     layout = k.layout;
@@ -99,31 +95,28 @@ load_learns {words} place {p} lt room k (row i h slot e is) = record {
 
 -- and keeps
 load_keeps : {own : Option Held → Type 0} {free held : Type 0} {words : List ℕ} {history : List Entry} (place : ℕ) {p after : Pass}
-    → place < 129 * p.blocks + 1 → StillLaid words p.laid → StillGap words p.gap → MayLoad own free held words history (3 + place) p after
+    → place < 129 * p.blocks + 1 → StillLaid words p.laid → MayLoad own free held words history (3 + place) p after
     → KeepsRead p after
-load_keeps place lt still told (number h o keeps e is) = absurd (omega arith)
-load_keeps place lt still told (glance f e is) = absurd (omega arith)
-load_keeps place lt still told (sequence h e is) = absurd (omega arith)
-load_keeps place lt still told (gap_word h e is) = absurd (omega arith)
-load_keeps {words} place {p} lt still told (layout h at is) = subst (KeepsRead p) (sym is) (record {
+load_keeps place lt still (number h o keeps e is) = absurd (omega arith)
+load_keeps place lt still (glance f e is) = absurd (omega arith)
+load_keeps place lt still (sequence h e is) = absurd (omega arith)
+load_keeps {words} place {p} lt still (layout h at is) = subst (KeepsRead p) (sym is) (record {
   laid = λ layout e. ap Some (still layout e);
   rows = λ i w h. has_later words (slots_to (nb_in words)) p.rows i w h;
   sequence = λ n e. e;
-  gap = λ n e. ap Some (told n e);
   pending = refl;
   blocks = refl;
 })
-load_keeps place {p} lt still told (row i h slot e is) = subst (KeepsRead p) (sym is) (record {
+load_keeps place {p} lt still (row i h slot e is) = subst (KeepsRead p) (sym is) (record {
   laid = λ layout e. e;
   rows = λ j w h. inr h;
   sequence = λ n e. e;
-  gap = λ n e. e;
   pending = refl;
   blocks = refl;
 })
 
 -- what a pass knows after a word of its layout was stored
-laid_learns : (index value : ℕ) {p : Pass} → KnowsWords p → KnowsWords (knows (laid_with index value p.laid) p.rows p.gap p)
+laid_learns : (index value : ℕ) {p : Pass} → KnowsWords p → KnowsWords (knows (laid_with index value p.laid) p.rows p)
 laid_learns index value k = record {
   layout = set k.layout index value;
   laid = ap (laid_with index value) k.laid;
@@ -136,7 +129,6 @@ store_learns : {plan : Splice} {place value : ℕ} {p after : Pass} → KnowsWor
 store_learns {value} {p} k (store_row i slot e v is) = record {
   laid = p.laid;
   rows = record { index = i; word = value } ∷ without i p.rows;
-  gap = p.gap;
   is = is;
   all = record {
     layout = k.layout;
@@ -146,34 +138,13 @@ store_learns {value} {p} k (store_row i slot e v is) = record {
         (λ differ. let r = k.slots s lt in (r.0, inr (has_others i s r.0 p.rows differ r.1)));
   };
 }
-store_learns {value} {p} k (store_count e v is) = record { laid = laid_with 0 value p.laid; rows = p.rows; gap = p.gap; is = is; all = laid_learns 0 value k }
-store_learns {value} {p} k (store_gap e is) = record {
-  laid = p.laid;
-  rows = p.rows;
-  gap = Some value;
-  is = is;
-  all = record { layout = k.layout; laid = k.laid; long = k.long; slots = k.slots };
-}
+store_learns {value} {p} k (store_count e v is) = record { laid = laid_with 0 value p.laid; rows = p.rows; is = is; all = laid_learns 0 value k }
 store_learns {value} {p} k (store_layout i few e is) = record {
   laid = laid_with (suc i) value p.laid;
   rows = p.rows;
-  gap = p.gap;
   is = is;
   all = laid_learns (suc i) value k;
 }
-
--- which keeps the gap word, unless it is the one that is stored
-store_keeps : {plan : Splice} {place value : ℕ} {p after : Pass} → place ≢ 0 → MayStore plan place value p after → KeepsGap p after
-store_keeps {p} other (store_row i slot e v is) = subst (KeepsGap p) (sym is) (λ n g. g)
-store_keeps {p} other (store_count e v is) = subst (KeepsGap p) (sym is) (λ n g. g)
-store_keeps other (store_gap e is) = absurd (other e)
-store_keeps {p} other (store_layout i few e is) = subst (KeepsGap p) (sym is) (λ n g. g)
-
-store_notes : {plan : Splice} {value : ℕ} {p after : Pass} → MayStore plan 0 value p after → after.gap ≡ Some value
-store_notes (store_row i slot e v is) = absurd (omega arith)
-store_notes (store_count e v is) = absurd (omega arith)
-store_notes (store_gap e is) = ap (λ (x : Pass). x.gap) is
-store_notes (store_layout i few e is) = absurd (omega arith)
 
 -- a caller with a splice makes the stores of that splice
 of_plan : (words : List ℕ) {pending : Pending} (plan : Splice) (place value : ℕ) (p after : Pass) → pending ≡ Planned plan
@@ -205,12 +176,6 @@ module _ (seat : ℕ) {held : Option Held} {pass : Pass} (all : held ≡ Some ev
         | inr ge ↦ (after_seen words pass, (here, inl (layout pages (inr (omega arith, omega arith)) refl)))
       ]
 
-  -- and of the gap word
-  pub may_load_gap : IsAllowed HasHistory Allowed no_note seat held pass (loads 0)
-  may_load_gap grants words passes m there small =
-      let pages : HoldsPages grants seat = (everything, m.grant ∙ ap some all, everything_pages) in
-      (after_step pass, (here_at m, inl (gap_word pages refl refl)))
-
   -- of one that has a splice to write
   module _ (plan : Splice) (planned : pass.pending ≡ Planned plan) where
     may_write : (words : List ℕ) (place value : ℕ) (after : Pass) → MayStore plan place value pass after → IsNew words place value
@@ -241,18 +206,6 @@ module _ (seat : ℕ) {held : Option Held} {pass : Pass} (all : held ≡ Some ev
             here,
             may_write words (3 + place) value (after_layout (suc index) value pass) (store_layout index (omega arith) (omega arith) refl)
                 (λ same. differs (word_now grants words passes m.met m.grant m.own place lt ∙ same)),
-          ),
-        )
-
-    -- the store of the gap word, where it isn't the one that was noted
-    pub may_store_gap : (value : ℕ) → (n : ℕ) × (pass.gap ≡ Some n) → pass.gap ≢ Some value
-        → IsAllowed HasHistory Allowed no_note seat held pass (stores 0 value)
-    may_store_gap value noted differs grants words passes m there small =
-        let stands = (part_at grants words passes seat pass m.met m.own).gap noted.0 noted.1 in (
-          after_gap value pass,
-          (
-            here_at m,
-            may_write words 0 value (after_gap value pass) (store_gap refl refl) (λ same. differs (noted.1 ∙ ap Some (sym stands ∙ same))),
           ),
         )
 
@@ -334,46 +287,14 @@ module _ {table : TableShape} {a : SeatState Pass} (b : SeatState Pass) (w : Hol
         word = sym made.4 ∙ sym (before place lt);
         words = same_known w.knows step.holds.knows step.writing.blocks (λ t few. after.0 t few ∙ sym (before t few));
         count = after.1 ∙ sym counted;
-        read = load_keeps place lt part.laid part.gap may;
+        read = load_keeps place lt part.laid may;
       }
-
--- what a load of the gap word leaves
-gap_loads : {own : Option Held → Type 0} {free held : Type 0} {words : List ℕ} {history : List Entry} {p after : Pass}
-    → MayLoad own free held words history 0 p after → after ≡ after_step p
-gap_loads (number h o keeps e is) = absurd (omega arith)
-gap_loads (glance f e is) = absurd (omega arith)
-gap_loads (sequence h e is) = absurd (omega arith)
-gap_loads (layout h at is) = absurd (⊎_elim (λ two. omega arith) (λ t. let a = t.0 in omega arith) at)
-gap_loads (gap_word h e is) = is
-gap_loads (row i h slot e is) = absurd (omega arith)
-
--- it finds the gap word that was noted
-pub gap_loaded : {table : TableShape} {a b : SeatState Pass} (found : ℕ) → HoldsWords table a → (n : ℕ) × (a.pass.gap ≡ Some n) → IsClientCall a 0 b
-    → IsMade HasHistory Allowed no_note a.number a.held a.pass (loads 0) found b.pass
-    → IsStep table a b × (a.pass.gap ≡ Some found) × (b.pass ≡ after_step a.pass)
-gap_loaded {a} found w noted call made =
-    let m = made.3 in let here = made.5.0 in
-    let same : here.pass ≡ a.pass = some-injective here.pass a.pass (sym here.own ∙ m.own) in
-    let part = part_at made.0 made.1 made.2 a.number a.pass m.met m.own in
-    let is = gap_loads (only_load (λ e. omega arith) made.5.1) ∙ ap after_step same in
-    let all = w.knows in (
-      step_of w call (record {
-        laid = a.pass.laid;
-        rows = a.pass.rows;
-        gap = a.pass.gap;
-        is = is;
-        all = record { layout = all.layout; laid = all.laid; long = all.long; slots = all.slots };
-      }),
-      noted.1 ∙ ap Some (sym (part.gap noted.0 noted.1) ∙ made.4),
-      is,
-    )
 
 -- a store among the words of the blocks, or of the row count
 pub record IsStore (table : TableShape) (a b : SeatState Pass) (words : List ℕ) (count : ℕ) : Type 0 where
   pub step : IsStep table a b
   pub words_are : known_words b.pass ≡ words
   pub count_is : known_count b.pass ≡ count
-  pub gap : KeepsGap a.pass b.pass
 
 -- where it was made each word that the seat knew stood, and each word that it knows stands behind it
 record WasStored (table : TableShape) (a b : SeatState Pass) (at value : ℕ) (words : List ℕ) : Type 0 where
@@ -421,7 +342,6 @@ module _ {table : TableShape} {a b : SeatState Pass} (w : WritesPlan table a) (v
             (s.after place lt ∙ get_or-set_same words (3 + place) value 0 (omega arith))
             (λ t few differ. s.after t few ∙ (get_or-set_other words (3 + place) (3 + t) value 0 (λ e. differ (omega arith)) ∙ sym (s.before t few)));
         count_is = s.counts ∙ (get_or-set_other words (3 + place) 2 value 0 (λ e. omega arith) ∙ sym s.counted);
-        gap = store_keeps (λ e. omega arith) s.may;
       }
 
   -- the row count
@@ -434,25 +354,12 @@ module _ {table : TableShape} {a b : SeatState Pass} (w : WritesPlan table a) (v
         words_are = same_known w.holds.knows s.step.holds.knows s.step.writing.blocks
             (λ t few. s.after t few ∙ (get_or-set_other made.1 2 (3 + t) value 0 (λ e. omega arith) ∙ sym (s.before t few)));
         count_is = s.counts ∙ get_or-set_same made.1 2 value 0 (omega arith);
-        gap = store_keeps (λ e. omega arith) s.may;
       }
-
-  -- the gap word
-  pub gap_stored : IsClientCall a 0 b → IsMade HasHistory Allowed no_note a.number a.held a.pass (stores 0 value) found b.pass
-      → IsStep table a b × (known_words b.pass ≡ known_words a.pass) × (known_count b.pass ≡ known_count a.pass) × (b.pass.gap ≡ Some value)
-  gap_stored call made =
-      let s = stored call made in (
-        s.step,
-        same_known w.holds.knows s.step.holds.knows s.step.writing.blocks
-            (λ t few. s.after t few ∙ (get_or-set_other made.1 0 (3 + t) value 0 (λ e. omega arith) ∙ sym (s.before t few))),
-        s.counts ∙ (get_or-set_other made.1 0 2 value 0 (λ e. omega arith) ∙ sym s.counted),
-        store_notes s.may,
-      )
 
 raise_after : {grants : Grants} {words : List ℕ} {passes : List Pass} {worker : ℕ} {here : Here grants words passes worker} {after : Pass}
     → MayAdd grants words passes worker no_note here 1 after → after ≡ after_raise here.pass
 raise_after (draw e keeps drew) = absurd (omega arith)
-raise_after (raise plan e pends written right is) = is
+raise_after (raise plan e pends written is) = is
 
 -- the raising of the sequence word, after which all is written
 pub all_written : {a b : SeatState Pass} (found : ℕ) → IsClientCall a 1 b → IsMade HasHistory Allowed no_note a.number a.held a.pass (adds 1 1) found b.pass

@@ -5,10 +5,8 @@ use Rattle.std.proofs.Common.{◌≡◌, ◌<◌, ◌≤◌, ◌∙◌, ℕ, Lis
 use Rattle.range_rw.specs.Contract.{SeatState, TableShape}
 use Rattle.row_blocks.specs.declared.positions.Position.{Position}
 use Rattle.row_blocks.specs.Blocks.{IsLaidOut, blocks_of, rows_of, rows_in}
-use Rattle.space_model.specs.Areas.{kind_at}
-use Rattle.row_plans.specs.RowLists.{areas_from}
 use Rattle.row_plans.specs.Plans.{IsRowList}
-use Rattle.row_plans.specs.Gaps.{IsGapWord}
+use Rattle.row_blocks.specs.Gaps.{GapsTold}
 use Rattle.area_guard.specs.declared.guard.Pass.{Pass}
 use Rattle.area_guard.specs.Rows.{room_of}
 use Rattle.area_guard.specs.History.{IsAtRest}
@@ -61,7 +59,6 @@ keeps_on a b c f g = record {
   laid = λ layout e. g.laid layout (f.laid layout e);
   rows = λ index word h. g.rows index word (f.rows index word h);
   sequence = λ n e. g.sequence n (f.sequence n e);
-  gap = λ n e. g.gap n (f.gap n e);
   pending = g.pending ∙ f.pending;
   blocks = g.blocks ∙ f.blocks;
 }
@@ -110,13 +107,9 @@ still_knows one two loaded knows =
         laid = subst (λ (z : ℕ × List ℕ). IsLaidOut z.0 z.1) both knows.blocks.laid;
         free = subst (λ (z : ℕ × List ℕ). blocks_of z.0 z.1 < z.0) both knows.blocks.free;
         short = subst (λ (z : ℕ × List ℕ). rows_of z.0 z.1 0 < 64) both knows.blocks.short;
+        told = subst (λ (z : ℕ × List ℕ). GapsTold z.0 z.1) both knows.blocks.told;
       };
       counted = loaded.count ∙ (knows.counted ∙ ap length (sym (same_rows one two loaded)));
-      gap = (
-        knows.gap.0,
-        loaded.reading.read.gap knows.gap.0 knows.gap.1,
-        subst (λ (l : List ℕ). IsGapWord (kind_at (areas_from l)) knows.gap.0) (sym (same_rows one two loaded)) knows.gap.2,
-      );
     }
 
 -- the seat may load again, and finds the same words

@@ -36,17 +36,12 @@ pub record WritesPlan (table : TableShape) (seat : SeatState Pass) : Type 0 wher
   pub holds : HoldsWords table seat
   pub pending : seat.pass.pending ≡ Planned (plan_at seat)
 
--- a pass has the gap word that another has noted
-abbrev pub KeepsGap : Pass → Pass → Type 0
-KeepsGap old new = (n : ℕ) → old.gap ≡ Some n → new.gap ≡ Some n
-
--- a pass still has what another has read: the layout, the rows, the sequence word and the gap word; and it has as much
--- to write, over as many blocks
+-- a pass still has what another has read: the layout, the rows and the sequence word; and it has as much to write, over
+-- as many blocks
 pub record KeepsRead (old new : Pass) : Type 0 where
   pub laid : (layout : List ℕ) → old.laid ≡ Some layout → new.laid ≡ Some layout
   pub rows : (index word : ℕ) → HasRead old.rows index word → HasRead new.rows index word
   pub sequence : (n : ℕ) → old.sequence ≡ Some n → new.sequence ≡ Some n
-  pub gap : KeepsGap old new
   pub pending : new.pending ≡ old.pending
   pub blocks : new.blocks ≡ old.blocks
 

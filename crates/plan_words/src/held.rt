@@ -1,10 +1,10 @@
 //! The rows of a space, as `row_plans` asks for them: found and loaded where a plan needs them, by the seat of a caller
 //! that holds everything and has nothing to write. A reader may rely on all loads finding the rows that the caller
 //! knows.
-use crate::steps::{load_gap, load_word};
+use crate::steps::load_word;
 use area_guard::RowGuard;
 use range_rw::{RangeTable, Seat};
-use row_blocks::{Loads, Position, find, next, previous, row_at};
+use row_blocks::{Loads, Position, find, gap_before, next, previous, row_at};
 use row_plans::{Found, Rows};
 
 /// The words of the blocks of a table, of which there are so many.
@@ -51,7 +51,9 @@ pub struct HeldRows<'a> {
 }
 
 impl<'a> Rows for HeldRows<'a> {
-    ghost use Rattle.area_guard.specs.Reads.{known_rows};
+    ghost use Rattle.std.specs.Prelude.{◌+◌};
+    ghost use Rattle.row_blocks.specs.Blocks.{blocks_of};
+    ghost use Rattle.area_guard.specs.Reads.{known_rows, known_words};
     ghost use Rattle.plan_words.specs.Places.{number_at};
     ghost use Rattle.plan_words.specs.Reading.{HasLoaded, MayLoadAll, no_load_all, loads_on_all, same_known, same_places};
 
@@ -78,6 +80,10 @@ impl<'a> Rows for HeldRows<'a> {
     ghost are_rows = { λ rows seat may. may.list };
 
     ghost steps = { λ rows seat. seat.trace.taken };
+
+    ghost gap_loads = { λ rows seat. blocks_of rows.words.blocks (known_words seat.pass) + 257 };
+
+    ghost same_gap = { λ rows one two may loaded. λ i. blocks_of rows.words.blocks (loaded.same i) + 257 };
 
     fn count(&self) -> u32 {
         self.count
@@ -108,7 +114,13 @@ impl<'a> Rows for HeldRows<'a> {
         previous(&self.words, hand, self.words.blocks, at)
     }
 
-    fn gap(&self, hand: &mut Seat<RowGuard>) -> u64 {
-        load_gap(self.words.table, hand)
+    fn gap_before(
+        &self,
+        hand: &mut Seat<RowGuard>,
+        at: Position,
+        start: u64,
+        pages: u64,
+    ) -> Option<u64> {
+        gap_before(&self.words, hand, self.words.blocks, at, start, pages)
     }
 }

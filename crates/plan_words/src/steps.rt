@@ -1,17 +1,14 @@
-//! The steps by which a splice is written: a word of the blocks is loaded or stored, the row count and the gap word are
-//! stored, and the sequence word is raised. Each is one atomic step. Only the caller that has the splice makes them,
+//! The steps by which a splice is written: a word of the blocks is loaded or stored, the row count is stored, and the
+//! sequence word is raised. Each is one atomic step. Only the caller that has the splice makes them,
 //! and nobody else reads these words meanwhile; so it knows all of them.
 ghost use Rattle.std.specs.Prelude.{ℕ, Some, ◌≡◌, ◌≢◌, ◌<◌, ◌≤◌, ◌+◌, ◌*◌, length, slice_index, slice_set};
 ghost use Rattle.area_guard.specs.History.{IsPlanRow, rows_after};
-ghost use Rattle.area_guard.specs.Reads.{known_count, known_rows, known_words, HasGap, KnowsBlocks};
-ghost use Rattle.plan_words.specs.Writing.{HoldsWords, KeepsGap, KeepsRead, WritesPlan, IsWriting, IsWritten, plan_at};
+ghost use Rattle.area_guard.specs.Reads.{known_count, known_rows, known_words, KnowsBlocks};
+ghost use Rattle.plan_words.specs.Writing.{HoldsWords, KeepsRead, WritesPlan, IsWriting, IsWritten, plan_at};
 
 use area_guard::RowGuard;
 use lock_core::Means;
 use range_rw::{RangeTable, Seat};
-
-/// The place of the gap word.
-const GAP: u32 = 0;
 
 /// The place of the client word that counts the entries numbered under everything.
 const SEQUENCE: u32 = 1;
@@ -46,21 +43,6 @@ pub(crate) fn load_word(table: &RangeTable<RowGuard>, seat: &mut Seat<RowGuard>,
     table.load_as_uncounted::<Plain>(seat, FIRST_ROW + place)
 }
 
-/// Loads the gap word, by a seat that holds everything and has noted it.
-pub(crate) fn load_gap(table: &RangeTable<RowGuard>, seat: &mut Seat<RowGuard>) -> u64
-    requires holds { HoldsWords table.now seat.old }
-    requires noted { (word : ℕ) × (seat.old.pass.gap ≡ Some word) }
-    ensures word { seat.old.pass.gap ≡ Some result }
-    ensures words { known_words seat.new.pass ≡ known_words seat.old.pass }
-    ensures count { known_count seat.new.pass ≡ known_count seat.old.pass }
-    ensures read { KeepsRead seat.old.pass seat.new.pass }
-    ensures holds { HoldsWords table.now seat.new }
-    ensures writing { IsWriting seat.old seat.new }
-    ensures taken { seat.new.trace.taken ≡ seat.old.trace.taken + 1 }
-{
-    table.load_as_uncounted::<Plain>(seat, GAP)
-}
-
 /// Stores a row of the splice, before it or after it, in a slot where another word stands.
 pub(crate) fn store_row(
     table: &RangeTable<RowGuard>,
@@ -74,7 +56,6 @@ pub(crate) fn store_row(
     requires differs { slice_index (known_words seat.old.pass) slot ≢ word }
     ensures words { known_words seat.new.pass ≡ slice_set (known_words seat.old.pass) slot word }
     ensures count { known_count seat.new.pass ≡ known_count seat.old.pass }
-    ensures gap { KeepsGap seat.old.pass seat.new.pass }
     ensures writes { WritesPlan table.now seat.new }
     ensures writing { IsWriting seat.old seat.new }
     ensures taken { seat.new.trace.taken ≡ seat.old.trace.taken + 1 }
@@ -95,7 +76,6 @@ pub(crate) fn store_layout(
     requires differs { slice_index (known_words seat.old.pass) place ≢ word }
     ensures words { known_words seat.new.pass ≡ slice_set (known_words seat.old.pass) place word }
     ensures count { known_count seat.new.pass ≡ known_count seat.old.pass }
-    ensures gap { KeepsGap seat.old.pass seat.new.pass }
     ensures writes { WritesPlan table.now seat.new }
     ensures writing { IsWriting seat.old seat.new }
     ensures taken { seat.new.trace.taken ≡ seat.old.trace.taken + 1 }
@@ -110,7 +90,6 @@ pub(crate) fn store_count(table: &RangeTable<RowGuard>, seat: &mut Seat<RowGuard
     requires differs { known_count seat.old.pass ≢ count }
     ensures words { known_words seat.new.pass ≡ known_words seat.old.pass }
     ensures count { known_count seat.new.pass ≡ count }
-    ensures gap { KeepsGap seat.old.pass seat.new.pass }
     ensures writes { WritesPlan table.now seat.new }
     ensures writing { IsWriting seat.old seat.new }
     ensures taken { seat.new.trace.taken ≡ seat.old.trace.taken + 1 }
@@ -118,29 +97,12 @@ pub(crate) fn store_count(table: &RangeTable<RowGuard>, seat: &mut Seat<RowGuard
     table.store_as_uncounted::<Plain>(seat, ROW_COUNT, count as u64);
 }
 
-/// Stores the gap word, where it isn't the one that was noted.
-pub(crate) fn store_gap(table: &RangeTable<RowGuard>, seat: &mut Seat<RowGuard>, word: u64)
-    requires writes { WritesPlan table.now seat.old }
-    requires noted { (n : ℕ) × (seat.old.pass.gap ≡ Some n) }
-    requires differs { seat.old.pass.gap ≢ Some word }
-    ensures gap { seat.new.pass.gap ≡ Some word }
-    ensures words { known_words seat.new.pass ≡ known_words seat.old.pass }
-    ensures count { known_count seat.new.pass ≡ known_count seat.old.pass }
-    ensures writes { WritesPlan table.now seat.new }
-    ensures writing { IsWriting seat.old seat.new }
-    ensures taken { seat.new.trace.taken ≡ seat.old.trace.taken + 1 }
-{
-    table.store_as_uncounted::<Plain>(seat, GAP, word);
-}
-
-/// Raises the sequence word, where the rows of the splice and their count are written and the gap word is right for
-/// them.
+/// Raises the sequence word, where the rows of the splice and their count are written.
 pub(crate) fn raise_sequence(table: &RangeTable<RowGuard>, seat: &mut Seat<RowGuard>)
     requires writes { WritesPlan table.now seat.old }
     requires stands { KnowsBlocks seat.old.pass }
     requires rows { known_rows seat.old.pass ≡ rows_after (plan_at seat.old) }
     requires count { known_count seat.old.pass ≡ length (rows_after (plan_at seat.old)) }
-    requires gap { HasGap seat.old.pass (rows_after (plan_at seat.old)) }
     ensures written { IsWritten seat.old seat.new }
     ensures taken { seat.new.trace.taken ≡ seat.old.trace.taken + 1 }
 {

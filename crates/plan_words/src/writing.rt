@@ -1,17 +1,16 @@
 //! The splice that a call under everything makes of the rows is written: first the rows, by `row_blocks`, then the row
-//! count, where it differs, and the gap word, and then the sequence word is raised.
-ghost use Rattle.std.specs.Prelude.{ℕ, Some, [], ◌≡◌, ◌<◌, ◌≤◌, ◌+◌, ◌*◌, length};
+//! count, where it differs, and then the sequence word is raised.
+ghost use Rattle.std.specs.Prelude.{ℕ, All, [], ◌≡◌, ◌<◌, ◌≤◌, ◌+◌, ◌*◌, length};
 ghost use Rattle.area_guard.specs.Rows.{room_of};
 ghost use Rattle.area_guard.specs.History.{rows_after};
-ghost use Rattle.space_model.specs.Areas.{kind_at};
-ghost use Rattle.row_plans.specs.RowLists.{areas_from};
-ghost use Rattle.row_plans.specs.Gaps.{IsGapWord};
-ghost use Rattle.area_guard.specs.Reads.{known_count, known_rows, known_words, HasGap, KnowsBlocks};
+ghost use Rattle.page_types.specs.declared.TheConstants.{LIMIT};
+ghost use Rattle.row_plans.specs.RowWords.{row_start};
+ghost use Rattle.area_guard.specs.Reads.{known_count, known_rows, known_words, KnowsBlocks};
 ghost use Rattle.plan_words.specs.Laws.{HasWritten};
 ghost use Rattle.plan_words.specs.Places.{number_at, splice_at};
-ghost use Rattle.plan_words.specs.Writing.{KeepsGap, WritesPlan, IsWriting, IsWritten, plan_at};
+ghost use Rattle.plan_words.specs.Writing.{WritesPlan, IsWriting, IsWritten, plan_at};
 
-use crate::steps::{load_gap, raise_sequence, store_count, store_gap};
+use crate::steps::{raise_sequence, store_count};
 use crate::words::PlanWords;
 use area_guard::RowGuard;
 use range_rw::{RangeTable, Seat};
@@ -39,11 +38,13 @@ fn write_rows(
     requires stays { 0 < (plan_at seat.old).first + gone + length more.now → 0 < (plan_at seat.old).first + length more.now }
     requires fits { length (rows_after (plan_at seat.old)) ≤ room_of blocks }
     requires some { 0 < length (rows_after (plan_at seat.old)) }
+    requires low { All (λ w. row_start w ≤ LIMIT) (plan_at seat.old).old }
+    requires low_after { All (λ w. row_start w ≤ LIMIT) (rows_after (plan_at seat.old)) }
     ensures stands { KnowsBlocks seat.new.pass }
     ensures rows { known_rows seat.new.pass ≡ rows_after (plan_at seat.old) }
     ensures writes { WritesPlan table.now seat.new }
     ensures writing { HasWritten seat.old seat.new }
-    ensures steps { seat.new.trace.taken ≤ seat.old.trace.taken + (2 * length more.now + 13 * blocks + 1829) }
+    ensures steps { seat.new.trace.taken ≤ seat.old.trace.taken + (3 * length more.now + 16 * blocks + 2360) }
     ensures none { gone ≡ 0 → length more.now ≡ 0 → seat.new.trace.taken ≡ seat.old.trace.taken }
 {
     if gone == 0 && more.is_empty() {
@@ -66,7 +67,6 @@ fn write_count(table: &RangeTable<RowGuard>, seat: &mut Seat<RowGuard>, count: u
     ensures stands { KnowsBlocks seat.new.pass }
     ensures rows { known_rows seat.new.pass ≡ rows_after (plan_at seat.old) }
     ensures count { known_count seat.new.pass ≡ left }
-    ensures gap { KeepsGap seat.old.pass seat.new.pass }
     ensures writes { WritesPlan table.now seat.new }
     ensures writing { IsWriting seat.old seat.new }
     ensures taken { seat.new.trace.taken ≤ seat.old.trace.taken + 1 }
@@ -78,43 +78,10 @@ fn write_count(table: &RangeTable<RowGuard>, seat: &mut Seat<RowGuard>, count: u
     store_count(table, seat, left);
 }
 
-/// Stores the gap word where a row goes or one comes, and another one stands there; else it is right as it stands.
-fn write_gap(
-    table: &RangeTable<RowGuard>,
-    seat: &mut Seat<RowGuard>,
-    gone: u32,
-    more: &[u64],
-    gap: u64,
-)
-    requires writes { WritesPlan table.now seat.old }
-    requires stands { KnowsBlocks seat.old.pass }
-    requires rows { known_rows seat.old.pass ≡ rows_after (plan_at seat.old) }
-    requires right { IsGapWord (kind_at (areas_from (rows_after (plan_at seat.old)))) gap }
-    requires noted { (n : ℕ) × (seat.old.pass.gap ≡ Some n) }
-    requires stood { gone ≡ 0 → length more.now ≡ 0 → HasGap seat.old.pass (rows_after (plan_at seat.old)) }
-    ensures gap { HasGap seat.new.pass (rows_after (plan_at seat.old)) }
-    ensures stands { KnowsBlocks seat.new.pass }
-    ensures rows { known_rows seat.new.pass ≡ rows_after (plan_at seat.old) }
-    ensures count { known_count seat.new.pass ≡ known_count seat.old.pass }
-    ensures writes { WritesPlan table.now seat.new }
-    ensures writing { IsWriting seat.old seat.new }
-    ensures taken { seat.new.trace.taken ≤ seat.old.trace.taken + 2 }
-    ensures none { gone ≡ 0 → length more.now ≡ 0 → seat.new.trace.taken ≡ seat.old.trace.taken }
-{
-    if gone == 0 && more.is_empty() {
-        return;
-    }
-    if load_gap(table, seat) == gap {
-        return;
-    }
-    store_gap(table, seat, gap);
-}
-
-/// Writes a splice of the rows: the rows, their count, the gap word, and the sequence word. So many go from a position
-/// on, which is that of the first one that goes, or of any row where none goes; and others come in their place, at most
-/// four more. The seat holds everything, has this splice to write, and knows the words of the blocks and a gap word
-/// that is right for the rows as they stand; `gap` is right for those after the splice. It makes one step where no row
-/// goes and none comes, and takes no memory.
+/// Writes a splice of the rows: the rows, their count, and the sequence word. So many go from a position on, which is
+/// that of the first one that goes, or of any row where none goes; and others come in their place, at most four more.
+/// The seat holds everything, has this splice to write, and knows the words of the blocks. It makes one step where no
+/// row goes and none comes, and takes no memory.
 pub fn write_splice(
     table: &RangeTable<RowGuard>,
     seat: &mut Seat<RowGuard>,
@@ -123,7 +90,6 @@ pub fn write_splice(
     at: Position,
     gone: u32,
     more: &[u64],
-    gap: u64,
 )
     requires writes { WritesPlan table.now seat.old }
     requires blocks { seat.old.pass.blocks ≡ blocks }
@@ -137,14 +103,13 @@ pub fn write_splice(
     requires stays { 0 < number_at seat.old.pass at + gone + length more.now → 0 < number_at seat.old.pass at + length more.now }
     requires fits { length (rows_after (plan_at seat.old)) ≤ room_of blocks }
     requires some { 0 < length (rows_after (plan_at seat.old)) }
-    requires right { IsGapWord (kind_at (areas_from (rows_after (plan_at seat.old)))) gap }
-    requires stood { HasGap seat.old.pass (known_rows seat.old.pass) }
+    requires low { All (λ w. row_start w ≤ LIMIT) (known_rows seat.old.pass) }
+    requires low_after { All (λ w. row_start w ≤ LIMIT) (rows_after (plan_at seat.old)) }
     ensures written { IsWritten seat.old seat.new }
-    ensures steps { seat.new.trace.taken ≤ seat.old.trace.taken + (2 * length more.now + 13 * blocks + 1833) }
+    ensures steps { seat.new.trace.taken ≤ seat.old.trace.taken + (3 * length more.now + 16 * blocks + 2362) }
     ensures none { gone ≡ 0 → length more.now ≡ 0 → seat.new.trace.taken ≡ seat.old.trace.taken + 1 }
 {
     write_rows(table, seat, blocks, at, gone, more);
     write_count(table, seat, count, count - gone + more.len() as u32);
-    write_gap(table, seat, gone, more, gap);
     raise_sequence(table, seat);
 }

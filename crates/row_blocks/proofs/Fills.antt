@@ -1,21 +1,25 @@
 -- Rows that are laid out block by block, block i in body i.
-use Rattle.std.proofs.Common.{◌≡◌, ◌≢◌, ℕ, suc, ◌+◌, ◌-◌, ◌*◌, ◌%◌, ◌<◌, ◌≤◌, List, [], ◌∷◌, ◌++◌, length, get_or, take, drop}
-use Rattle.std.proofs.Common.{sym, ap, ◌∙◌, subst, arith, inl, inr}
+use Rattle.std.proofs.Common.{◌≡◌, ◌≢◌, ℕ, suc, ◌+◌, ◌-◌, ◌*◌, ◌/◌, ◌%◌, ◌<◌, ◌≤◌, List, [], ◌∷◌, ◌++◌, length, get_or, take, drop}
+use Rattle.std.proofs.Common.{sym, refl, ap, ◌∙◌, subst, arith, inl, inr}
 use Rattle.std.specs.Prelude.{slice_index, min}
 use Rattle.std.proofs.lemmas.Bool.{cases_lt}
 use Rattle.std.proofs.lemmas.List.{append_assoc, drop_more, take_more, length-append, length-drop, get_or-drop}
 use Rattle.std.proofs.Math.Seq.{take-add, take-length}
 use Rattle.std.proofs.Math.Nat.{mul-suc}
-use Rattle.row_blocks.specs.Blocks.{pieces, blocks_of, body_of, rows_of, body_at, block, rows_in, IsLaidOut}
+use Rattle.row_blocks.specs.Blocks.{pieces, blocks_of, body_of, rows_of, body_at, block, rows_in, count_to, IsLaidOut}
+use Rattle.row_blocks.specs.Gaps.{gap_of, IsLargestGap, GapsTold}
 use Rattle.row_blocks.proofs.Pieces.{same_pieces, piece_ends}
 use Rattle.row_blocks.proofs.Puts.{same_runs, same_block, block_length}
+use Rattle.row_blocks.proofs.Counts.{count_next, count_same}
+use Rattle.row_blocks.proofs.KeptGaps.{largest_same}
 
 -- so many rows of a list, from one on, are laid as a block
 pub record IsBlockLaid (nb : ℕ) (one two rows : List ℕ) (i from count : ℕ) : Type 0 where
   pub long : length two ≡ length one
   pub first : slice_index two i ≡ slice_index rows from
   pub others : (m : ℕ) → m < count - 1 → slice_index two (nb + 127 * i + m) ≡ slice_index rows (from + 1 + m)
-  pub told : slice_index two (128 * nb + 1 + i) ≡ 128 * i + (count - 1)
+  pub told : slice_index two (128 * nb + 1 + i) % 262144 ≡ 128 * i + (count - 1)
+  pub gap : IsLargestGap rows from (from + count) (slice_index two (128 * nb + 1 + i) / 262144)
   pub heads : (s : ℕ) → s < nb → s ≢ i → slice_index two s ≡ slice_index one s
   pub below : (s : ℕ) → nb ≤ s → s < nb + 127 * i → slice_index two s ≡ slice_index one s
   pub above : (s : ℕ) → nb + 127 * i + (count - 1) ≤ s → s ≢ 128 * nb → s ≢ 128 * nb + 1 + i → slice_index two s ≡ slice_index one s
@@ -26,15 +30,27 @@ pub record IsFilling (nb : ℕ) (one two rows : List ℕ) (i taken : ℕ) : Type
   pub body : (k : ℕ) → k < nb → body_of nb two k ≡ k
   pub none : (k : ℕ) → i ≤ k → k < nb → rows_of nb two k ≡ 0
   pub laid : pieces (block nb two) i ≡ take taken rows
+  pub counted : count_to nb two i ≡ taken
+  pub tells : (k : ℕ) → k < i → IsLargestGap rows (count_to nb two k) (count_to nb two (k + 1)) (gap_of nb two k)
   pub heads : (s : ℕ) → i ≤ s → s < nb → slice_index two s ≡ slice_index one s
   pub bodies : (k j : ℕ) → k < nb → rows_of nb two k ≤ j → j < 127 → slice_index two (nb + 127 * k + j) ≡ slice_index one (nb + 127 * k + j)
   pub above : (s : ℕ) → 129 * nb + 1 ≤ s → slice_index two s ≡ slice_index one s
 
 -- none at first
-pub nothing_laid : {nb : ℕ} {one two rows : List ℕ} → length two ≡ length one → ((k : ℕ) → k < nb → slice_index two (128 * nb + 1 + k) ≡ 128 * k)
-    → ((s : ℕ) → s < 128 * nb + 1 → slice_index two s ≡ slice_index one s) → ((s : ℕ) → 129 * nb + 1 ≤ s → slice_index two s ≡ slice_index one s)
-    → IsFilling nb one two rows 0 0
-nothing_laid {nb} long told below above = grind arith
+pub nothing_laid : {nb : ℕ} {one two rows : List ℕ} → nb ≤ 2048 → length two ≡ length one
+    → ((k : ℕ) → k < nb → slice_index two (128 * nb + 1 + k) ≡ 128 * k) → ((s : ℕ) → s < 128 * nb + 1 → slice_index two s ≡ slice_index one s)
+    → ((s : ℕ) → 129 * nb + 1 ≤ s → slice_index two s ≡ slice_index one s) → IsFilling nb one two rows 0 0
+nothing_laid {nb} few long told below above = record {
+  long = long;
+  body = λ k lt. let t = told k lt in omega arith;
+  none = λ k le lt. let t = told k lt in omega arith;
+  laid = refl;
+  counted = refl;
+  tells = λ k lt. absurd (omega arith);
+  heads = λ s le lt. below s (omega arith);
+  bodies = λ k j lt le least. below (nb + 127 * k + j) (omega arith);
+  above = above;
+}
 
 module _ {nb : ℕ} {one two three rows : List ℕ} {i taken count : ℕ} (wide : 129 * nb + 1 ≤ length one) (there : i < nb) (some : 0 < count)
     (most : count ≤ 128) (within : taken + count ≤ length rows) (before : IsFilling nb one two rows i taken)
@@ -82,9 +98,38 @@ module _ {nb : ℕ} {one two three rows : List ℕ} {i taken count : ℕ} (wide 
       let r = rows_here in
       grind (arith, rows_same k lt, before.none k, laid.below (nb + 127 * k + j), laid.above (nb + 127 * k + j), before.bodies k j)
 
+  count_stands : (k : ℕ) → k ≤ i → count_to nb three k ≡ count_to nb two k
+  count_stands k le = count_same nb two three k (λ l lt. rows_same l (omega arith) (λ e. omega arith))
+
+  counted_now : count_to nb three (i + 1) ≡ taken + count
+  counted_now =
+      let next = count_next nb three i in let same = count_stands i (omega arith) in let r = rows_here in let was = before.counted in omega arith
+
+  tells_now : (k : ℕ) → k < i + 1 → IsLargestGap rows (count_to nb three k) (count_to nb three (k + 1)) (gap_of nb three k)
+  tells_now k lt = elim (cases_lt k i) [
+    | inl less ↦ largest_same refl (count_stands k (omega arith)) (count_stands (k + 1) (omega arith))
+        (ap (λ (x : ℕ). x / 262144) (told_same k (omega arith) (λ e. omega arith))) (before.tells k less)
+    | inr ge ↦
+        let e : k ≡ i = omega arith in
+        subst (λ (n : ℕ). IsLargestGap rows (count_to nb three n) (count_to nb three (n + 1)) (gap_of nb three n)) (sym e)
+        (largest_same refl (count_stands i (omega arith) ∙ before.counted) counted_now refl laid.gap)
+  ]
+
   -- one block more
   pub filled_on : IsFilling nb one three rows (i + 1) (taken + count)
-  filled_on = let a = more_laid in grind (arith, body_now, rest_same, rows_same)
+  filled_on =
+      let a = more_laid in
+      record {
+        long = laid.long ∙ before.long;
+        body = body_now;
+        none = λ k le lt. rows_same k lt (λ e. omega arith) ∙ before.none k (omega arith) lt;
+        laid = a;
+        counted = counted_now;
+        tells = tells_now;
+        heads = λ s le lt. laid.heads s lt (λ e. omega arith) ∙ before.heads s (omega arith) lt;
+        bodies = rest_same;
+        above = λ s le. laid.above s (omega arith) (λ e. omega arith) (λ e. omega arith) ∙ before.above s le;
+      }
 
   -- the same by the numbers that they come to
   pub filled_to : {next all : ℕ} → next ≡ i + 1 → all ≡ taken + count → IsFilling nb one three rows next all
@@ -99,6 +144,11 @@ filled_laid wide some high used filling = grind arith
 pub filled_rows : {nb : ℕ} {one two rows : List ℕ} {i taken : ℕ} → blocks_of nb two ≡ i → taken ≡ length rows → IsFilling nb one two rows i taken
     → rows_in nb two ≡ rows
 filled_rows {nb} {two} {rows} used all filling = ap (pieces (block nb two)) used ∙ (filling.laid ∙ (ap (λ (n : ℕ). take n rows) all ∙ take-length rows))
+
+-- and each block tells its largest gap
+pub filled_tells : {nb : ℕ} {one two rows : List ℕ} {i taken : ℕ} → blocks_of nb two ≡ i → taken ≡ length rows → IsFilling nb one two rows i taken
+    → GapsTold nb two
+filled_tells used all filling k lt = largest_same (filled_rows used all filling) refl refl refl (filling.tells k (omega arith))
 
 -- rows that are left have a block
 pub some_left : (f r left : ℕ) → 0 < left → left ≤ f * r → 0 < r

@@ -21,7 +21,7 @@ same_layout {nb} {one} {two} same =
     record {
       count = same (128 * nb) (omega arith);
       rows = rows;
-      body = λ i. ap (λ (x : ℕ). nb + 127 * (x / 128)) (same (128 * nb + 1 + i) (omega arith));
+      body = λ i. ap (λ (x : ℕ). nb + 127 * (x / 128 % 2048)) (same (128 * nb + 1 + i) (omega arith));
       before = λ i. count_same nb one two i (λ k lt. rows k);
     }
 

@@ -16,6 +16,11 @@ mod Lays
 mod Halves
 mod Comings
 mod Cuts
+mod GapRows
+pub mod KeptGaps
+mod Tells
+mod Passed
+mod Puttings
 mod Settlings
 mod Pairs
 mod Writes

@@ -30,7 +30,7 @@ module _ {nb : ℕ} {one : List ℕ} (middle : List ℕ) {two : List ℕ} (i wor
   told_is = ap (λ (x : List ℕ). slice_index x (128 * nb + 1 + i)) stored ∙ get_or-set_same middle (128 * nb + 1 + i) word 0 (omega arith)
 
   -- the words of the block are those that were laid
-  pub block_is : word / 128 ≡ body_of nb one i → word % 128 ≡ more → more ≤ 127
+  pub block_is : word / 128 % 2048 ≡ body_of nb one i → word % 128 ≡ more → more ≤ 127
       → block nb two i ≡ slice_index middle i ∷ take more (drop (body_at nb one i) middle)
   block_is body count few =
       let b = laid.bodies i (omega arith) in
@@ -44,7 +44,7 @@ module _ {nb : ℕ} {one : List ℕ} (middle : List ℕ) {two : List ℕ} (i wor
       rw (same_body, rows, head, rest) refl
 
   -- and nothing else has changed
-  pub only_block : word / 128 ≡ body_of nb one i → ((s : ℕ) → s ≢ i → s < body_at nb one i → slice_index middle s ≡ slice_index one s)
+  pub only_block : word / 128 % 2048 ≡ body_of nb one i → ((s : ℕ) → s ≢ i → s < body_at nb one i → slice_index middle s ≡ slice_index one s)
       → ((s : ℕ) → body_at nb one i + 127 ≤ s → slice_index middle s ≡ slice_index one s) → OnlyBlock nb one two i
   only_block body below above =
       let e = told_is in
@@ -55,7 +55,7 @@ module _ {nb : ℕ} {one : List ℕ} (middle : List ℕ) {two : List ℕ} (i wor
       }
 
   -- a splice of its rows is one of all
-  pub spliced_block : (from until : ℕ) (new : List ℕ) → from ≤ until → until ≤ rows_of nb one i + 1 → word / 128 ≡ body_of nb one i → word % 128 ≡ more
+  pub spliced_block : (from until : ℕ) (new : List ℕ) → from ≤ until → until ≤ rows_of nb one i + 1 → word / 128 % 2048 ≡ body_of nb one i → word % 128 ≡ more
       → more ≤ 127 → ((s : ℕ) → s ≢ i → s < body_at nb one i → slice_index middle s ≡ slice_index one s)
       → ((s : ℕ) → body_at nb one i + 127 ≤ s → slice_index middle s ≡ slice_index one s)
       → slice_index middle i ∷ take more (drop (body_at nb one i) middle) ≡ splice (block nb one i) from until new
@@ -73,10 +73,10 @@ module _ {nb : ℕ} {one : List ℕ} (middle : List ℕ) {two : List ℕ} (i wor
 -- by what was read of the body word: one row more
 pub row_put : {nb : ℕ} {one loaded middle two : List ℕ} {i place w packed : ℕ} → IsLaidOut nb one → i < blocks_of nb one → rows_of nb one i < 127
     → place ≤ rows_of nb one i + 1 → loaded ≡ one → packed ≡ slice_index one (128 * nb + 1 + i)
-    → IsPutIn loaded middle i (nb + 127 * (packed / 128)) (packed % 128) place w → two ≡ slice_set middle (128 * nb + 1 + i) (packed + 1)
+    → IsPutIn loaded middle i (nb + 127 * (packed / 128 % 2048)) (packed % 128) place w → two ≡ slice_set middle (128 * nb + 1 + i) (packed + 1)
     → IsSplicedBlock nb one two i place place (w ∷ []) (rows_of nb one i + 1)
 row_put {nb} {one} {middle} {i} {place} {w} laid there room within same read put more =
-    let p = coe 0 1 (j. IsPutIn (same j) middle i (nb + 127 * (read j / 128)) (read j % 128) place w) put in
+    let p = coe 0 1 (j. IsPutIn (same j) middle i (nb + 127 * (read j / 128 % 2048)) (read j % 128) place w) put in
     spliced_block middle i (slice_index one (128 * nb + 1 + i) + 1) (rows_of nb one i + 1) laid there p.long
     (more ∙ ap (λ (x : ℕ). slice_set middle (128 * nb + 1 + i) (x + 1)) read) place place (w ∷ []) (omega arith) within (omega arith) (omega arith)
     (omega arith) p.below (λ s le. p.above s (omega arith)) p.put
@@ -84,10 +84,11 @@ row_put {nb} {one} {middle} {i} {place} {w} laid there room within same read put
 -- or some fewer
 pub rows_cut : {nb : ℕ} {one loaded middle two : List ℕ} {i from until packed : ℕ} → IsLaidOut nb one → i < blocks_of nb one → from < until
     → until ≤ rows_of nb one i + 1 → until ≤ rows_of nb one i + from → loaded ≡ one → packed ≡ slice_index one (128 * nb + 1 + i)
-    → IsCutOut loaded middle i (nb + 127 * (packed / 128)) (packed % 128) from until → two ≡ slice_set middle (128 * nb + 1 + i) (packed - (until - from))
+    → IsCutOut loaded middle i (nb + 127 * (packed / 128 % 2048)) (packed % 128) from until
+    → two ≡ slice_set middle (128 * nb + 1 + i) (packed - (until - from))
     → IsSplicedBlock nb one two i from until [] (rows_of nb one i - (until - from))
 rows_cut {nb} {one} {middle} {i} {from} {until} laid there ordered within left same read cut less =
-    let p = coe 0 1 (j. IsCutOut (same j) middle i (nb + 127 * (read j / 128)) (read j % 128) from until) cut in
+    let p = coe 0 1 (j. IsCutOut (same j) middle i (nb + 127 * (read j / 128 % 2048)) (read j % 128) from until) cut in
     spliced_block middle i (slice_index one (128 * nb + 1 + i) - (until - from)) (rows_of nb one i - (until - from)) laid there p.long
     (less ∙ ap (λ (x : ℕ). slice_set middle (128 * nb + 1 + i) (x - (until - from))) read) from until [] (omega arith) within (omega arith) (omega arith)
     (omega arith) p.below (λ s le. p.above s (omega arith)) p.cut

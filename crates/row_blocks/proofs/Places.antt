@@ -61,7 +61,7 @@ module _ (nb : ℕ) (words : List ℕ) (i : ℕ) (laid : IsLaidOut nb words) (th
 
   -- and of the rows of the body
   pub others_loaded : (P Q : ℕ → Type 0) {loaded : List ℕ} {packed : ℕ} → ((w : ℕ) → P w → Q w) → loaded ≡ words
-      → packed ≡ slice_index words (128 * nb + 1 + i) → All P (rows_in nb words) → (s : ℕ) → nb + 127 * (packed / 128) ≤ s
-      → s < nb + 127 * (packed / 128) + packed % 128 → Q (slice_index loaded s)
+      → packed ≡ slice_index words (128 * nb + 1 + i) → All P (rows_in nb words) → (s : ℕ) → nb + 127 * (packed / 128 % 2048) ≤ s
+      → s < nb + 127 * (packed / 128 % 2048) + packed % 128 → Q (slice_index loaded s)
   others_loaded P Q keep same read all s from until =
       subst (λ (l : List ℕ). Q (slice_index l s)) (sym same) (keep (slice_index words s) (body_is_row P all s (omega arith) (omega arith)))

@@ -32,7 +32,7 @@ pub same_block : (nb : ℕ) (one two : List ℕ) (k l : ℕ) → body_at nb one 
     → slice_index two (128 * nb + 1 + l) ≡ slice_index one (128 * nb + 1 + k) → slice_index two l ≡ slice_index one k
     → ((m : ℕ) → m < rows_of nb one k → slice_index two (body_at nb one k + m) ≡ slice_index one (body_at nb one k + m)) → block nb two l ≡ block nb one k
 same_block nb one two k l wide long word head rest =
-    (λ j. head j ∷ take (word j % 128) (drop (nb + 127 * (word j / 128)) two))
+    (λ j. head j ∷ take (word j % 128) (drop (nb + 127 * (word j / 128 % 2048)) two))
     ∙ ap (λ (r : List ℕ). slice_index one k ∷ r) (same_runs two one (body_at nb one k) (body_at nb one k) (rows_of nb one k) (omega arith) wide rest)
 
 -- the rows of a body, once some have gone, others stand there and those behind have moved

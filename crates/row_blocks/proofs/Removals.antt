@@ -1,5 +1,5 @@
 -- What is left where blocks go.
-use Rattle.std.proofs.Common.{◌≡◌, ◌≢◌, ℕ, zero, suc, ◌+◌, ◌-◌, ◌*◌, ◌/◌, ◌<◌, ◌≤◌, List, [], ◌++◌, length, take, drop}
+use Rattle.std.proofs.Common.{◌≡◌, ◌≢◌, ℕ, zero, suc, ◌+◌, ◌-◌, ◌*◌, ◌/◌, ◌%◌, ◌<◌, ◌≤◌, List, [], ◌++◌, length, take, drop}
 use Rattle.std.proofs.Common.{sym, refl, ap, ◌∙◌, subst, arith}
 use Rattle.std.proofs.lemmas.List.{append_assoc, append-nil, drop_all, take_all, take-append-le, drop-append-le}
 use Rattle.std.proofs.lemmas.List.{length-set, get_or-set_same, get_or-set_other}
@@ -153,7 +153,7 @@ module _ {nb : ℕ} {one heads told two : List ℕ} {first end count : ℕ} (lai
 
   laid_out : IsLaidOut nb two
   laid_out =
-      let stays : (k : ℕ) → body_of nb two k ≡ body_of nb told k = λ (k : ℕ). ap (λ (x : ℕ). x / 128) (other (128 * nb + 1 + k) (λ e. omega arith)) in
+      let stays : (k : ℕ) → body_of nb two k ≡ body_of nb told k = λ (k : ℕ). ap (λ (x : ℕ). x / 128 % 2048) (other (128 * nb + 1 + k) (λ e. omega arith)) in
       grind (arith, long_two, here, bodies.there, bodies.apart)
 
   -- what they come to

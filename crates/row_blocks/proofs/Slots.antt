@@ -144,7 +144,7 @@ module _ (nb : ℕ) (words : List ℕ) (i j s w : ℕ) (laid : IsLaidOut nb word
   -- the words are laid out
   pub laid_stored : IsLaidOut nb (slice_set words s w)
   laid_stored = still_laid_out laid (length-set words s w) (layout_stays (128 * nb) (omega arith))
-      (λ k lt. ap (λ (x : ℕ). x / 128) (layout_stays (128 * nb + 1 + k) (omega arith)))
+      (λ k lt. ap (λ (x : ℕ). x / 128 % 2048) (layout_stays (128 * nb + 1 + k) (omega arith)))
 
   -- and the slots are the same
   pub slots_stay : slots_in nb (slice_set words s w) ≡ slots_in nb words
@@ -152,7 +152,7 @@ module _ (nb : ℕ) (words : List ℕ) (i j s w : ℕ) (laid : IsLaidOut nb word
       let count = layout_stays (128 * nb) (omega arith) in
       ap (pieces (slots_of nb (slice_set words s w))) count ∙ same_pieces (slots_of nb words) (slots_of nb (slice_set words s w)) (blocks_of nb words) (λ k lt.
       let e = layout_stays (128 * nb + 1 + k) (omega arith) in
-      ap (λ (x : ℕ). k ∷ run (nb + 127 * (x / 128)) (x % 128)) e)
+      ap (λ (x : ℕ). k ∷ run (nb + 127 * (x / 128 % 2048)) (x % 128)) e)
 
 -- a store in a slot changes one row
 pub stored : (nb : ℕ) (words : List ℕ) (k w : ℕ) → IsLaidOut nb words → k < length (slots_in nb words)

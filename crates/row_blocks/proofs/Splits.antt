@@ -122,9 +122,9 @@ module _ {nb : ℕ} {one two : List ℕ} {i place : ℕ} (laid : IsLaidOut nb on
       let all : place - 1 + (1 + (n - place)) ≡ n = omega arith in
       let from : at + (place - 1 + 1) ≡ at + place = omega arith in
       let low_word : slice_index two (128 * nb + 1 + i) % 128 ≡ place - 1 = omega arith in
-      let low_body : slice_index two (128 * nb + 1 + i) / 128 ≡ body_of nb one i = omega arith in
+      let low_body : slice_index two (128 * nb + 1 + i) / 128 % 2048 ≡ body_of nb one i = omega arith in
       let high_word : slice_index two (128 * nb + 1 + (i + 1)) % 128 ≡ n - place = omega arith in
-      let high_body : slice_index two (128 * nb + 1 + (i + 1)) / 128 ≡ body_of nb one (blocks_of nb one) = omega arith in
+      let high_body : slice_index two (128 * nb + 1 + (i + 1)) / 128 % 2048 ≡ body_of nb one (blocks_of nb one) = omega arith in
       let long_two = split.long in
       let short : take (place - 1) (drop at two) ≡ take (place - 1) (drop at one) =
       same_runs two one at at (place - 1) (omega arith) (omega arith) (λ m l. body_same i m there (omega arith)) in
@@ -204,14 +204,15 @@ module _ {nb : ℕ} {one loaded : List ℕ} {i packed count free : ℕ} (r : Has
   body_read = r.freed ∙ ap (λ (n : ℕ). slice_index one (128 * nb + 1 + n)) r.counted
 
   -- this says from where and to where rows are copied
-  pub split_copied : {copy : List ℕ} (place : ℕ) → IsCopied loaded copy (nb + 127 * (packed / 128) + place) (nb + 127 * (free / 128)) (packed % 128 - place)
+  pub split_copied : {copy : List ℕ} (place : ℕ)
+      → IsCopied loaded copy (nb + 127 * (packed / 128 % 2048) + place) (nb + 127 * (free / 128 % 2048)) (packed % 128 - place)
       → IsCopied one copy (body_at nb one i + place) (body_at nb one (blocks_of nb one)) (rows_of nb one i - place)
   split_copied {copy} place copied =
-      coe 0 1 (j. IsCopied (r.same j) copy (nb + 127 * (r.read j / 128) + place) (nb + 127 * (body_read j / 128)) (r.read j % 128 - place)) copied
+      coe 0 1 (j. IsCopied (r.same j) copy (nb + 127 * (r.read j / 128 % 2048) + place) (nb + 127 * (body_read j / 128 % 2048)) (r.read j % 128 - place)) copied
 
   -- a word of the layout before the body words that move stands as it stood
   pub layout_still : (copy heads : List ℕ) {again told : List ℕ} (place head word s : ℕ) → IsLaidOut nb one → blocks_of nb one < nb → 128 * nb ≤ s
-      → IsCopied loaded copy (nb + 127 * (packed / 128) + place) (nb + 127 * (free / 128)) (packed % 128 - place) → again ≡ copy
+      → IsCopied loaded copy (nb + 127 * (packed / 128 % 2048) + place) (nb + 127 * (free / 128 % 2048)) (packed % 128 - place) → again ≡ copy
       → IsPushed again heads (i + 1) count head → IsPushed heads told (128 * nb + 1 + (i + 1)) (128 * nb + 1 + count) word
       → s < 128 * nb + 1 + (i + 1) → slice_index told s ≡ slice_index one s
   layout_still copy heads place head word s laid spare low copied same h t below =
@@ -225,16 +226,16 @@ module _ {nb : ℕ} {one loaded : List ℕ} {i packed count free : ℕ} (r : Has
   -- and what stands after all stores
   pub split_done : {copy again heads told three two : List ℕ} {place head : ℕ} → IsLaidOut nb one → i < blocks_of nb one → blocks_of nb one < nb
       → 0 < place → place ≤ rows_of nb one i
-      → IsCopied loaded copy (nb + 127 * (packed / 128) + place) (nb + 127 * (free / 128)) (packed % 128 - place) → again ≡ copy
-      → head ≡ slice_index copy (nb + 127 * (packed / 128) + (place - 1)) → IsPushed again heads (i + 1) count head
-      → IsPushed heads told (128 * nb + 1 + (i + 1)) (128 * nb + 1 + count) (128 * (free / 128) + (packed % 128 - place))
+      → IsCopied loaded copy (nb + 127 * (packed / 128 % 2048) + place) (nb + 127 * (free / 128 % 2048)) (packed % 128 - place) → again ≡ copy
+      → head ≡ slice_index copy (nb + 127 * (packed / 128 % 2048) + (place - 1)) → IsPushed again heads (i + 1) count head
+      → IsPushed heads told (128 * nb + 1 + (i + 1)) (128 * nb + 1 + count) (128 * (free / 128 % 2048) + (packed % 128 - place))
       → three ≡ slice_set told (128 * nb + 1 + i) (packed - (packed % 128 - place + 1)) → two ≡ slice_set three (128 * nb) (count + 1)
       → IsSplit nb one two i place
   split_done {copy} {heads} {told} {place} laid there spare some within copied as_copied first h t less more =
       let read = r.read in let body = body_read in
-      let word = first ∙ ap (λ (x : ℕ). slice_index copy (nb + 127 * (x / 128) + (place - 1))) read in
+      let word = first ∙ ap (λ (x : ℕ). slice_index copy (nb + 127 * (x / 128 % 2048) + (place - 1))) read in
       let p = coe 0 1 (j. IsPushed (as_copied j) heads (i + 1) (r.counted j) (word j)) h in
-      let q = coe 0 1 (j. IsPushed heads told (128 * nb + 1 + (i + 1)) (128 * nb + 1 + r.counted j) (128 * (body j / 128) + (read j % 128 - place))) t in
+      let q = coe 0 1 (j. IsPushed heads told (128 * nb + 1 + (i + 1)) (128 * nb + 1 + r.counted j) (128 * (body j / 128 % 2048) + (read j % 128 - place))) t in
       let stored = more ∙ (λ j. slice_set (less j) (128 * nb) (r.counted j + 1)) in
       subst (λ (l : List ℕ). IsSplit nb one l i place) (sym stored) (is_split (packed - (packed % 128 - place + 1)) laid there spare some within
       (split_copied place copied) p q (omega arith))

@@ -1,7 +1,8 @@
 -- Rows in blocks. The first row of each block, its head, stands in the directory of heads and nowhere else; the others
 -- stand in the block's body, of 127 words. Which words are rows, and in which order, is told by the block count and by
--- a body word a block: 128 times the number of its body, and how many rows stand there. The form is this project's own;
--- a reader may rely on each row being exactly one word.
+-- a body word a block: 2^18 times the largest gap of the block (`Gaps`), 128 times the number of its body, which is
+-- below 2048, and how many rows stand there. The form is this project's own; a reader may rely on each row being one
+-- word.
 use Rattle.std.specs.Prelude.{ℕ, zero, suc, ◌≡◌, ◌<◌, ◌≤◌, ◌+◌, ◌*◌, ◌/◌, ◌%◌, List, [], ◌∷◌, ◌++◌, length, take, drop, slice_index}
 
 -- the first lists of a family, one behind the other
@@ -24,7 +25,7 @@ told nb words i = slice_index words (128 * nb + 1 + i)
 
 -- the body of a block, how many rows stand there, and the place of the first of them
 abbrev pub body_of : ℕ → List ℕ → ℕ → ℕ
-body_of nb words i = slice_index words (128 * nb + 1 + i) / 128
+body_of nb words i = slice_index words (128 * nb + 1 + i) / 128 % 2048
 
 abbrev pub rows_of : ℕ → List ℕ → ℕ → ℕ
 rows_of nb words i = slice_index words (128 * nb + 1 + i) % 128

@@ -1,4 +1,5 @@
 pub mod Blocks
+pub mod Gaps
 pub mod Limits
 pub mod Moves
 pub mod Positions

@@ -3,6 +3,7 @@
 ghost use Rattle.std.specs.Prelude.{ℕ, All, [], ◌≡◌, ◌≢◌, ◌+◌, ◌-◌, ◌*◌, ◌/◌, ◌<◌, ◌≤◌, length, slice_index};
 ghost use Rattle.std.specs.List.{splice};
 ghost use Rattle.row_blocks.specs.Blocks.{IsLaidOut, blocks_of, rows_of, rows_in, count_to, rank, told};
+ghost use Rattle.row_blocks.specs.Gaps.{IsBeside};
 ghost use Rattle.row_blocks.specs.Limits.{limit_of};
 
 use crate::inserting::insert;
@@ -69,6 +70,9 @@ pub(crate) fn come<W: Words>(
         ≤ limit_of blocks (blocks_of blocks (W.words words.now hand.old)) at.block
         → blocks_of blocks (W.words words.now hand.new) ≡ blocks_of blocks (W.words words.now hand.old) }
     ensures short { rows_of blocks (W.words words.now hand.new) 0 < 64 }
+    ensures beside { IsBeside blocks (W.words words.now hand.old) (W.words words.now hand.new) at.block
+        (at.block + 1 + (blocks_of blocks (W.words words.now hand.new) - blocks_of blocks (W.words words.now hand.old)))
+        (rank blocks (W.words words.now hand.old) at.block at.place + length more.now) }
     ensures all { All (W.is_row words.now hand.new) (rows_in blocks (W.words words.now hand.new)) }
     ensures may { W.may_store words.now hand.new }
     ensures rows { (w : ℕ) → W.is_row words.now hand.old w → W.is_row words.now hand.new w }

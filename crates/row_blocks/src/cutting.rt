@@ -1,8 +1,9 @@
 //! Rows that go from a position on: the end of one block, whole blocks, and the beginning of another one. A reader may
 //! rely on blocks going where the last of their rows goes, and on those before the position being left alone.
-ghost use Rattle.std.specs.Prelude.{ℕ, All, [], ◌≡◌, ◌≢◌, ◌+◌, ◌-◌, ◌*◌, ◌<◌, ◌≤◌, length};
+ghost use Rattle.std.specs.Prelude.{ℕ, All, [], ◌≡◌, ◌≢◌, ◌+◌, ◌-◌, ◌*◌, ◌<◌, ◌≤◌, length, min};
 ghost use Rattle.std.specs.List.{splice};
 ghost use Rattle.row_blocks.specs.Blocks.{IsLaidOut, blocks_of, rows_of, rows_in, count_to, rank, told};
+ghost use Rattle.row_blocks.specs.Gaps.{IsBeside};
 ghost use Rattle.row_blocks.specs.Limits.{HaveGone};
 
 use crate::deleting::delete;
@@ -35,6 +36,7 @@ fn cut_first<W: Words>(
     ensures count { blocks_of blocks (W.words words.now hand.new) ≡ blocks_of blocks (W.words words.now hand.old) }
     ensures before { (k : ℕ) → k < at.block → told blocks (W.words words.now hand.new) k ≡ told blocks (W.words words.now hand.old) k }
     ensures less { rows_of blocks (W.words words.now hand.new) at.block + (gone - result) ≡ rows_of blocks (W.words words.now hand.old) at.block }
+    ensures place { at.place ≤ rows_of blocks (W.words words.now hand.new) at.block + 1 }
     ensures others { (k : ℕ) → k < blocks → k ≢ at.block → told blocks (W.words words.now hand.new) k ≡ told blocks (W.words words.now hand.old) k }
     ensures may { W.may_store words.now hand.new }
     ensures rows { (w : ℕ) → W.is_row words.now hand.old w → W.is_row words.now hand.new w }
@@ -74,6 +76,8 @@ fn cut_blocks<W: Words>(
     ensures there { result ≤ blocks_of blocks (W.words words.now hand.new) }
     ensures count { blocks_of blocks (W.words words.now hand.new) ≡ blocks_of blocks (W.words words.now hand.old) }
     ensures before { (k : ℕ) → k < result → told blocks (W.words words.now hand.new) k ≡ told blocks (W.words words.now hand.old) k }
+    ensures behind { (k : ℕ) → result < k → k < blocks → told blocks (W.words words.now hand.new) k ≡ told blocks (W.words words.now hand.old) k }
+    ensures none { gone ≡ 0 → W.words words.now hand.new ≡ W.words words.now hand.old }
     ensures may { W.may_store words.now hand.new }
     ensures rows { (w : ℕ) → W.is_row words.now hand.old w → W.is_row words.now hand.new w }
     ensures kept { W.kept words.now hand.old hand.new }
@@ -110,6 +114,8 @@ fn cut_on<W: Words>(words: &W, hand: &mut W::Hand, blocks: usize, first: usize, 
         (count_to blocks (W.words words.now hand.old) first + gone) }
     ensures count { blocks_of blocks (W.words words.now hand.new) ≤ blocks_of blocks (W.words words.now hand.old) }
     ensures before { (k : ℕ) → k < first → told blocks (W.words words.now hand.new) k ≡ told blocks (W.words words.now hand.old) k }
+    ensures beside { IsBeside blocks (W.words words.now hand.old) (W.words words.now hand.new) first (first + min 1 gone)
+        (count_to blocks (W.words words.now hand.old) first) }
     ensures may { W.may_store words.now hand.new }
     ensures rows { (w : ℕ) → W.is_row words.now hand.old w → W.is_row words.now hand.new w }
     ensures kept { W.kept words.now hand.old hand.new }
@@ -145,6 +151,8 @@ pub(crate) fn cut<W: Words>(words: &W, hand: &mut W::Hand, blocks: usize, at: Po
         → HaveGone blocks (W.words words.now hand.old) (W.words words.now hand.new)
         (rank blocks (W.words words.now hand.old) at.block at.place) (rank blocks (W.words words.now hand.old) at.block at.place + gone) }
     ensures short { rows_of blocks (W.words words.now hand.new) 0 < 64 }
+    ensures beside { IsBeside blocks (W.words words.now hand.old) (W.words words.now hand.new) at.block (at.block + 1 + min 1 gone)
+        (rank blocks (W.words words.now hand.old) at.block at.place) }
     ensures may { W.may_store words.now hand.new }
     ensures rows { (w : ℕ) → W.is_row words.now hand.old w → W.is_row words.now hand.new w }
     ensures kept { W.kept words.now hand.old hand.new }

@@ -79,7 +79,7 @@ pub fn delete<W: Words>(
 {
     let told = 128 * blocks + 1 + i;
     let packed = words.load(hand, told);
-    let at = blocks + 127 * (packed / 128) as usize;
+    let at = blocks + 127 * (packed / 128 % 2048) as usize;
     let count = (packed % 128) as usize;
     cut_block(words, hand, i, at, count, from, until);
     words.store_layout(hand, told, packed - (until - from) as u64);

@@ -73,7 +73,7 @@ pub fn insert<W: Words>(
 {
     let told = 128 * blocks + 1 + i;
     let packed = words.load(hand, told);
-    let at = blocks + 127 * (packed / 128) as usize;
+    let at = blocks + 127 * (packed / 128 % 2048) as usize;
     let count = (packed % 128) as usize;
     put_at(words, hand, i, at, count, place, word);
     words.store_layout(hand, told, packed + 1);

@@ -17,7 +17,7 @@ struct Spot {
 }
 
 /// Where the row at a position stands.
-fn slot_of(at: Position, body: usize) -> usize
+pub(crate) fn slot_of(at: Position, body: usize) -> usize
     requires few { body + at.place < 2 ^ 63 }
     ensures first { at.place ≡ 0 → result ≡ at.block }
     ensures rest { 0 < at.place → result + 1 ≡ body + at.place }
@@ -62,6 +62,7 @@ fn go_on<W: Words>(words: &W, hand: &mut W::Hand, blocks: usize, spot: Spot) -> 
     requires count { spot.body.rows ≡ rows_of blocks (W.words words.now hand.old) spot.at.block }
     requires more { rank blocks (W.words words.now hand.old) spot.at.block spot.at.place < length (rows_in blocks (W.words words.now hand.old)) }
     ensures there { result.at.block < blocks_of blocks (W.words words.now hand.old) }
+    ensures from { spot.at.block ≤ result.at.block }
     ensures place { result.at.place ≤ rows_of blocks (W.words words.now hand.old) result.at.block }
     ensures body { result.body.at ≡ body_at blocks (W.words words.now hand.old) result.at.block }
     ensures count { result.body.rows ≡ rows_of blocks (W.words words.now hand.old) result.at.block }
@@ -111,6 +112,7 @@ fn lay_rows<W: Words>(
         (rank blocks (W.words words.now hand.old) from.at.block from.at.place + length more.now) more.now }
     ensures layout { (t : ℕ) → 128 * blocks ≤ t → slice_index (W.words words.now hand.new) t ≡ slice_index (W.words words.now hand.old) t }
     ensures there { result.block < blocks_of blocks (W.words words.now hand.old) }
+    ensures from { from.at.block ≤ result.block }
     ensures place { result.place ≤ rows_of blocks (W.words words.now hand.old) result.block + 1 }
     ensures rank { rank blocks (W.words words.now hand.old) result.block result.place ≡ rank blocks (W.words words.now hand.old) from.at.block from.at.place
         + length more.now }
@@ -159,6 +161,7 @@ pub fn lay<W: Words>(
         (rank blocks (W.words words.now hand.old) at.block at.place + length more.now) more.now }
     ensures layout { (t : ℕ) → 128 * blocks ≤ t → slice_index (W.words words.now hand.new) t ≡ slice_index (W.words words.now hand.old) t }
     ensures there { result.block < blocks_of blocks (W.words words.now hand.old) }
+    ensures from { at.block ≤ result.block }
     ensures place { result.place ≤ rows_of blocks (W.words words.now hand.old) result.block + 1 }
     ensures rank { rank blocks (W.words words.now hand.old) result.block result.place ≡ rank blocks (W.words words.now hand.old) at.block at.place + length
         more.now }

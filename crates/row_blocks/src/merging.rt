@@ -1,8 +1,10 @@
 //! Two blocks that become one: the rows of the upper one are appended to the lower one, where they stand twice for a
 //! while, and then the upper one goes. A reader may rely on the rows being the same, in one block fewer.
-ghost use Rattle.std.specs.Prelude.{ℕ, All, ◌∷◌, ◌++◌, ◌≡◌, ◌≢◌, ◌+◌, ◌-◌, ◌*◌, ◌<◌, ◌≤◌, length, slice_index};
+ghost use Rattle.std.specs.Prelude.{ℕ, All, ◌∷◌, ◌++◌, ◌≡◌, ◌≢◌, ◌+◌, ◌-◌, ◌*◌, ◌<◌, ◌≤◌, length, max, slice_index};
 ghost use Rattle.row_blocks.specs.Blocks.{IsLaidOut, blocks_of, rows_of, rows_in, block, told};
+ghost use Rattle.row_blocks.specs.Gaps.{GapsTold, gap_of};
 
+use crate::gaps::GAP;
 use crate::moves::{copy, exchange};
 use crate::removing::take_out;
 use crate::words::Words;
@@ -23,6 +25,8 @@ fn append<W: Words>(words: &W, hand: &mut W::Hand, blocks: usize, i: usize)
     ensures blocks { (k : ℕ) → k < blocks → k ≢ i → block blocks (W.words words.now hand.new) k ≡ block blocks (W.words words.now hand.old) k }
     ensures more { rows_of blocks (W.words words.now hand.new) i ≡ rows_of blocks (W.words words.now hand.old) i + 1 + rows_of blocks
         (W.words words.now hand.old) (i + 1) }
+    ensures gap { gap_of blocks (W.words words.now hand.new) i ≡ max (gap_of blocks (W.words words.now hand.old) i)
+        (gap_of blocks (W.words words.now hand.old) (i + 1)) }
     ensures others { (k : ℕ) → k < blocks → k ≢ i → told blocks (W.words words.now hand.new) k ≡ told blocks (W.words words.now hand.old) k }
     ensures may { W.may_store words.now hand.new }
     ensures rows { (w : ℕ) → W.is_row words.now hand.old w → W.is_row words.now hand.new w }
@@ -33,16 +37,18 @@ fn append<W: Words>(words: &W, hand: &mut W::Hand, blocks: usize, i: usize)
     let packed = words.load(hand, told);
     let other = words.load(hand, 128 * blocks + 1 + (i + 1));
     let head = words.load(hand, i + 1);
-    let at = blocks + 127 * (packed / 128) as usize;
-    let from = blocks + 127 * (other / 128) as usize;
+    let at = blocks + 127 * (packed / 128 % 2048) as usize;
+    let from = blocks + 127 * (other / 128 % 2048) as usize;
     let count = (packed % 128) as usize;
     let more = (other % 128) as usize;
     exchange(words, hand, at + count, head);
     copy(words, hand, from, at + count + 1, more);
-    words.store_layout(hand, told, packed + (more as u64 + 1));
+    let gap = (packed / GAP).max(other / GAP);
+    words.store_layout(hand, told, gap * GAP + packed % GAP + (more as u64 + 1));
 }
 
-/// Merges a block with the one behind it, where both have room in one. The rows stay.
+/// Merges a block with the one behind it, where both have room in one. The rows stay, and the largest gap of both is
+/// that of the merged one.
 pub fn merge<W: Words>(words: &W, hand: &mut W::Hand, blocks: usize, i: usize)
     requires blocks { blocks ≡ W.blocks words.now }
     requires few { blocks ≤ 2048 }
@@ -57,6 +63,7 @@ pub fn merge<W: Words>(words: &W, hand: &mut W::Hand, blocks: usize, i: usize)
     ensures before { (k : ℕ) → k < i → told blocks (W.words words.now hand.new) k ≡ told blocks (W.words words.now hand.old) k }
     ensures more { rows_of blocks (W.words words.now hand.new) i ≡ rows_of blocks (W.words words.now hand.old) i + 1 + rows_of blocks
         (W.words words.now hand.old) (i + 1) }
+    ensures told { GapsTold blocks (W.words words.now hand.old) → GapsTold blocks (W.words words.now hand.new) }
     ensures may { W.may_store words.now hand.new }
     ensures rows { (w : ℕ) → W.is_row words.now hand.old w → W.is_row words.now hand.new w }
     ensures kept { W.kept words.now hand.old hand.new }

@@ -38,7 +38,7 @@ pub(crate) fn body_of<W: Loads>(words: &W, hand: &mut W::Hand, blocks: usize, i:
 {
     let packed = words.load(hand, 128 * blocks + 1 + i);
     Body {
-        at: blocks + 127 * (packed / 128) as usize,
+        at: blocks + 127 * (packed / 128 % 2048) as usize,
         rows: (packed % 128) as usize,
     }
 }

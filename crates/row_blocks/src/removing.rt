@@ -76,6 +76,8 @@ pub fn take_out<W: Words>(words: &W, hand: &mut W::Hand, blocks: usize, first: u
         (count_to blocks (W.words words.now hand.old) first) (count_to blocks (W.words words.now hand.old) end) [] }
     ensures count { blocks_of blocks (W.words words.now hand.new) + (end - first) ≡ blocks_of blocks (W.words words.now hand.old) }
     ensures before { (k : ℕ) → k < first → told blocks (W.words words.now hand.new) k ≡ told blocks (W.words words.now hand.old) k }
+    ensures behind { (k : ℕ) → first ≤ k → k < blocks_of blocks (W.words words.now hand.new)
+        → told blocks (W.words words.now hand.new) k ≡ told blocks (W.words words.now hand.old) (k + (end - first)) }
     ensures may { W.may_store words.now hand.new }
     ensures rows { (w : ℕ) → W.is_row words.now hand.old w → W.is_row words.now hand.new w }
     ensures kept { W.kept words.now hand.old hand.new }

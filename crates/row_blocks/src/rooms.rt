@@ -4,6 +4,7 @@
 ghost use Rattle.std.specs.Prelude.{ℕ, All, [], ◌≡◌, ◌≢◌, ◌+◌, ◌-◌, ◌*◌, ◌/◌, ◌<◌, ◌≤◌, length, slice_index};
 ghost use Rattle.std.specs.List.{splice};
 ghost use Rattle.row_blocks.specs.Blocks.{IsLaidOut, blocks_of, rows_of, rows_in, count_to, rank, told};
+ghost use Rattle.row_blocks.specs.Gaps.{IsBeside};
 ghost use Rattle.row_blocks.specs.Limits.{limit_of};
 
 use crate::positions::{Position, body_of};
@@ -76,6 +77,10 @@ fn split_near<W: Words>(
     ensures rank { rank blocks (W.words words.now hand.new) result.block result.place ≡ rank blocks (W.words words.now hand.old) at.block at.place }
     ensures room { rows_of blocks (W.words words.now hand.new) result.block < 64 }
     ensures first { result.block ≡ 0 → rows_of blocks (W.words words.now hand.new) 0 < 32 }
+    ensures from { at.block ≤ result.block }
+    ensures near { result.block ≤ at.block + (blocks_of blocks (W.words words.now hand.new) - blocks_of blocks (W.words words.now hand.old)) }
+    ensures beside { IsBeside blocks (W.words words.now hand.old) (W.words words.now hand.new) at.block
+        (at.block + 1 + (blocks_of blocks (W.words words.now hand.new) - blocks_of blocks (W.words words.now hand.old))) 0 }
     ensures may { W.may_store words.now hand.new }
     ensures rows { (w : ℕ) → W.is_row words.now hand.old w → W.is_row words.now hand.new w }
     ensures kept { W.kept words.now hand.old hand.new }
@@ -122,6 +127,10 @@ pub(crate) fn make_room<W: Words>(
         → blocks_of blocks (W.words words.now hand.new) ≡ blocks_of blocks (W.words words.now hand.old) + 1 }
     ensures stays { rows_of blocks (W.words words.now hand.old) at.block + 1 + more ≤ limit_of blocks (blocks_of blocks (W.words words.now hand.old)) at.block
         → blocks_of blocks (W.words words.now hand.new) ≡ blocks_of blocks (W.words words.now hand.old) }
+    ensures from { at.block ≤ result.block }
+    ensures near { result.block ≤ at.block + (blocks_of blocks (W.words words.now hand.new) - blocks_of blocks (W.words words.now hand.old)) }
+    ensures beside { IsBeside blocks (W.words words.now hand.old) (W.words words.now hand.new) at.block
+        (at.block + 1 + (blocks_of blocks (W.words words.now hand.new) - blocks_of blocks (W.words words.now hand.old))) 0 }
     ensures may { W.may_store words.now hand.new }
     ensures rows { (w : ℕ) → W.is_row words.now hand.old w → W.is_row words.now hand.new w }
     ensures kept { W.kept words.now hand.old hand.new }

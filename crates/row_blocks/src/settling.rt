@@ -3,6 +3,7 @@
 //! behind block 0, there were more rows than room. A reader may rely on the rows being the same.
 ghost use Rattle.std.specs.Prelude.{ℕ, All, ◌≡◌, ◌≢◌, ◌+◌, ◌-◌, ◌*◌, ◌<◌, ◌≤◌, length};
 ghost use Rattle.row_blocks.specs.Blocks.{IsLaidOut, blocks_of, rows_of, rows_in};
+ghost use Rattle.row_blocks.specs.Gaps.{GapsTold};
 ghost use Rattle.row_blocks.specs.Limits.{AreFew, IsMerged};
 
 use crate::merging::merge;
@@ -54,6 +55,7 @@ fn free_one<W: Words>(words: &W, hand: &mut W::Hand, blocks: usize)
     ensures free { blocks_of blocks (W.words words.now hand.new) < blocks }
     ensures first { rows_of blocks (W.words words.now hand.new) 0 ≡ rows_of blocks (W.words words.now hand.old) 0 }
     ensures count { blocks_of blocks (W.words words.now hand.new) + 1 ≡ blocks }
+    ensures told { GapsTold blocks (W.words words.now hand.old) → GapsTold blocks (W.words words.now hand.new) }
     ensures may { W.may_store words.now hand.new }
     ensures rows { (w : ℕ) → W.is_row words.now hand.old w → W.is_row words.now hand.new w }
     ensures kept { W.kept words.now hand.old hand.new }
@@ -79,6 +81,7 @@ fn merge_few<W: Words>(words: &W, hand: &mut W::Hand, blocks: usize, count: usiz
     ensures few { AreFew blocks (W.words words.now hand.old) near → IsMerged blocks (W.words words.now hand.old) (W.words words.now hand.new) near }
     ensures many { ¬ AreFew blocks (W.words words.now hand.old) near → W.words words.now hand.new ≡ W.words words.now hand.old }
     ensures short { rows_of blocks (W.words words.now hand.new) 0 < 64 }
+    ensures told { GapsTold blocks (W.words words.now hand.old) → GapsTold blocks (W.words words.now hand.new) }
     ensures may { W.may_store words.now hand.new }
     ensures rows { (w : ℕ) → W.is_row words.now hand.old w → W.is_row words.now hand.new w }
     ensures kept { W.kept words.now hand.old hand.new }
@@ -123,6 +126,7 @@ pub(crate) fn settle<W: Words>(
         → AreFew blocks (W.words words.now hand.old) near → IsMerged blocks (W.words words.now hand.old) (W.words words.now hand.new) near }
     ensures many { blocks_of blocks (W.words words.now hand.old) ≢ blocks → ¬ AreFew blocks (W.words words.now hand.old) near
         → W.words words.now hand.new ≡ W.words words.now hand.old }
+    ensures told { GapsTold blocks (W.words words.now hand.old) → GapsTold blocks (W.words words.now hand.new) }
     ensures may { W.may_store words.now hand.new }
     ensures rows { (w : ℕ) → W.is_row words.now hand.old w → W.is_row words.now hand.new w }
     ensures kept { W.kept words.now hand.old hand.new }

@@ -22,6 +22,8 @@ pub fn split<W: Words>(words: &W, hand: &mut W::Hand, blocks: usize, i: usize, p
     ensures same { rows_in blocks (W.words words.now hand.new) ≡ rows_in blocks (W.words words.now hand.old) }
     ensures count { blocks_of blocks (W.words words.now hand.new) ≡ blocks_of blocks (W.words words.now hand.old) + 1 }
     ensures before { (k : ℕ) → k < i → told blocks (W.words words.now hand.new) k ≡ told blocks (W.words words.now hand.old) k }
+    ensures behind { (k : ℕ) → i < k → k < blocks_of blocks (W.words words.now hand.old)
+        → told blocks (W.words words.now hand.new) (k + 1) ≡ told blocks (W.words words.now hand.old) k }
     ensures lower { rows_of blocks (W.words words.now hand.new) i + 1 ≡ place }
     ensures upper { rows_of blocks (W.words words.now hand.new) (i + 1) + place ≡ rows_of blocks (W.words words.now hand.old) i }
     ensures may { W.may_store words.now hand.new }
@@ -32,10 +34,10 @@ pub fn split<W: Words>(words: &W, hand: &mut W::Hand, blocks: usize, i: usize, p
     let told = 128 * blocks + 1;
     let count = words.load(hand, 128 * blocks) as usize;
     let packed = words.load(hand, told + i);
-    let free = words.load(hand, told + count) / 128;
+    let free = words.load(hand, told + count);
     let rows = (packed % 128) as usize;
-    let from = blocks + 127 * (packed / 128) as usize;
-    let to = blocks + 127 * free as usize;
+    let from = blocks + 127 * (packed / 128 % 2048) as usize;
+    let to = blocks + 127 * (free / 128 % 2048) as usize;
     let more = rows - place;
     copy(words, hand, from + place, to, more);
     let head = words.load(hand, from + (place - 1));
@@ -45,7 +47,7 @@ pub fn split<W: Words>(words: &W, hand: &mut W::Hand, blocks: usize, i: usize, p
         hand,
         told + (i + 1),
         told + count,
-        128 * free + more as u64,
+        128 * (free / 128 % 2048) + more as u64,
     );
     words.store_layout(hand, told + i, packed - (more as u64 + 1));
     words.store_layout(hand, 128 * blocks, count as u64 + 1);

@@ -1,7 +1,8 @@
 pub mod ReadBack
 pub mod RowLists
-pub mod GapWords
 mod RowPages
+mod Gaps
+pub mod FreeStays
 mod RowsBetween
 mod OneList
 mod PutRows

@@ -1,7 +1,7 @@
 -- How many loads a plan takes. A search finds the row of its first page, or of its last one, and goes through the rows
 -- that start among its pages, and to one more; a change does so from the row before its pages to the one behind them.
 -- The numbers are those of rows in blocks: at most 20 loads find a row, and one or two more tell a word, the row behind
--- and the row before. The gap word is one load: a search for a place has room for it, and a change takes it beside.
+-- and the row before. How many a search for a place takes is told by who keeps the rows.
 use Rattle.std.proofs.Common.{ap, true, false, refl, ◌∙◌, inl, inr, arith}
 use Rattle.std.proofs.lemmas.Bool.{cases_lt, lt-ltb, le-ltb}
 use Rattle.std.specs.Prelude.{ℕ, ◌≡◌, ◌<◌, ◌≤◌, ◌+◌, ◌-◌, ◌*◌, ◌⊎◌, Bool, ◌&&◌, nat_lt, if◌then◌else◌, Some, None, List, [], ◌∷◌}
@@ -35,19 +35,24 @@ abbrev pub change_loads : List ℕ → ℕ → ℕ → ℕ
 change_loads rows lo hi = 24 + 6 * rows_between rows (lo - 1) hi
 
 -- the change that a judged call comes to, if it comes to one: that of the pages from its first one up to the end of its
--- last patch, and the gap word, which is loaded once
+-- last patch
 abbrev pub judged_loads : List ℕ → Judged → ℕ
 judged_loads rows (Refused why) = 0
 judged_loads rows (Keeps reply) = 0
-judged_loads rows (Changes change) = change_loads rows change.first.lo (last_end 0 (patches_of change)) + 1
+judged_loads rows (Changes change) = change_loads rows change.first.lo (last_end 0 (patches_of change))
 
--- planning a call on these rows takes no more loads, from one number of them up to another: none where its arguments
--- decide it, and otherwise those of judging it and of the change that it comes to
-pub data TakesLoads (rows : List ℕ) (c : Call) (before after : ℕ) : Type 0 where
-  by_arguments : (reply : Reply) → plain_reply c ≡ Some reply → after ≡ before → TakesLoads rows c before after
+-- planning a call on these rows takes no more loads, from one number of them up to another, where a search for a place
+-- takes so many: none where its arguments decide it, and otherwise those of judging it and of the change that it comes
+-- to
+pub data TakesLoads (rows : List ℕ) (fit : ℕ) (c : Call) (before after : ℕ) : Type 0 where
+  by_arguments : (reply : Reply) → plain_reply c ≡ Some reply → after ≡ before → TakesLoads rows fit c before after
   by_pages :
       (j : Judged) → plain_reply c ≡ None → IsJudged (kind_at (areas_from rows)) c j →
-      TakesLooks (kind_at (areas_from rows)) (search_loads rows) c (before + judged_loads rows j) after → TakesLoads rows c before after
+      TakesLooks (kind_at (areas_from rows)) (search_loads rows) fit c (before + judged_loads rows j) after → TakesLoads rows fit c before after
+
+-- how many loads a search for a place takes: one row is found, and then whoever keeps the rows goes down by so many
+abbrev pub fit_loads : ℕ → ℕ
+fit_loads gap = 20 + gap
 
 -- a page between two others is counted
 pub between_yes : (lo hi page : ℕ) → lo < page → page < hi → is_between lo hi page ≡ 1

@@ -5,13 +5,13 @@
 //! being taken.
 #![tactic(auto)]
 
-mod gaps;
 mod places;
 mod plan;
 mod planning;
 mod row_words;
 mod rows;
 
+pub use places::free_pages;
 pub use plan::{Planned, plan_rows};
 pub use planning::{Cut, plan_change};
 pub use row_words::{read_row, write_row};

@@ -1,7 +1,7 @@
 //! The searches that judging a call takes, over rows that are loaded: the kind of a page, the lowest page of a sort,
 //! and the highest place of free pages, which is this project's own choice beside mmap(2). The first two begin at the
-//! row of a page, and the last goes down from the last row of its window, or from the page that the gap word names,
-//! until it finds a gap. A reader may rely on what is found being so of all kinds that the rows show.
+//! row of a page, and the last goes down from the last row of its window to one with as many free pages, as whoever
+//! keeps the rows finds it. A reader may rely on what is found being so of all kinds that the rows show.
 ghost use Rattle.std.specs.Prelude.{max, drop, length, None, ◌+◌, ◌^◌, ℕ, IsTrue, IsFalse, ◌≡◌, ◌<◌, ◌≤◌, Option, MatchOption};
 ghost use Rattle.page_types.specs.declared.TheConstants.{LIMIT, LOWEST};
 ghost use Rattle.page_types.specs.declared.calls.Kind.{Kind};
@@ -12,9 +12,9 @@ ghost use Rattle.space_model.specs.Places.{FitsAt, IsHighestFit};
 ghost use Rattle.row_plans.specs.RowWords.{row_start, row_kind};
 ghost use Rattle.row_plans.specs.RowLists.{rows_start, areas_from};
 ghost use Rattle.row_plans.specs.Plans.{IsPlaceOf};
-ghost use Rattle.row_plans.specs.Loads.{search_loads, search_within};
+ghost use Rattle.row_plans.specs.Gaps.{free_pages};
+ghost use Rattle.row_plans.specs.Loads.{search_loads, search_within, fit_loads};
 
-use crate::gaps::window_by;
 use crate::row_words::read_row;
 use crate::rows::Rows;
 use page_types::{Kind, LIMIT, LOWEST};
@@ -50,6 +50,10 @@ impl<'a, R: Rows> Pages for RowPages<'a, R> {
     ghost same_reach = { λ pages one two may loaded. λ i. search_loads ((R.same_words pages.rows.now one two may loaded).1 i) };
 
     ghost reach_within = { λ pages hand. search_within (R.words pages.rows.now hand) };
+
+    ghost fit_looks = { λ pages hand. fit_loads (R.gap_loads pages.rows.now hand) };
+
+    ghost same_fit = { λ pages one two may loaded. λ i. fit_loads (R.same_gap pages.rows.now one two may loaded i) };
 
     fn kind_of(&self, hand: &mut R::Hand, page: u64) -> Option<Kind> {
         let rows = self.rows;
@@ -144,71 +148,40 @@ fn end_of<R: Rows>(rows: &R, hand: &mut R::Hand, sort: Sort, lo: u64, hi: u64) -
     hi
 }
 
-/// Whether so many pages fit between a row's start and a page up to which the row goes, and the row is free.
-fn fits_in(start: u64, end: u64, kind: Option<Kind>, pages: u64) -> bool
-    requires pages { pages < 2 ^ 62 }
-    requires start { start ≤ LIMIT }
-    ensures fit { IsTrue result → (kind ≡ None) × (max start LOWEST + pages ≤ end) }
-    ensures no_fit { IsFalse result → kind ≡ None → max start LOWEST + pages ≤ end → ⊥ }
+/// How many free pages a row has, at or above `LOWEST`, from its start up to an end.
+pub fn free_pages(word: u64, end: u64) -> u64
+    ensures { result ≡ free_pages (row_kind word) (row_start word) end }
 {
+    let (start, kind) = read_row(word);
     match kind {
-        Some(_) => false,
-        None => start.max(LOWEST) + pages <= end,
+        Some(_) => 0,
+        None => end.saturating_sub(start.max(LOWEST)),
     }
 }
 
 /// The highest start of so many free pages, at or above `LOWEST` and with the end at or below the page where the window
-/// ends. The rows are gone through from the last one on that starts in the window, so the first that the pages fit in
-/// has it. It takes one load fewer than a search may, so that one is left for the gap word.
-fn highest_below<R: Rows>(rows: &R, hand: &mut R::Hand, window: u64, pages: u64) -> Option<u64>
+/// ends. The last row that starts in the window may go on behind it; of those before it the last that has so many free
+/// pages has the place at its end.
+fn highest_fit<R: Rows>(rows: &R, hand: &mut R::Hand, window: u64, pages: u64) -> Option<u64>
     requires may { R.may_load rows.now hand.old }
     requires window { window ≤ LIMIT }
     requires some { 0 < pages }
-    requires few { pages < 2 ^ 62 }
     ensures fit { MatchOption result ((start : ℕ) → ¬ FitsAt (kind_at (areas_from (R.words rows.now hand.old))) window pages start)
         (IsHighestFit (kind_at (areas_from (R.words rows.now hand.old))) window pages) }
     ensures loaded { R.loaded rows.now hand.old hand.new }
-    ensures steps { MatchOption result
-        (R.steps rows.now hand.new + 1 ≤ R.steps rows.now hand.old + search_loads (R.words rows.now hand.old) 0 window)
-        (λ start. R.steps rows.now hand.new + 1 ≤ R.steps rows.now hand.old + search_loads (R.words rows.now hand.old) start window) }
+    ensures steps { R.steps rows.now hand.new ≤ R.steps rows.now hand.old + fit_loads (R.gap_loads rows.now hand.old) }
 {
     if window == 0 {
         return None;
     }
     let row = rows.find(hand, window - 1);
-    let mut at = row.at;
-    let mut word = row.word;
-    let mut end = row.end;
-    'rows: loop {
-        let (start, kind) = read_row(word);
-        let top = end.min(window);
-        if fits_in(start, top, kind, pages) {
-            return Some(top - pages);
-        }
-        if start == 0 {
-            return None;
-        }
-        end = start;
-        at = rows.previous(hand, at);
-        word = rows.load(hand, at);
+    let top = row.end.min(window);
+    if free_pages(row.word, top) >= pages {
+        return Some(top - pages);
     }
-}
-
-/// The highest start of so many free pages, at or above `LOWEST` and with the end at or below the page where the window
-/// ends. Where the gap word says that no place of them ends above a page, the search begins there.
-fn highest_fit<R: Rows>(rows: &R, hand: &mut R::Hand, window: u64, pages: u64) -> Option<u64>
-    requires may { R.may_load rows.now hand.old }
-    requires window { window ≤ LIMIT }
-    requires some { 0 < pages }
-    requires few { pages < 2 ^ 62 }
-    ensures fit { MatchOption result ((start : ℕ) → ¬ FitsAt (kind_at (areas_from (R.words rows.now hand.old))) window pages start)
-        (IsHighestFit (kind_at (areas_from (R.words rows.now hand.old))) window pages) }
-    ensures loaded { R.loaded rows.now hand.old hand.new }
-    ensures steps { MatchOption result
-        (R.steps rows.now hand.new ≤ R.steps rows.now hand.old + search_loads (R.words rows.now hand.old) 0 window)
-        (λ start. R.steps rows.now hand.new ≤ R.steps rows.now hand.old + search_loads (R.words rows.now hand.old) start window) }
-{
-    let word = rows.gap(hand);
-    let below = window_by(word, window, pages);
-    highest_below(rows, hand, below, pages)
+    let (start, _) = read_row(row.word);
+    match rows.gap_before(hand, row.at, start, pages) {
+        Some(end) => Some(end - pages),
+        None => None,
+    }
 }

@@ -2,13 +2,12 @@
 //! place is: rows may stand one behind the other or in blocks. A caller of a shared space loads words under the range
 //! that it holds, and a test reads a list. A reader may rely on all loads finding one list of rows, whichever of them
 //! are loaded, and in which order.
-ghost use Rattle.std.specs.Prelude.{ℕ, List, ◌≡◌, ◌<◌, ◌≤◌, ◌+◌, length, drop, slice_index};
+ghost use Rattle.std.specs.Prelude.{ℕ, List, MatchOption, ◌≡◌, ◌<◌, ◌≤◌, ◌+◌, length, drop, slice_index};
 ghost use Rattle.page_types.specs.declared.TheConstants.{LIMIT};
-ghost use Rattle.space_model.specs.Areas.{kind_at};
 ghost use Rattle.row_plans.specs.RowWords.{row_start};
-ghost use Rattle.row_plans.specs.RowLists.{rows_start, areas_from};
+ghost use Rattle.row_plans.specs.RowLists.{rows_start};
 ghost use Rattle.row_plans.specs.Plans.{IsRowList, IsPlaceOf};
-ghost use Rattle.row_plans.specs.Gaps.{IsGapWord};
+ghost use Rattle.row_plans.specs.Gaps.{HasNoGap, IsGapBefore};
 
 /// A row that was found.
 #[derive(Clone, Copy)]
@@ -61,6 +60,12 @@ pub trait Rows {
     /// How many words were loaded with a hand; always 0 where nobody counts them.
     ghost steps: { Self → Self.Hand → ℕ };
 
+    /// How many loads it takes at most to find the last row before another that has so many free pages.
+    ghost gap_loads: { Self → Self.Hand → ℕ };
+
+    /// A load leaves that as it was.
+    ghost same_gap: { (rows : Self) (one two : Self.Hand) → may_load rows one → loaded rows one two → gap_loads rows two ≡ gap_loads rows one };
+
     /// How many rows there are.
     fn count(&self) -> u32
         ensures { (hand : Self.Hand) → may_load self.now hand → result ≡ length (words self.now hand) };
@@ -106,10 +111,21 @@ pub trait Rows {
         ensures loaded { loaded self.now hand.old hand.new }
         ensures steps { steps self.now hand.new ≤ steps self.now hand.old + 1 };
 
-    /// A gap word that is right for the rows: 0 where nothing is known.
-    fn gap(&self, hand: &mut Self::Hand) -> u64
+    /// The page at which the last row ends, before the one that starts at `start` at a place, that has so many free
+    /// pages at or above `LOWEST`; or None where none has.
+    fn gap_before(
+        &self,
+        hand: &mut Self::Hand,
+        at: Self::Place,
+        start: u64,
+        pages: u64,
+    ) -> Option<u64>
         requires may { may_load self.now hand.old }
-        ensures gap { IsGapWord (kind_at (areas_from (words self.now hand.old))) result }
+        requires there { number self.now hand.old at < length (words self.now hand.old) }
+        requires start { start ≡ row_start (slice_index (words self.now hand.old) (number self.now hand.old at)) }
+        requires some { 0 < pages }
+        ensures gap { MatchOption result (HasNoGap (words self.now hand.old) 0 (number self.now hand.old at) pages)
+            (IsGapBefore (words self.now hand.old) (number self.now hand.old at) pages) }
         ensures loaded { loaded self.now hand.old hand.new }
-        ensures steps { steps self.now hand.new ≤ steps self.now hand.old + 1 };
+        ensures steps { steps self.now hand.new ≤ steps self.now hand.old + gap_loads self.now hand.old };
 }

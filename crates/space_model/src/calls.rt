@@ -22,8 +22,8 @@ pub fn judge<P: Pages>(pages: &P, hand: &mut P::Hand, call: &Call) -> Judged
     requires undecided { plain_reply call.now ≡ None }
     ensures judged { IsJudged (P.kinds pages.now hand.old) call.now result }
     ensures looked { P.looked pages.now hand.old hand.new }
-    ensures looks { TakesLooks (P.kinds pages.now hand.old) (P.reach pages.now hand.old) call.now (P.looks pages.now hand.old)
-        (P.looks pages.now hand.new) }
+    ensures looks { TakesLooks (P.kinds pages.now hand.old) (P.reach pages.now hand.old) (P.fit_looks pages.now hand.old) call.now
+        (P.looks pages.now hand.old) (P.looks pages.now hand.new) }
 {
     match *call {
         Call::Map {

@@ -65,8 +65,8 @@ pub(crate) fn judge_brk<P: Pages>(pages: &P, hand: &mut P::Hand, base: u64, addr
     requires undecided { brk_reply base ≡ None }
     ensures judged { IsJudged (P.kinds pages.now hand.old) (Brk base addr) result }
     ensures looked { P.looked pages.now hand.old hand.new }
-    ensures looks { TakesLooks (P.kinds pages.now hand.old) (P.reach pages.now hand.old) (Brk base addr) (P.looks pages.now hand.old)
-        (P.looks pages.now hand.new) }
+    ensures looks { TakesLooks (P.kinds pages.now hand.old) (P.reach pages.now hand.old) (P.fit_looks pages.now hand.old) (Brk base addr)
+        (P.looks pages.now hand.old) (P.looks pages.now hand.new) }
 {
     let heap = heap_kind();
     let end = pages.end_of(hand, Sort::Unlike(Some(heap)), base / PAGE, LIMIT);

@@ -65,6 +65,12 @@ pub trait Pages {
     ghost reach_within: { (pages : Self) (hand : Self.Hand) (lo hi from to : ℕ) → from ≤ lo → hi ≤ to
         → reach pages hand lo hi ≤ reach pages hand from to };
 
+    /// How many looks a search for a place takes at most.
+    ghost fit_looks: { Self → Self.Hand → ℕ };
+
+    /// A look leaves that as it was.
+    ghost same_fit: { (pages : Self) (one two : Self.Hand) → may_look pages one → looked pages one two → fit_looks pages two ≡ fit_looks pages one };
+
     /// The kind of a page, or None where it isn't mapped.
     fn kind_of(&self, hand: &mut Self::Hand, page: u64) -> Option<Kind>
         requires may { may_look self.now hand.old }
@@ -92,8 +98,7 @@ pub trait Pages {
         ensures fit { MatchOption result ((start : ℕ) → ¬ FitsAt (kinds self.now hand.old) window pages start)
             (IsHighestFit (kinds self.now hand.old) window pages) }
         ensures looked { looked self.now hand.old hand.new }
-        ensures looks { MatchOption result (looks self.now hand.new ≤ looks self.now hand.old + reach self.now hand.old 0 window)
-            (λ start. looks self.now hand.new ≤ looks self.now hand.old + reach self.now hand.old start window) };
+        ensures looks { looks self.now hand.new ≤ looks self.now hand.old + fit_looks self.now hand.old };
 }
 
 /// The kind that a Map gives its pages.
@@ -205,8 +210,8 @@ pub(crate) fn judge_fixed<P: Pages>(
     requires fixed { IsTrue (is_fixed flags) }
     ensures judged { IsJudged (P.kinds pages.now hand.old) (Map addr len prot flags) result }
     ensures looked { P.looked pages.now hand.old hand.new }
-    ensures looks { TakesLooks (P.kinds pages.now hand.old) (P.reach pages.now hand.old) (Map addr len prot flags) (P.looks pages.now hand.old)
-        (P.looks pages.now hand.new) }
+    ensures looks { TakesLooks (P.kinds pages.now hand.old) (P.reach pages.now hand.old) (P.fit_looks pages.now hand.old) (Map addr len prot flags)
+        (P.looks pages.now hand.old) (P.looks pages.now hand.new) }
 {
     let hint = addr / PAGE;
     let count = page_count(len);
@@ -241,8 +246,8 @@ pub(crate) fn judge_hinted<P: Pages>(
     requires hint { IsFalse (is_fixed flags) }
     ensures judged { IsJudged (P.kinds pages.now hand.old) (Map addr len prot flags) result }
     ensures looked { P.looked pages.now hand.old hand.new }
-    ensures looks { TakesLooks (P.kinds pages.now hand.old) (P.reach pages.now hand.old) (Map addr len prot flags) (P.looks pages.now hand.old)
-        (P.looks pages.now hand.new) }
+    ensures looks { TakesLooks (P.kinds pages.now hand.old) (P.reach pages.now hand.old) (P.fit_looks pages.now hand.old) (Map addr len prot flags)
+        (P.looks pages.now hand.old) (P.looks pages.now hand.new) }
 {
     let hint = addr / PAGE;
     let count = page_count(len);
@@ -262,8 +267,8 @@ pub(crate) fn judge_unmap<P: Pages>(pages: &P, hand: &mut P::Hand, addr: u64, le
     requires undecided { unmap_reply addr len ≡ None }
     ensures judged { IsJudged (P.kinds pages.now hand.old) (Unmap addr len) result }
     ensures looked { P.looked pages.now hand.old hand.new }
-    ensures looks { TakesLooks (P.kinds pages.now hand.old) (P.reach pages.now hand.old) (Unmap addr len) (P.looks pages.now hand.old)
-        (P.looks pages.now hand.new) }
+    ensures looks { TakesLooks (P.kinds pages.now hand.old) (P.reach pages.now hand.old) (P.fit_looks pages.now hand.old) (Unmap addr len)
+        (P.looks pages.now hand.old) (P.looks pages.now hand.new) }
 {
     let gone = Span::of_valid(addr, len);
     match lowest(pages, hand, Sort::Sealed, gone.lo, gone.hi) {
@@ -284,8 +289,8 @@ pub(crate) fn judge_protect<P: Pages>(
     requires undecided { protect_reply addr len ≡ None }
     ensures judged { IsJudged (P.kinds pages.now hand.old) (Protect addr len prot) result }
     ensures looked { P.looked pages.now hand.old hand.new }
-    ensures looks { TakesLooks (P.kinds pages.now hand.old) (P.reach pages.now hand.old) (Protect addr len prot) (P.looks pages.now hand.old)
-        (P.looks pages.now hand.new) }
+    ensures looks { TakesLooks (P.kinds pages.now hand.old) (P.reach pages.now hand.old) (P.fit_looks pages.now hand.old) (Protect addr len prot)
+        (P.looks pages.now hand.old) (P.looks pages.now hand.new) }
 {
     let span = Span::of_valid(addr, len);
     if let Some(page) = lowest(pages, hand, Sort::Missing, span.lo, span.hi) {
@@ -309,8 +314,8 @@ pub(crate) fn judge_seal<P: Pages>(
     requires undecided { seal_reply addr len flags ≡ None }
     ensures judged { IsJudged (P.kinds pages.now hand.old) (Seal addr len flags) result }
     ensures looked { P.looked pages.now hand.old hand.new }
-    ensures looks { TakesLooks (P.kinds pages.now hand.old) (P.reach pages.now hand.old) (Seal addr len flags) (P.looks pages.now hand.old)
-        (P.looks pages.now hand.new) }
+    ensures looks { TakesLooks (P.kinds pages.now hand.old) (P.reach pages.now hand.old) (P.fit_looks pages.now hand.old) (Seal addr len flags)
+        (P.looks pages.now hand.old) (P.looks pages.now hand.new) }
 {
     let span = Span::of_valid(addr, len);
     match lowest(pages, hand, Sort::Missing, span.lo, span.hi) {
@@ -346,8 +351,8 @@ pub(crate) fn judge_fault<P: Pages>(
     requires undecided { plain_reply (Fault addr access) ≡ None }
     ensures judged { IsJudged (P.kinds pages.now hand.old) (Fault addr access) result }
     ensures looked { P.looked pages.now hand.old hand.new }
-    ensures looks { TakesLooks (P.kinds pages.now hand.old) (P.reach pages.now hand.old) (Fault addr access) (P.looks pages.now hand.old)
-        (P.looks pages.now hand.new) }
+    ensures looks { TakesLooks (P.kinds pages.now hand.old) (P.reach pages.now hand.old) (P.fit_looks pages.now hand.old) (Fault addr access)
+        (P.looks pages.now hand.old) (P.looks pages.now hand.new) }
 {
     let page = addr / PAGE;
     Judged::Keeps(access_reply(pages.kind_of(hand, page), page, access))

@@ -14,7 +14,7 @@ ghost use Rattle.space_model.specs.declared.paint.Patch.{Patch};
 ghost use Rattle.space_model.specs.Answers.{bars, in_order};
 ghost use Rattle.space_model.specs.Effect.{patch};
 ghost use Rattle.space_model.specs.Judges.{IsJudged};
-ghost use Rattle.space_model.specs.Looking.{TakesLooks, MayStop, hint_looks, longer_looks};
+ghost use Rattle.space_model.specs.Looking.{TakesLooks, hint_looks, longer_looks};
 ghost use Rattle.space_model.specs.Places.{FitsAt, HasNoPlace, StartsAt, remap_places};
 ghost use Rattle.space_model.specs.Sorts.{IsClear};
 
@@ -67,8 +67,8 @@ fn remap_place<P: Pages>(
         (StartsAt (P.kinds pages.now hand.old) count (remap_places lo end may_move hint)) }
     ensures limit { MatchOption result (Unit {0}) (λ start. start + count ≤ LIMIT) }
     ensures looked { P.looked pages.now hand.old hand.new }
-    ensures looks { (at : ℕ) → MayStop (P.kinds pages.now hand.old) LOW count at → P.looks pages.now hand.new ≤ P.looks pages.now hand.old
-        + longer_looks (P.reach pages.now hand.old) lo end count may_move (page_of hint) at }
+    ensures looks { P.looks pages.now hand.new ≤ P.looks pages.now hand.old
+        + longer_looks (P.reach pages.now hand.old) (P.fit_looks pages.now hand.old) lo end count may_move (page_of hint) }
 {
     if goes_to_hint(pages, hand, count, may_move, hint) {
         return Some(hint / PAGE);
@@ -137,9 +137,9 @@ fn judge_longer<P: Pages>(
     requires clear { IsClear (P.kinds pages.now hand.old) (bars (P.kinds pages.now hand.old) (Remap addr old_len new_len may_move hint)) }
     ensures judged { IsJudged (P.kinds pages.now hand.old) (Remap addr old_len new_len may_move hint) result }
     ensures looked { P.looked pages.now hand.old hand.new }
-    ensures looks { (at : ℕ) → MayStop (P.kinds pages.now hand.old) LOW (page_count new_len) at → P.looks pages.now hand.new
-        ≤ P.looks pages.now hand.old + longer_looks (P.reach pages.now hand.old) (page_of addr) (end_page addr old_len) (page_count new_len)
-        may_move (page_of hint) at }
+    ensures looks { P.looks pages.now hand.new ≤ P.looks pages.now hand.old
+        + longer_looks (P.reach pages.now hand.old) (P.fit_looks pages.now hand.old) (page_of addr) (end_page addr old_len) (page_count new_len)
+        may_move (page_of hint) }
 {
     let lo = addr / PAGE;
     let end = end_page(addr, old_len);
@@ -170,8 +170,8 @@ pub(crate) fn judge_remap<P: Pages>(
     requires undecided { remap_reply addr old_len new_len ≡ None }
     ensures judged { IsJudged (P.kinds pages.now hand.old) (Remap addr old_len new_len may_move hint) result }
     ensures looked { P.looked pages.now hand.old hand.new }
-    ensures looks { TakesLooks (P.kinds pages.now hand.old) (P.reach pages.now hand.old) (Remap addr old_len new_len may_move hint) (P.looks pages.now hand.old)
-        (P.looks pages.now hand.new) }
+    ensures looks { TakesLooks (P.kinds pages.now hand.old) (P.reach pages.now hand.old) (P.fit_looks pages.now hand.old)
+        (Remap addr old_len new_len may_move hint) (P.looks pages.now hand.old) (P.looks pages.now hand.new) }
 {
     let lo = addr / PAGE;
     let end = end_page(addr, old_len);

@@ -211,6 +211,10 @@ impl Pages for ReservedSpace {
 
     ghost reach_within = { λ _ _ _ _ _ _ _ _. none_at_most };
 
+    ghost fit_looks = { λ _ _. 0 };
+
+    ghost same_fit = { λ _ _ _ _ _. refl };
+
     fn kind_of(&self, _hand: &mut (), page: u64) -> Option<Kind> {
         kind_of(self.stored.blocks.as_slice(), page)
     }

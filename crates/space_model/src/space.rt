@@ -277,6 +277,10 @@ impl Pages for PlainSpace {
 
     ghost reach_within = { λ _ _ _ _ _ _ _ _. none_at_most };
 
+    ghost fit_looks = { λ _ _. 0 };
+
+    ghost same_fit = { λ _ _ _ _ _. refl };
+
     fn kind_of(&self, _hand: &mut (), page: u64) -> Option<Kind> {
         kind_of(self.areas.as_slice(), page)
     }

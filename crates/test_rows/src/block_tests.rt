@@ -1,7 +1,10 @@
 //! Words of one's own, and a script of splices over them. A reader may rely on what the trait asks of those who keep
 //! words being met there, and on what a splice asks.
-ghost use Rattle.std.specs.Prelude.{ℕ, ◌≡◌, ◌+◌, ◌-◌, ◌*◌, ◌<◌, ◌≤◌, length, slice_index, vec_capacity};
+ghost use Rattle.std.specs.Prelude.{ℕ, All, ◌≡◌, ◌+◌, ◌-◌, ◌*◌, ◌<◌, ◌≤◌, length, slice_index, vec_capacity};
+ghost use Rattle.page_types.specs.declared.TheConstants.{LIMIT};
+ghost use Rattle.row_plans.specs.RowWords.{row_start};
 ghost use Rattle.row_blocks.specs.Blocks.{IsLaidOut, blocks_of, rows_of, rows_in, rank};
+ghost use Rattle.row_blocks.specs.Gaps.{GapsTold};
 
 use row_blocks::{Loads, Position, Words, gather, next, previous, write};
 use std::process::Abort;
@@ -113,10 +116,15 @@ fn splice_at<A: Abort>(
     requires room { 2 * (length (rows_in blocks bench.old.words.items) + length more.now) < 129 * (blocks - 2) + 2 * gone }
     requires free { blocks_of blocks bench.old.words.items < blocks }
     requires short { rows_of blocks bench.old.words.items 0 < 64 }
+    requires low { All (λ w. row_start w ≤ LIMIT) (rows_in blocks bench.old.words.items) }
+    requires low_new { All (λ w. row_start w ≤ LIMIT) more.now }
+    requires told { GapsTold blocks bench.old.words.items }
     ensures laid { IsLaidOut blocks bench.new.words.items }
     ensures long { length (rows_in blocks bench.new.words.items) + gone ≡ length (rows_in blocks bench.old.words.items) + length more.now }
     ensures free { blocks_of blocks bench.new.words.items < blocks }
     ensures short { rows_of blocks bench.new.words.items 0 < 64 }
+    ensures low { All (λ w. row_start w ≤ LIMIT) (rows_in blocks bench.new.words.items) }
+    ensures told { GapsTold blocks bench.new.words.items }
 {
     let at = position(bench.words.as_slice(), blocks, number);
     write(words, bench, blocks, at, gone, more);
@@ -132,10 +140,14 @@ fn fill<A: Abort>(words: &Plain<'_, A>, bench: &mut Bench, blocks: usize, from: 
     requires room { 2 * (from + 4 * times) < 129 * (blocks - 2) }
     requires free { blocks_of blocks bench.old.words.items < blocks }
     requires short { rows_of blocks bench.old.words.items 0 < 64 }
+    requires low { All (λ w. row_start w ≤ LIMIT) (rows_in blocks bench.old.words.items) }
+    requires told { GapsTold blocks bench.old.words.items }
     ensures laid { IsLaidOut blocks bench.new.words.items }
     ensures long { length (rows_in blocks bench.new.words.items) ≡ from + 4 * times }
     ensures free { blocks_of blocks bench.new.words.items < blocks }
     ensures short { rows_of blocks bench.new.words.items 0 < 64 }
+    ensures low { All (λ w. row_start w ≤ LIMIT) (rows_in blocks bench.new.words.items) }
+    ensures told { GapsTold blocks bench.new.words.items }
 {
     let mut k = 0;
     'fours: while k < times {
@@ -170,10 +182,14 @@ fn come_and_go<A: Abort>(
     requires room { 2 * (count + 4) < 129 * (blocks - 2) }
     requires free { blocks_of blocks bench.old.words.items < blocks }
     requires short { rows_of blocks bench.old.words.items 0 < 64 }
+    requires low { All (λ w. row_start w ≤ LIMIT) (rows_in blocks bench.old.words.items) }
+    requires told { GapsTold blocks bench.old.words.items }
     ensures laid { IsLaidOut blocks bench.new.words.items }
     ensures long { length (rows_in blocks bench.new.words.items) ≡ count }
     ensures free { blocks_of blocks bench.new.words.items < blocks }
     ensures short { rows_of blocks bench.new.words.items 0 < 64 }
+    ensures low { All (λ w. row_start w ≤ LIMIT) (rows_in blocks bench.new.words.items) }
+    ensures told { GapsTold blocks bench.new.words.items }
 {
     let mut k = 0;
     'places: while k < times {
@@ -195,7 +211,7 @@ fn row(words: &[u64], blocks: usize, at: Position) -> u64
         return words[at.block];
     }
     let packed = words[128 * blocks + 1 + at.block];
-    words[blocks + 127 * (packed / 128) as usize + (at.place - 1)]
+    words[blocks + 127 * (packed / 128 % 2048) as usize + (at.place - 1)]
 }
 
 /// Row k is the number k, but for the rows 10 to 30, which are higher by the 250 that have gone before them. All are

@@ -1,7 +1,8 @@
 //! Rows that are laid out in many sizes and read back. A reader may rely on what `fill` asks being met with as many
 //! blocks as `blocks_for` tells.
-ghost use Rattle.std.specs.Prelude.{◌<◌, ◌≤◌, ◌≡◌, length};
-ghost use Rattle.page_types.specs.declared.TheConstants.{ROWS};
+ghost use Rattle.std.specs.Prelude.{All, ◌<◌, ◌≤◌, ◌≡◌, length};
+ghost use Rattle.page_types.specs.declared.TheConstants.{LIMIT, ROWS};
+ghost use Rattle.row_plans.specs.RowWords.{row_start};
 
 use row_blocks::{blocks_for, fill, gather};
 use std::alloc::{AllocError, Global};
@@ -11,7 +12,9 @@ use std::test::Fail;
 /// Rows that all differ.
 fn set_all(rows: &mut [u64])
     requires few { length rows.old ≤ ROWS }
+    requires low { All (λ w. row_start w ≤ LIMIT) rows.old }
     ensures length { length rows.new ≡ length rows.old }
+    ensures low { All (λ w. row_start w ≤ LIMIT) rows.new }
 {
     for k in 0..rows.len() {
         rows[k] = 3 * k as u64 + 1;

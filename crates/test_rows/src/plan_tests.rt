@@ -1,26 +1,22 @@
-//! Plans over rows in a list of one's own: two patches at once, what they join, and searches by the gap word. A reader
-//! may rely on what the trait `Rows` asks being met by that list.
-ghost use Rattle.std.specs.Prelude.{◌≡◌, ◌≤◌, ◌<◌, ◌+◌, IfOk, IsTrue, length, drop, slice_index};
+//! Plans over rows in a list of one's own: two patches at once, what they join, and a search that goes down to a gap. A
+//! reader may rely on what the trait `Rows` asks being met by that list.
+ghost use Rattle.std.specs.Prelude.{◌≡◌, ◌≤◌, ◌<◌, ◌+◌, IfOk, IsTrue, MatchOption, length, drop, slice_index};
 ghost use Rattle.page_types.specs.declared.TheConstants.{LIMIT};
 ghost use Rattle.page_types.specs.Named.{IsNamedCall};
-ghost use Rattle.space_model.specs.Areas.{kind_at};
 ghost use Rattle.space_model.specs.Judges.{IsNamedPaint};
 ghost use Rattle.row_plans.specs.RowWords.{row_start};
-ghost use Rattle.row_plans.specs.RowLists.{rows_start, areas_from};
+ghost use Rattle.row_plans.specs.RowLists.{rows_start};
 ghost use Rattle.row_plans.specs.Plans.{IsRowList, spliced};
-ghost use Rattle.row_plans.specs.Gaps.{IsGapWord};
+ghost use Rattle.row_plans.specs.Gaps.{HasNoGap, IsGapBefore};
 
 use crate::starts::no_areas;
 use page_types::{Call, Kind, LIMIT, LOW, MapFlags, PAGE, Prot, ROWS, Reply, SPARE};
-use row_plans::{Cut, Found, Rows, plan_change, plan_rows, read_row};
+use row_plans::{Cut, Found, Rows, free_pages, plan_change, plan_rows, read_row};
 use space_model::{Change, Paint, Patch};
 use std::alloc::{AllocError, Global};
 use std::marker::Model;
 use std::process::Abort;
 use std::test::Fail;
-
-/// A gap word has the pages of a search below this, and the page at which it may begin above.
-const GAP_PAGES: u64 = 268_435_456;
 
 /// The row that has a page.
 fn find(rows: &[u64], page: u64) -> Found<u32>
@@ -51,25 +47,41 @@ fn find(rows: &[u64], page: u64) -> Found<u32>
     }
 }
 
-/// Rows that were read, as a list, and a gap word that is right for them.
+/// The page at which the last row before another one ends that has so many free pages.
+fn gap_before(rows: &[u64], at: u32, start: u64, pages: u64) -> Option<u64>
+    requires there { at < length rows.now }
+    requires start { start ≡ row_start (slice_index rows.now at) }
+    ensures { MatchOption result (HasNoGap rows.now 0 at pages) (IsGapBefore rows.now at pages) }
+{
+    let mut end = start;
+    let mut k = at as usize;
+    'passed: while k > 0 {
+        k -= 1;
+        let word = rows[k];
+        if free_pages(word, end) >= pages {
+            return Some(end);
+        }
+        let (begin, _) = read_row(word);
+        end = begin;
+    }
+    None
+}
+
+/// Rows that were read, as a list.
 #[derive(Drop)]
 struct ReadRows<'a> {
     rows: &'a [u64],
-    gap: u64,
 }
 
 impl<'a> Model for ReadRows<'a> {
     ghost use Rattle.std.specs.Prelude.{ℕ, List};
-    ghost use Rattle.space_model.specs.Areas.{kind_at};
-    ghost use Rattle.row_plans.specs.RowLists.{areas_from};
     ghost use Rattle.row_plans.specs.Plans.{IsRowList};
-    ghost use Rattle.row_plans.specs.Gaps.{IsGapWord};
 
     ghost Value = { List ℕ };
 
     ghost view = { λ s. s.rows.now };
 
-    ghost invariant = { λ s. IsRowList s.rows.now × IsGapWord (kind_at (areas_from s.rows.now)) s.gap };
+    ghost invariant = { λ s. IsRowList s.rows.now };
 }
 
 impl<'a> Rows for ReadRows<'a> {
@@ -100,6 +112,10 @@ impl<'a> Rows for ReadRows<'a> {
 
     ghost steps = { λ _ _. 0 };
 
+    ghost gap_loads = { λ _ _. 0 };
+
+    ghost same_gap = { λ _ _ _ _ _. refl };
+
     fn count(&self) -> u32 {
         self.rows.len() as u32
     }
@@ -128,8 +144,9 @@ impl<'a> Rows for ReadRows<'a> {
         at - 1
     }
 
-    fn gap(&self, _hand: &mut ()) -> u64 {
-        self.gap
+    fn gap_before(&self, _hand: &mut (), at: u32, start: u64, pages: u64) -> Option<u64> {
+        let rows = self.rows;
+        gap_before(rows, at, start, pages)
     }
 }
 
@@ -144,35 +161,16 @@ fn spliced(alloc: Global, rows: &[u64], cut: Cut<u32>, more: &[u64]) -> Result<V
     Ok(new)
 }
 
-/// The rows that a call leaves of others, and a gap word that is right for them.
-fn gap_rows_after(
-    alloc: Global,
-    rows: &[u64],
-    gap: u64,
-    call: &Call,
-) -> Result<(Vec<u64>, u64), AllocError>
-    requires old { IsRowList rows.now }
-    requires gap { IsGapWord (kind_at (areas_from rows.now)) gap }
-    requires named { IsNamedCall call.now }
-    ensures { IfOk result (λ new. IsRowList new.0.items × IsGapWord (kind_at (areas_from new.0.items)) new.1) }
-{
-    let mut new = Vec::with_capacity(alloc, ROWS + SPARE)?;
-    let planned = plan_rows(&ReadRows { rows, gap }, &mut (), call, &mut new);
-    let after = spliced(alloc, rows, planned.cut, new.as_slice())?;
-    match planned.gap {
-        Some(right) => Ok((after, right)),
-        None => Ok((after, 0)),
-    }
-}
-
 /// The rows that a call leaves of others.
 fn rows_after(alloc: Global, rows: &[u64], call: &Call) -> Result<Vec<u64>, AllocError>
     requires old { IsRowList rows.now }
     requires named { IsNamedCall call.now }
     ensures { IfOk result (λ new. IsRowList new.items) }
 {
-    let (new, _) = gap_rows_after(alloc, rows, 0, call)?;
-    Ok(new)
+    let mut new = Vec::with_capacity(alloc, ROWS + SPARE)?;
+    let planned = plan_rows(&ReadRows { rows }, &mut (), call, &mut new);
+    let after = spliced(alloc, rows, planned.cut, new.as_slice())?;
+    Ok(after)
 }
 
 /// Whether a paint gives no bit but the named ones.
@@ -218,7 +216,6 @@ fn change_by(
     let cut = plan_change(
         &ReadRows {
             rows: old.as_slice(),
-            gap: 0,
         },
         &mut (),
         change,
@@ -369,26 +366,29 @@ fn unmap(lo: u64, hi: u64) -> Call
 }
 
 #[test]
-fn a_search_begins_where_the_gap_word_says(rt: HostRuntime) -> Result<(), Fail> {
+fn a_search_goes_down_to_a_gap(rt: HostRuntime) -> Result<(), Fail> {
     let any = map_any(16);
-    let gone = unmap(LOW - 16, LOW);
-    assert!(rt; any.is_named() && gone.is_named());
+    let gone = unmap(LOW - 12, LOW - 4);
+    let hole = unmap(LOW - 32, LOW - 16);
+    assert!(rt; any.is_named() && gone.is_named() && hole.is_named());
     let none = no_areas(rt.alloc())?;
-    // the pages stand as high as they fit, so no place of so many ends above them
-    let (one, after_one) = gap_rows_after(rt.alloc(), none.as_slice(), 0, &any)?;
+    // the pages stand as high as they fit, and the next ones below them
+    let one = rows_after(rt.alloc(), none.as_slice(), &any)?;
     assert_eq!(rt; one.len(), 3);
     assert_eq!(rt; read_row(one[1]), (LOW - 16, kind(Prot::READ)));
-    assert_eq!(rt; after_one, (LOW - 16) * GAP_PAGES + 16);
-    // so the next ones are found below them
-    let (two, after_two) = gap_rows_after(rt.alloc(), one.as_slice(), after_one, &any)?;
+    let two = rows_after(rt.alloc(), one.as_slice(), &any)?;
     assert_eq!(rt; two.len(), 3);
     assert_eq!(rt; read_row(two[1]), (LOW - 32, kind(Prot::READ)));
-    assert_eq!(rt; after_two, (LOW - 32) * GAP_PAGES + 16);
-    // pages that are free again raise the word
-    let (three, after_three) = gap_rows_after(rt.alloc(), two.as_slice(), after_two, &gone)?;
-    assert_eq!(rt; after_three, LOW * GAP_PAGES + 16);
-    let (four, _) = gap_rows_after(rt.alloc(), three.as_slice(), after_three, &any)?;
-    assert_eq!(rt; four.len(), 3);
-    assert_eq!(rt; read_row(four[1]), (LOW - 32, kind(Prot::READ)));
+    let three = rows_after(rt.alloc(), two.as_slice(), &any)?;
+    assert_eq!(rt; three.len(), 3);
+    assert_eq!(rt; read_row(three[1]), (LOW - 48, kind(Prot::READ)));
+    // a gap that is too small is passed, and one of just so many pages is taken
+    let small = rows_after(rt.alloc(), three.as_slice(), &gone)?;
+    let wide = rows_after(rt.alloc(), small.as_slice(), &hole)?;
+    assert_eq!(rt; wide.len(), 7);
+    let four = rows_after(rt.alloc(), wide.as_slice(), &any)?;
+    assert_eq!(rt; four.len(), 5);
+    assert_eq!(rt; read_row(four[1]), (LOW - 48, kind(Prot::READ)));
+    assert_eq!(rt; read_row(four[2]), (LOW - 12, None));
     Ok(())
 }

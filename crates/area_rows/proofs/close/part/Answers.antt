@@ -14,7 +14,6 @@ pair : (c : goal.After-push_reserved-in-callers) → IsPair c.seat.inside.seat (
   count = c.seat.inside.count;
   cut = c.seat.inside.cut;
   plan = c.seat.inside.plan;
-  gap = c.seat.inside.gap;
   change = c.seat.inside.change;
 }) c.remove.result
 pair c = let i = c.seat.invariant in record {

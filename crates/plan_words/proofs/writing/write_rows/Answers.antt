@@ -1,8 +1,11 @@
-use Rattle.std.proofs.Common.{rules, ◌∙◌, length, ap, sym, arith}
+use Rattle.std.proofs.Common.{rules, ℕ, ◌≤◌, ◌∙◌, All, length, ap, sym, subst, arith}
+use Rattle.page_types.specs.declared.TheConstants.{LIMIT}
+use Rattle.row_plans.specs.RowWords.{row_start}
 use Rattle.row_blocks.specs.Blocks.{rows_in}
+use Rattle.row_blocks.specs.Gaps.{GapsTold}
 use Rattle.area_guard.specs.Reads.{known_words}
 use Rattle.plan_words.specs.Writing.{plan_at}
-use Rattle.plan_words.proofs.Rows.{old_rows, more_rows, none_written, write_room}
+use Rattle.plan_words.proofs.Rows.{old_rows, more_rows, more_all, none_written, write_room}
 use Rattle.plan_words.proofs.Numbers.{row_place, written_rows}
 use Rattle.plan_words.proofs.writing.write_rows.Goals as goal
 
@@ -55,3 +58,17 @@ returns-clause-rows c = let s = c.args.seat.now in
     let p = row_place s.pass c.args.at c.requires.blocks c.requires.rows c.requires.there in
     written_rows s.pass c.write.new.hand.pass (plan_at s) c.args.gone c.requires.blocks c.write.ensures.kept.0.blocks c.requires.rows
     (c.requires.first ∙ sym p.number) c.requires.end c.requires.more c.write.ensures.spliced
+
+-- no row starts above the limit
+pub write-requires-clause-low : goal.write-requires-clause-low
+write-requires-clause-low c = let s = c.args.seat.now in
+    subst (All (λ w. row_start w ≤ LIMIT)) (sym (ap (λ n. rows_in n (known_words s.pass)) (sym c.requires.blocks) ∙ c.requires.rows)) c.requires.low
+
+pub write-requires-clause-low_new : goal.write-requires-clause-low_new
+write-requires-clause-low_new c = let s = c.args.seat.now in
+    more_all (λ w. row_start w ≤ LIMIT) (plan_at s) c.requires.more (omega arith) c.requires.low_after
+
+-- and each block tells its gap
+pub write-requires-clause-told : goal.write-requires-clause-told
+write-requires-clause-told c = let s = c.args.seat.now in
+    subst (λ (n : ℕ). GapsTold n (known_words s.pass)) c.requires.blocks c.requires.stands.told

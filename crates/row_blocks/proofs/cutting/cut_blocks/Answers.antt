@@ -1,7 +1,7 @@
-use Rattle.std.proofs.Common.{ℕ, ◌<◌, List, sym, ap, subst, ◌∙◌, arith}
-use Rattle.row_blocks.specs.Blocks.{blocks_of, rows_of}
+use Rattle.std.proofs.Common.{ℕ, ◌+◌, ◌<◌, List, sym, ap, subst, ◌∙◌, arith}
+use Rattle.row_blocks.specs.Blocks.{blocks_of, rows_of, told}
 use Rattle.row_blocks.proofs.Steps.{steps_more, three_steps}
-use Rattle.row_blocks.proofs.Counts.{count_next, block_there}
+use Rattle.row_blocks.proofs.Counts.{count_next, count_up, block_there}
 use Rattle.row_blocks.proofs.Cuts.{head_gone}
 use Rattle.row_blocks.proofs.cutting.cut_blocks.Given.{Over}
 use Rattle.row_blocks.proofs.cutting.cut_blocks.Goals.{In-whole}
@@ -46,3 +46,24 @@ whole-preserved g c =
       stepped = steps_more _ inv.stepped c.body_of-body.ensures.may c.body_of-body.ensures.stay c.body_of-body.ensures.kept;
       steps = omega arith;
     }
+
+-- the blocks behind that one tell what they told
+pub returns-then-left-body-clause-behind : goal.returns-then-left-body-clause-behind
+returns-then-left-body-clause-behind g c = λ k lt there.
+    c.delete.ensures.others k there (λ e. omega arith)
+    ∙ ap (λ (l : List ℕ). told c.args.blocks l k) (c.body_of-body.ensures.words ∙ c.whole.invariant.words)
+
+-- rows that are left to go are some of those that were to go
+pub returns-then-left-body-clause-none : goal.returns-then-left-body-clause-none
+returns-then-left-body-clause-none g c = λ none_goes.
+    let inv = c.whole.invariant in
+    let left = inv.left in
+    let up = count_up c.args.blocks (g.W.Loads.words c.args.words.now c.args.hand.now) c.args.first c.whole.end inv.from in
+    absurd (omega arith)
+
+-- no word has changed
+pub returns-clause-behind : goal.returns-clause-behind
+returns-clause-behind g c = λ k lt there. ap (λ (l : List ℕ). told c.args.blocks l k) c.whole.invariant.words
+
+pub returns-clause-none : goal.returns-clause-none
+returns-clause-none g c = λ none_goes. c.whole.invariant.words

@@ -2,6 +2,7 @@ use Rattle.std.proofs.Common.{[], ◌≡◌, ◌+◌, ◌-◌, refl, ap, ◌∙�
 use Rattle.row_blocks.specs.Blocks.{count_to}
 use Rattle.row_blocks.proofs.RowSplices.{same_splice}
 use Rattle.row_blocks.proofs.Cuts.{count_told, blocks_gone}
+use Rattle.row_blocks.proofs.KeptGaps.{left_beside, out_beside}
 use Rattle.row_blocks.proofs.cutting.cut_on.Goals as goal
 
 -- all rows that went are of the first block
@@ -45,3 +46,19 @@ pub returns-clause-spliced : goal.returns-clause-spliced
 returns-clause-spliced g c =
     let was = c.cut_blocks-end.ensures in
     blocks_gone _ _ _ _ _ c.requires.laid was.from (omega arith) was.before was.spliced c.take_out.ensures.spliced
+
+-- the blocks beside those that went tell what they told
+pub returns-then-end-first-clause-beside : goal.returns-then-end-first-clause-beside
+returns-then-end-first-clause-beside g c =
+    let was = c.cut_blocks-end.ensures in
+    left_beside c.args.first c.args.gone c.if-end-first.true c.requires.laid.spare was.count was.before was.behind was.none
+
+pub returns-clause-beside : goal.returns-clause-beside
+returns-clause-beside g c =
+    let was = c.cut_blocks-end.ensures in
+    let out = c.take_out.ensures in
+    let from = was.from in
+    let differ = c.if-end-first.false in
+    out_beside (g.W.Loads.words c.args.words.now c.cut_blocks-end.new.hand) c.args.first c.args.gone c.cut_blocks-end.result
+    (omega (arith, differ)) c.requires.laid.spare was.count was.before was.behind was.none
+    out.count out.before out.behind

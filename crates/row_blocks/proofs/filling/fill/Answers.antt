@@ -1,5 +1,5 @@
 use Rattle.std.proofs.Common.{◌≡◌, ℕ, ◌-◌, ◌*◌, length, ap, arith}
-use Rattle.row_blocks.proofs.Fills.{IsBlockLaid, nothing_laid, rows_same, filled_to, left_on, some_left}
+use Rattle.row_blocks.proofs.Fills.{IsBlockLaid, nothing_laid, rows_same, filled_to, filled_tells, left_on, some_left}
 use Rattle.row_blocks.proofs.filling.fill.Goals as goal
 
 -- the first block is laid
@@ -9,7 +9,7 @@ next-init c =
     let call = c.lay_block.ensures in
     let each = c.rows_each-each.result in
     let laid : IsBlockLaid nb c.number.new.words c.lay_block.new.words c.args.rows.now 0 0 c.min-first.result = assumption call in
-    let before = nothing_laid c.number.ensures.length c.number.ensures.told c.number.ensures.below c.number.ensures.above in
+    let before = nothing_laid c.requires.few c.number.ensures.length c.number.ensures.told c.number.ensures.below c.number.ensures.above in
     let two : nb - 1 - 1 ≡ nb - 2 = omega arith in
     let all : each * (nb - 1 - 1) ≡ each * (nb - 2) = ap (λ (m : ℕ). each * m) two in
     record {
@@ -43,3 +43,8 @@ next-preserved c =
       left = left_on c.rows_each-each.result nb i (length rows) taken c.next-test.true inv.left c.min-count.ensures;
       low = omega arith;
     }
+
+-- each block tells its largest gap
+pub returns-clause-told : goal.returns-clause-told
+returns-clause-told c =
+    let inv = c.next.invariant in let within = inv.within in let last = c.next-test.false in filled_tells inv.used (omega arith) inv.filling

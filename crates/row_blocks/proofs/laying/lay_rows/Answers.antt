@@ -27,6 +27,7 @@ rows-init g c = record {
       (rank c.args.blocks (g.W.Loads.words c.args.words.now c.args.hand.now) c.args.from.at.block c.args.from.at.place);
   layout = λ t le. refl;
   spot = record { there = c.requires.there; place = c.requires.place; body = c.requires.body; count = c.requires.count; rank = omega arith };
+  on = omega arith;
   high = omega arith;
   stepped = steps_none _ _ _ c.requires.may;
   steps = omega arith;
@@ -83,6 +84,7 @@ rows-preserved g c =
       spliced = laid_more c.args.blocks _ _ _ c.args.more.now _ c.rows.k (next_below _ c.rows.k _ _ lt c.requires.fits) lt inv.spliced laid here refl;
       layout = λ t le. c.lay_row.ensures.layout t le ∙ (ap (λ (l : List ℕ). slice_index l t) go.words ∙ inv.layout t le);
       spot = spot_on to.at.place _ c.rows.k (same g h) go.there go.place go.body go.count here;
+      on = let on = inv.on in let from = go.from in omega arith;
       high = search rules;
       stepped = steps_more _ (steps_more _ inv.stepped go.may go.rows go.kept) c.lay_row.ensures.may c.lay_row.ensures.rows c.lay_row.ensures.kept;
       steps = lay_steps _ _ _ _ _ _ _ _ inv.steps go.steps c.lay_row.ensures.steps;

@@ -18,6 +18,7 @@ invariant-rows g l = record {
       → slice_index (g.W.Loads.words l.words l.hand) t ≡ slice_index (g.W.Loads.words l.words l.initial.hand) t;
   spot : IsSpot l.blocks (g.W.Loads.words l.words l.initial.hand) l.spot.at.block l.spot.at.place l.spot.body.at l.spot.body.rows
       (rank l.blocks (g.W.Loads.words l.words l.initial.hand) l.fn.from.at.block l.fn.from.at.place + l.k);
+  on : l.fn.from.at.block ≤ l.spot.at.block;
   high : l.k ≤ length l.more;
   stepped : HasStepped g.W.Loads l.words l.initial.hand l.hand;
   steps : g.W.Loads.steps l.words l.hand + l.fn.from.at.block ≤ g.W.Loads.steps l.words l.initial.hand + (2 * l.k + l.spot.at.block);

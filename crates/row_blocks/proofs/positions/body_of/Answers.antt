@@ -3,7 +3,7 @@ use Rattle.row_blocks.proofs.positions.body_of.Goals as goal
 
 -- the body word tells where the body stands
 pub returns-clause-at : goal.returns-clause-at
-returns-clause-at g c = ap (λ (x : ℕ). c.args.blocks + 127 * (x / 128)) c.load-packed.ensures.word
+returns-clause-at g c = ap (λ (x : ℕ). c.args.blocks + 127 * (x / 128 % 2048)) c.load-packed.ensures.word
 
 -- and how many rows stand there
 pub returns-clause-rows : goal.returns-clause-rows

@@ -1,4 +1,4 @@
-use Rattle.std.proofs.Common.{ℕ, ◌+◌, ◌*◌, ◌/◌, List, ap, sym, ◌∙◌, arith}
+use Rattle.std.proofs.Common.{ℕ, ◌+◌, ◌*◌, ◌/◌, ◌%◌, List, ap, sym, ◌∙◌, arith}
 use Rattle.std.specs.Prelude.{slice_index}
 use Rattle.std.proofs.lemmas.List.{get_or-set_other}
 use Rattle.row_blocks.specs.Moves.{IsSwapped}
@@ -27,7 +27,7 @@ store_layout-requires-clause-differs g c =
     ∙ get_or-set_other mid (told + c.args.other) (told + c.args.one) c.load-first.result 0 (λ e. c.requires.apart (omega arith)) in
     let second = c.exchange_layout-second.ensures.stood ∙ ap (λ (l : List ℕ). slice_index l (told + c.args.other)) load.words in
     stands_other _ (told + c.args.one) load.words load.word still (λ e. c.requires.apart (c.requires.bodies.apart c.args.one c.args.other c.requires.one
-    c.requires.other (ap (λ (x : ℕ). x / 128) (sym load.word ∙ (e ∙ second)))))
+    c.requires.other (ap (λ (x : ℕ). x / 128 % 2048) (sym load.word ∙ (e ∙ second)))))
 
 -- each body still is of one block
 pub returns-clause-bodies : goal.returns-clause-bodies

@@ -35,6 +35,7 @@ returns g c =
       spliced = same_splice [] (rows_taken c.requires.laid done) refl refl (ap (count_to _ _) at);
       count = omega arith;
       before = done.told;
+      behind = λ k le lt. let count = done.count in done.later k le (omega arith);
       may = c.store_layout.ensures.may;
       rows = λ w r. c.store_layout.ensures.rows w (c.rotate.ensures.rows w (c.copy.ensures.rows w (c.load-count.ensures.rows w r)));
       kept = g.W.Loads.steps_on _ _ _ _ moved c.store_layout.ensures.kept;

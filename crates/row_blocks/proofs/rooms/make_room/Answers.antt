@@ -1,6 +1,8 @@
-use Rattle.std.proofs.Common.{◌∙◌, arith}
+use Rattle.std.proofs.Common.{ℕ, List, ◌≡◌, ◌+◌, ◌-◌, ◌∙◌, ap, arith}
 use Rattle.std.proofs.lemmas.List.Elements.{All-weaker}
+use Rattle.row_blocks.specs.Blocks.{blocks_of, told}
 use Rattle.row_blocks.proofs.Steps.{three_steps}
+use Rattle.row_blocks.proofs.KeptGaps.{beside_none}
 use Rattle.row_blocks.proofs.rooms.make_room.Goals as goal
 
 pub split_near-requires : goal.split_near-requires
@@ -31,3 +33,13 @@ returns-clause-rank g c = let same = c.body_of-body.ensures.words ∙ c.load-cou
 -- all steps are one
 pub returns-clause-kept : goal.returns-clause-kept
 returns-clause-kept g c = three_steps g.W.Loads _ _ _ _ _ c.load-count.ensures.kept c.body_of-body.ensures.kept c.split_near.ensures.kept
+
+-- the blocks beside it tell what they told
+pub returns-clause-beside : goal.returns-clause-beside
+returns-clause-beside g c = let same = c.body_of-body.ensures.words ∙ c.load-count.ensures.words in rw same at c.split_near.ensures.beside
+
+pub returns-then-body-more-clause-beside : goal.returns-then-body-more-clause-beside
+returns-then-body-more-clause-beside g c =
+    let same = c.body_of-body.ensures.words ∙ c.load-count.ensures.words in
+    let nb = c.args.blocks in
+    beside_none c.args.at.block _ 0 (ap (blocks_of nb) same) (λ k. ap (λ (l : List ℕ). told nb l k) same) (omega arith)

@@ -1,6 +1,7 @@
 use Rattle.std.proofs.Common.{◌≡◌, ◌+◌, ◌<◌, arith}
 use Rattle.row_blocks.specs.Blocks.{rows_of, count_to}
 use Rattle.row_blocks.proofs.Halves.{low_rank, high_rank, first_short}
+use Rattle.row_blocks.proofs.KeptGaps.{split_beside}
 use Rattle.row_blocks.proofs.rooms.split_near.Given.{Over}
 use Rattle.row_blocks.proofs.rooms.split_near.Goals.{After-split}
 use Rattle.row_blocks.proofs.rooms.split_near.Goals as goal
@@ -39,3 +40,10 @@ returns-clause-there g c = omega arith
 -- as many rows stand before the position
 pub returns-clause-rank : goal.returns-clause-rank
 returns-clause-rank g c = let high = (ranks g (goal.at.returns-clause-rank g c).After-split).1 in omega arith
+
+-- the blocks beside it tell what they told
+pub returns-then-at-low-clause-beside : goal.returns-then-at-low-clause-beside
+returns-then-at-low-clause-beside g c = split_beside c.args.at.block c.split.ensures.count c.split.ensures.before c.split.ensures.behind
+
+pub returns-clause-beside : goal.returns-clause-beside
+returns-clause-beside g c = split_beside c.args.at.block c.split.ensures.count c.split.ensures.before c.split.ensures.behind

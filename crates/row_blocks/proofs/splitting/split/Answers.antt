@@ -1,4 +1,4 @@
-use Rattle.std.proofs.Common.{ℕ, ◌≡◌, ◌+◌, ◌-◌, ◌*◌, ◌/◌, ◌∙◌, ap, sym, subst, arith, rules, List}
+use Rattle.std.proofs.Common.{ℕ, ◌≡◌, ◌+◌, ◌-◌, ◌*◌, ◌/◌, ◌%◌, ◌∙◌, ap, sym, subst, arith, rules, List}
 use Rattle.std.specs.Prelude.{slice_index}
 use Rattle.std.proofs.lemmas.Grind.{common_steps}
 use Rattle.row_blocks.specs.Blocks.{body_at}
@@ -34,7 +34,7 @@ copy-requires-clause-rows g c =
     let ws = c.args.words.now in let nb = c.args.blocks in let found = loaded g (goal.at.copy-requires-clause-rows g c).After-load-free in
     λ m lt. others_loaded nb _ c.args.i c.requires.laid c.requires.there (g.W.Loads.is_row ws c.args.hand.now) (g.W.Loads.is_row ws c.load-free.new.hand)
     (λ w r. c.load-free.ensures.rows w (c.load-packed.ensures.rows w (c.load-count.ensures.rows w r))) found.same found.read c.requires.rows
-    (nb + 127 * (c.load-packed.result / 128) + c.args.place + m) (omega arith) (omega arith)
+    (nb + 127 * (c.load-packed.result / 128 % 2048) + c.args.place + m) (omega arith) (omega arith)
 
 -- so is the head of the upper half
 pub raise-requires-clause-row : goal.raise-requires-clause-row
@@ -48,7 +48,7 @@ raise-requires-clause-row g c =
     let copied = split_copied found c.args.place c.copy.ensures.copied in
     let at : ℕ = body_at nb one i + (c.args.place - 1) in
     let here : c.load-head.result ≡ slice_index one at = c.load-head.ensures.word
-    ∙ (ap (λ (x : ℕ). slice_index (g.W.Loads.words ws c.copy.new.hand) (nb + 127 * (x / 128) + (c.args.place - 1))) found.read
+    ∙ (ap (λ (x : ℕ). slice_index (g.W.Loads.words ws c.copy.new.hand) (nb + 127 * (x / 128 % 2048) + (c.args.place - 1))) found.read
     ∙ lower_stays i c.args.place (c.args.place - 1) laid c.requires.there c.requires.free (omega arith) copied) in
     subst (g.W.Loads.is_row ws c.load-head.new.hand) (sym here) (row_still g h.After-load-head _
     (body_is_row nb one i laid c.requires.there (g.W.Loads.is_row ws c.args.hand.now) c.requires.rows at (omega arith) (omega arith)))
@@ -104,6 +104,7 @@ returns g c =
       same = rows_split c.requires.laid c.requires.there c.requires.free c.requires.some c.requires.place d;
       count = d.count;
       before = d.told;
+      behind = d.later;
       lower = split_lower c.requires.some c.requires.place d;
       upper = split_upper c.requires.place d;
       may = c.store_layout-2.ensures.may;

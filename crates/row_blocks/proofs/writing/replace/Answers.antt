@@ -1,9 +1,12 @@
-use Rattle.std.proofs.Common.{ℕ, [], ◌≡◌, ◌-◌, List, ◌++◌, length, take, drop, ap, ◌∙◌, arith}
+use Rattle.std.proofs.Common.{ℕ, [], ◌≡◌, ◌+◌, ◌-◌, ◌*◌, List, ◌++◌, min, length, take, drop, ap, ◌∙◌, arith}
 use Rattle.std.proofs.lemmas.List.{append-nil, take-append-drop, length-take-le, length-drop, take_all}
 use Rattle.std.proofs.lemmas.List.Elements.{All-weaker, All-take, All-drop}
+use Rattle.row_blocks.specs.Blocks.{blocks_of}
 use Rattle.row_blocks.proofs.Lays.{same_layout, rows_long}
 use Rattle.row_blocks.proofs.Settlings.{place_in, grows_or_keeps, shrinks_or_keeps}
 use Rattle.row_blocks.proofs.Writes.{all_written, laid_then}
+use Rattle.row_blocks.proofs.Counts.{count_up}
+use Rattle.row_blocks.proofs.KeptGaps.{beside_wide, laid_beside}
 use Rattle.row_blocks.proofs.writing.replace.Goals as goal
 
 -- rows that are laid are rows
@@ -107,3 +110,51 @@ returns-clause-spliced g c =
     let rank_two = lay.rank in
     laid_then _ more [] _ (c.args.gone - length more) (omega arith) lay.spliced c.cut.ensures.spliced (omega arith) (omega arith) (omega arith)
     (append-nil more)
+
+-- the blocks beside those in which rows came tell what they told
+pub returns-then-gone-more-clause-beside : goal.returns-then-gone-more-clause-beside
+returns-then-gone-more-clause-beside g c =
+    let more = c.args.more.now in
+    let gone = c.args.gone in
+    let nb = c.args.blocks in
+    let lay = c.lay-to.ensures in
+    let same = same_layout lay.layout in
+    let count = same.count in
+    let before = same.before c.lay-to.result.block in
+    let rank_two = lay.rank in
+    let b = c.come.ensures.beside in
+    let until = b.until in
+    let less = c.if-gone-more.true in
+    let long = length-take-le gone more (omega arith) in
+    let rest : length (take (length more - gone) (drop gone more)) ≡ length more - gone =
+    length-take-le (length more - gone) (drop gone more) (let l = length-drop gone more in omega arith) in
+    let one = g.W.Loads.words c.args.words.now c.args.hand.now in
+    let mid = g.W.Loads.words c.args.words.now c.lay-to.new.hand in
+    let two = g.W.Loads.words c.args.words.now c.come.new.hand in
+    let near = c.lay-to.result.block in
+    let up = count_up nb two (near + 1 + (blocks_of nb two - blocks_of nb mid)) (near + 1 + (blocks_of nb two - blocks_of nb one) + min 1 (gone - length more))
+    (omega arith) in
+    laid_beside same (λ k. lay.layout (128 * nb + 1 + k) (omega arith)) (omega arith)
+    (beside_wide (near + 1 + (blocks_of nb two - blocks_of nb one) + min 1 (gone - length more)) _ (omega arith) (omega arith) b)
+
+-- and so do those beside the blocks of which rows went
+pub returns-clause-beside : goal.returns-clause-beside
+returns-clause-beside g c =
+    let more = c.args.more.now in
+    let gone = c.args.gone in
+    let nb = c.args.blocks in
+    let lay = c.lay-to-2.ensures in
+    let same = same_layout lay.layout in
+    let count = same.count in
+    let before = same.before c.lay-to-2.result.block in
+    let rank_two = lay.rank in
+    let b = c.cut.ensures.beside in
+    let until = b.until in
+    let fewer = c.cut.ensures.count in
+    let one = g.W.Loads.words c.args.words.now c.args.hand.now in
+    let two = g.W.Loads.words c.args.words.now c.cut.new.hand in
+    let near = c.lay-to-2.result.block in
+    let up = count_up nb two (near + 1 + min 1 (gone - length more)) (near + 1 + (blocks_of nb two - blocks_of nb one) + min 1 (gone - length more))
+    (omega arith) in
+    laid_beside same (λ k. lay.layout (128 * nb + 1 + k) (omega arith)) (omega arith)
+    (beside_wide (near + 1 + (blocks_of nb two - blocks_of nb one) + min 1 (gone - length more)) _ (omega arith) (omega arith) b)

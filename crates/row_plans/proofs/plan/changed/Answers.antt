@@ -7,7 +7,6 @@ use Rattle.space_model.specs.Answers.{full_reply}
 use Rattle.row_plans.specs.RowLists.{ShowFrom, areas_from}
 use Rattle.row_plans.specs.Plans.{spliced}
 use Rattle.row_plans.proofs.Splices.{splice_length}
-use Rattle.row_plans.proofs.GapWords.{gap_areas}
 use Rattle.row_plans.proofs.PlanLeft.{made_done, made_full}
 use Rattle.row_plans.proofs.plan.changed.Given.{Over}
 use Rattle.row_plans.proofs.plan.changed.Goals.{After-plan_change-cut}
@@ -49,8 +48,3 @@ returns-clause-made g c =
     let few : length (rows_of g h) ≤ ROWS = search rules in
     made_done (rows_of g h) c.args.change (g.R.Rows.are_rows c.args.old.now c.args.hand.now c.requires.may) c.requires.rising rows.0 few
     c.plan_change-cut.ensures.gaps refl (search rules)
-
--- the gap word is right for the rows after it, which show the changed kinds
-pub returns-clause-gap : goal.returns-clause-gap
-returns-clause-gap g c =
-    let h = (goal.at.returns-clause-gap g c).After-plan_change-cut in gap_areas (rows_of g h) _ c.args.gap (made_rows g h).0 c.requires.gap

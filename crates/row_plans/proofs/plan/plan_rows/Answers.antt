@@ -1,22 +1,19 @@
 use Rattle.std.proofs.Common.{rules, ◌≡◌, ◌≤◌, ◌+◌, ◌∙◌, length, refl, sym, ap, arith}
-use Rattle.std.specs.Prelude.{None, Some, MatchOption, List, ℕ}
+use Rattle.std.specs.Prelude.{None, Some, List, ℕ}
 use Rattle.page_types.specs.PlainReply.{plain_reply}
 use Rattle.space_model.specs.declared.judged.Judged.TheVariants.{Refused, Keeps, Changes}
-use Rattle.space_model.specs.Areas.{kind_at}
 use Rattle.space_model.specs.Cutting.{last_end}
-use Rattle.space_model.specs.Effect.{patched}
 use Rattle.space_model.specs.Judges.{patches_of}
 use Rattle.space_model.proofs.Stepping.{patches_few, judged-named}
 use Rattle.row_plans.specs.RowLists.{areas_from}
-use Rattle.row_plans.specs.Plans.{spliced, LeavesRows}
-use Rattle.row_plans.specs.Gaps.{IsGapWord}
+use Rattle.row_plans.specs.Plans.{spliced}
 use Rattle.row_plans.specs.Planning.{IsMade}
 use Rattle.row_plans.specs.Loads.{change_loads}
 use Rattle.row_plans.specs.Loads.TakesLoads.{by_arguments, by_pages}
 use Rattle.row_plans.proofs.PlanLeft.{areas_named, change_made, change_refused, plan_plain, plan_refused, plan_kept, plan_made}
-use Rattle.row_plans.proofs.Loading.{HasLoaded, loads_first, loads_on, as_before, as_behind}
+use Rattle.row_plans.proofs.Loading.{HasLoaded, loads_first, loads_on, as_before}
 use Rattle.row_plans.proofs.plan.plan_rows.Given.{Over}
-use Rattle.row_plans.proofs.plan.plan_rows.Goals.{After-gap-word}
+use Rattle.row_plans.proofs.plan.plan_rows.Goals.{After-judge}
 use Rattle.row_plans.proofs.plan.plan_rows.Goals as goal
 
 -- what the arguments decide is the plan
@@ -40,27 +37,18 @@ returns-in-Keeps-clause-plan g c =
     plan_kept c.args.call.now (g.R.Rows.are_rows c.args.old.now c.args.hand.now c.requires.may) same.same same.counted c.in-Keeps.reply
     (search rules) c.in-Keeps.ensures.judged c.unchanged-in-Keeps.ensures.reply
 
--- the looks and the load of the gap word, as one load
-word_loaded : (g : Over) (c : After-gap-word g) → HasLoaded g.R.Rows c.args.old.now c.args.hand.now c.gap-word.new.hand
-word_loaded g c = loads_on _ (loads_first g.R.Rows _ _ _ c.requires.may c.in-Changes.ensures.looked) c.gap-word.ensures.loaded
+-- the looks, as one load
+looked : (g : Over) (c : After-judge g) → HasLoaded g.R.Rows c.args.old.now c.args.hand.now c.judge.new.hand
+looked g c = loads_first g.R.Rows _ _ _ c.requires.may c.judge.ensures.looked
 
 -- the hand may load again
 pub changed-requires-clause-may : goal.changed-requires-clause-may
-changed-requires-clause-may g c = (word_loaded g (goal.at.changed-requires-clause-may g c).After-gap-word).may
-
--- the gap word is right after the change
-pub changed-requires-clause-gap : goal.changed-requires-clause-gap
-changed-requires-clause-gap g c =
-    let looks = loads_first g.R.Rows _ _ _ c.requires.may c.in-Changes.ensures.looked in
-    let kinds = kind_at (areas_from (g.R.Rows.words c.args.old.now c.args.hand.now)) in
-    let right = as_before (λ l n. IsGapWord (kind_at (areas_from l)) c.gap-word.result) looks c.gap-word.ensures.gap in
-    as_behind (λ l n. IsGapWord (patched (patches_of c.in-Changes.change) (kind_at (areas_from l))) c.gap_after-gap.result)
-    (word_loaded g (goal.at.changed-requires-clause-gap g c).After-gap-word) (c.gap_after-gap.ensures kinds right c.in-Changes.ensures.judged)
+changed-requires-clause-may g c = (looked g (goal.at.changed-requires-clause-may g c).After-judge).may
 
 -- the loads leave the rows as they were, so there is room for what comes
 pub changed-requires-clause-room : goal.changed-requires-clause-room
 changed-requires-clause-room g c =
-    let wide = ap (λ (l : List ℕ). length l) (word_loaded g (goal.at.changed-requires-clause-room g c).After-gap-word).same in
+    let wide = ap (λ (l : List ℕ). length l) (looked g (goal.at.changed-requires-clause-room g c).After-judge).same in
     let two = patches_few c.in-Changes.change in
     let room = c.requires.room in
     omega arith
@@ -78,19 +66,12 @@ returns-in-Changes-clause-plan g c =
     plan_made (g.R.Rows.words c.args.old.now c.args.hand.now) c.args.call.now undecided c.in-Changes.ensures.judged
     (as_before (λ l n. IsMade c.in-Changes.change c.changed.result.reply c.changed.result.rows
     (spliced n l c.changed.result.cut c.changed.new.new.items) (areas_from l))
-    (word_loaded g (goal.at.returns-in-Changes-clause-plan g c).After-gap-word) c.changed.ensures.made)
-
--- the gap word is right for the rows after it
-pub returns-in-Changes-clause-gap : goal.returns-in-Changes-clause-gap
-returns-in-Changes-clause-gap g c =
-    let cut = c.changed.result.cut in let more = c.changed.new.new.items in
-    as_before (λ l n. MatchOption c.changed.result.gap (LeavesRows cut more) (IsGapWord (kind_at (areas_from (spliced n l cut more)))))
-    (word_loaded g (goal.at.returns-in-Changes-clause-gap g c).After-gap-word) c.changed.ensures.gap
+    (looked g (goal.at.returns-in-Changes-clause-plan g c).After-judge) c.changed.ensures.made)
 
 -- the loads are one
 pub returns-in-Changes-clause-loaded : goal.returns-in-Changes-clause-loaded
 returns-in-Changes-clause-loaded g c =
-    (loads_on _ (word_loaded g (goal.at.returns-in-Changes-clause-loaded g c).After-gap-word) c.changed.ensures.loaded).loaded
+    (loads_on _ (looked g (goal.at.returns-in-Changes-clause-loaded g c).After-judge) c.changed.ensures.loaded).loaded
 
 -- a change has two patches at most, so at most SPARE rows more come than go
 pub returns-in-Changes-clause-few : goal.returns-in-Changes-clause-few
@@ -130,13 +111,12 @@ returns-in-Keeps-clause-loads g c =
     by_pages (Keeps c.in-Keeps.reply) undecided c.in-Keeps.ensures.judged
     (λ at stop. let looks = c.in-Keeps.ensures.looks at stop in omega arith)
 
--- and a change takes its own beside them, and the load of the gap word
+-- and a change takes its own beside them
 pub returns-in-Changes-clause-loads : goal.returns-in-Changes-clause-loads
 returns-in-Changes-clause-loads g c =
     let old = c.args.old.now in let hand = c.args.hand.now in let change = c.in-Changes.change in let steps = g.R.Rows.steps old in
     let undecided : plain_reply c.args.call.now ≡ None = search rules in
-    let own = as_before (λ l n. steps c.changed.new.hand ≤ steps c.gap-word.new.hand + change_loads l change.first.lo (last_end 0 (patches_of change)))
-    (word_loaded g (goal.at.returns-in-Changes-clause-loads g c).After-gap-word) c.changed.ensures.steps in
-    let word = c.gap-word.ensures.steps in
+    let own = as_before (λ l n. steps c.changed.new.hand ≤ steps c.judge.new.hand + change_loads l change.first.lo (last_end 0 (patches_of change)))
+    (looked g (goal.at.returns-in-Changes-clause-loads g c).After-judge) c.changed.ensures.steps in
     by_pages (Changes change) undecided c.in-Changes.ensures.judged
     (λ at stop. let looks = c.in-Changes.ensures.looks at stop in omega arith)

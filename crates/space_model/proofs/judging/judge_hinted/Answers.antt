@@ -36,19 +36,19 @@ returns-in-None-clause-judged g c =
 pub returns-in-None-clause-looked : goal.returns-in-None-clause-looked
 returns-in-None-clause-looked g c = g.P.Pages.looks_on _ _ _ _ c.fits_at.ensures.looked c.highest_fit.ensures.looked
 
--- the looks are those at the hint, and those from the window's end down
+-- the looks are those at the hint, and those for a place
 down : (g : Over) (c : After-highest_fit g) → TakesLooks (g.P.Pages.kinds c.args.pages.now c.args.hand.now)
-    (g.P.Pages.reach c.args.pages.now c.args.hand.now) (Map c.args.addr c.args.len c.args.prot c.args.flags)
+    (g.P.Pages.reach c.args.pages.now c.args.hand.now) (g.P.Pages.fit_looks c.args.pages.now c.args.hand.now)
+    (Map c.args.addr c.args.len c.args.prot c.args.flags)
     (g.P.Pages.looks c.args.pages.now c.args.hand.now) (g.P.Pages.looks c.args.pages.now c.highest_fit.new.hand)
 down g c at stop =
-    looks_hinted c.highest_fit.new.hand c.args.addr c.args.len c.args.prot c.args.flags c.window_of-window.result c.page_count-count.result at
-    c.highest_fit.result c.requires.hint c.window_of-window.ensures.window c.page_count-count.ensures
-    (looks_first g.P.Pages _ _ _ _ c.requires.may c.fits_at.ensures.looked c.fits_at.ensures.looks)
-    c.highest_fit.ensures.fit c.highest_fit.ensures.looks stop
+    looks_hinted c.highest_fit.new.hand c.args.addr c.args.len c.args.prot c.args.flags c.page_count-count.result at
+    c.requires.hint c.page_count-count.ensures
+    (looks_first g.P.Pages _ _ _ _ c.requires.may c.fits_at.ensures.looked c.fits_at.ensures.looks) c.highest_fit.ensures.looks
 
 pub returns-in-Some-clause-looks : goal.returns-in-Some-clause-looks
 returns-in-Some-clause-looks g c = down g (goal.at.returns-in-Some-clause-looks g c).After-highest_fit
 
--- down to page 0 where there is no place
+-- as many where there is no place
 pub returns-in-None-clause-looks : goal.returns-in-None-clause-looks
 returns-in-None-clause-looks g c = down g (goal.at.returns-in-None-clause-looks g c).After-highest_fit

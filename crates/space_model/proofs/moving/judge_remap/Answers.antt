@@ -1,13 +1,12 @@
 -- Its looks find the same kinds, so what they find bars the Remap, or bars nothing.
 use Rattle.std.proofs.Common.{◌≤◌, ◌<◌, ◌+◌, ◌∙◌, inl, refl, sym, ap, subst, arith, ℕ, Bool, if◌then◌else◌, Option}
 use Rattle.std.proofs.lemmas.Bool.{lt-ltb}
-use Rattle.page_types.specs.declared.TheConstants.{LOW}
 use Rattle.page_types.specs.declared.calls.Kind.{Kind}
 use Rattle.page_types.specs.declared.calls.Call.TheVariants.{Remap}
 use Rattle.page_types.specs.Pages.{page_of, page_count, end_page}
 use Rattle.space_model.specs.Answers.{bars}
 use Rattle.space_model.specs.Sorts.{IsClear}
-use Rattle.space_model.specs.Looking.{MayStop, longer_looks}
+use Rattle.space_model.specs.Looking.{longer_looks}
 use Rattle.space_model.proofs.Looks.{sees, sees_on, looks_first, looks_then, looks_on}
 use Rattle.space_model.proofs.Remapping.{fewer_judged, remap_clear, sealed_refuses}
 use Rattle.space_model.proofs.moving.judge_remap.Goals as goal
@@ -90,11 +89,14 @@ returns-clause-looks g c = λ at stop.
     let three = looks_on c.lowest-2.new.hand a end two c.lowest-2.ensures.looked c.lowest-2.ensures.looks in
     let more : page_count c.args.old_len < page_count c.args.new_len =
     omega (arith, c.if-count-page_count.false, c.page_count.ensures, c.page_count-count.ensures) in
-    let longer = λ (r : ℕ → ℕ → ℕ).
-    longer_looks r a (end_page c.args.addr c.args.old_len) (page_count c.args.new_len) c.args.may_move (page_of c.args.hint) at in
+    let longer = λ (r : ℕ → ℕ → ℕ) (fit : ℕ).
+    longer_looks r fit a (end_page c.args.addr c.args.old_len) (page_count c.args.new_len) c.args.may_move (page_of c.args.hint) in
     subst (λ (z : ℕ × Bool).
     g.P.Pages.looks p c.judge_longer.new.hand ≤
-    g.P.Pages.looks p hand + (reach a a + reach a z.0 + reach a z.0 + (if z.1 then longer reach else 0)))
+    g.P.Pages.looks p hand + (reach a a + reach a z.0 + reach a z.0 + (if z.1 then longer reach (g.P.Pages.fit_looks p hand) else 0)))
     (λ i. (c.end_page-end.ensures i, sym (lt-ltb (page_count c.args.old_len) (page_count c.args.new_len) more) i))
-    (looks_then c.judge_longer.new.hand longer three
-    (c.judge_longer.ensures.looks at (subst (λ (k : ℕ → Option Kind). MayStop k LOW (page_count c.args.new_len) at) (sym three.seen.same) stop)))
+    (looks_then c.judge_longer.new.hand longer three c.judge_longer.ensures.looks)
+
+-- after one look too
+pub lowest-requires-clause-may : goal.lowest-requires-clause-may
+lowest-requires-clause-may g c = (sees g.P.Pages c.requires.may c.kind_of-kind.ensures.looked).may

@@ -5,7 +5,7 @@ use Rattle.page_types.specs.declared.calls.Kind.{Kind}
 use Rattle.page_types.specs.Pages.{page_of, is_aligned}
 use Rattle.space_model.specs.Places.{FitsAt, IsHighestFit, HasRoom}
 use Rattle.space_model.specs.Looking.{hint_looks}
-use Rattle.space_model.proofs.Looks.{sees, sees_on, looks_first, looks_on, looks_down_then}
+use Rattle.space_model.proofs.Looks.{sees, sees_on, looks_first, looks_on, looks_then}
 use Rattle.space_model.proofs.Remapping.{at_hint, past_hint, found_last}
 use Rattle.space_model.proofs.moving.remap_place.Goals as goal
 
@@ -56,15 +56,18 @@ returns-clause-looked g c = g.P.Pages.looks_on _ _ _ _ c.goes_to_hint.ensures.lo
 pub highest_fit-requires-clause-may : goal.highest_fit-requires-clause-may
 highest_fit-requires-clause-may g c = (sees_on (sees g.P.Pages c.requires.may c.goes_to_hint.ensures.looked) c.has_room.ensures.looked).may
 
--- the looks are those at the hint, those behind the pages, and those from the low window's end down
+-- the looks are those at the hint, those behind the pages, and those for a place
 pub returns-then-may_move-clause-looks : goal.returns-then-may_move-clause-looks
-returns-then-may_move-clause-looks g c = λ at stop.
+returns-then-may_move-clause-looks g c =
     let p = c.args.pages.now in let hand = c.args.hand.now in let reach = g.P.Pages.reach p hand in
     let at_hint = hint_looks reach c.args.count c.args.may_move (page_of c.args.hint) in
     let one = looks_first g.P.Pages p hand c.goes_to_hint.new.hand at_hint c.requires.may c.goes_to_hint.ensures.looked c.goes_to_hint.ensures.looks in
     let two = looks_on c.has_room.new.hand c.args.end (c.args.lo + c.args.count) one c.has_room.ensures.looked c.has_room.ensures.looks in
     subst (λ (b : Bool).
     g.P.Pages.looks p c.highest_fit.new.hand ≤
-    g.P.Pages.looks p hand + (at_hint + reach c.args.end (c.args.lo + c.args.count) + (if b then reach at LOW else 0)))
-    (sym c.if-may_move.true)
-    (looks_down_then c.highest_fit.new.hand LOW c.args.count at c.highest_fit.result two c.highest_fit.ensures.fit c.highest_fit.ensures.looks stop)
+    g.P.Pages.looks p hand + (at_hint + reach c.args.end (c.args.lo + c.args.count) + (if b then g.P.Pages.fit_looks p hand else 0)))
+    (sym c.if-may_move.true) (looks_then c.highest_fit.new.hand (λ r fit. fit) two c.highest_fit.ensures.looks)
+
+-- after one look too
+pub has_room-requires-clause-may : goal.has_room-requires-clause-may
+has_room-requires-clause-may g c = (sees g.P.Pages c.requires.may c.goes_to_hint.ensures.looked).may

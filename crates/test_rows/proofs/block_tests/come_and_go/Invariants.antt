@@ -1,5 +1,9 @@
 use Rattle.std.proofs.Common.{◌≡◌, ◌-◌, ◌<◌, ◌≤◌, length}
+use Rattle.std.specs.Prelude.{All}
+use Rattle.page_types.specs.declared.TheConstants.{LIMIT}
+use Rattle.row_plans.specs.RowWords.{row_start}
 use Rattle.row_blocks.specs.Blocks.{IsLaidOut, blocks_of, rows_of, rows_in}
+use Rattle.row_blocks.specs.Gaps.{GapsTold}
 use Rattle.test_rows.proofs.block_tests.come_and_go.Given as goal
 
 -- as many rows stand there as before
@@ -9,6 +13,8 @@ invariant-places g l = record {
   long : length (rows_in l.blocks l.bench.words.items) ≡ l.count;
   free : blocks_of l.blocks l.bench.words.items < l.blocks;
   short : rows_of l.blocks l.bench.words.items 0 < 64;
+  low : All (λ w. row_start w ≤ LIMIT) (rows_in l.blocks l.bench.words.items);
+  told : GapsTold l.blocks l.bench.words.items;
   high : l.k ≤ l.times;
 }
 

@@ -1,17 +1,15 @@
 use Rattle.std.proofs.Common.{ℕ, ◌∙◌, List, length, ap, sym, subst, arith}
-use Rattle.space_model.specs.Areas.{kind_at}
 use Rattle.row_plans.specs.RowLists.{areas_from}
-use Rattle.row_plans.specs.Gaps.{IsGapWord}
 use Rattle.row_plans.specs.Plans.{spliced, IsPlan}
 use Rattle.row_plans.specs.Loads.{TakesLoads}
 use Rattle.row_blocks.specs.declared.positions.Position.{Position}
 use Rattle.area_guard.specs.Rows.{keeps_by, blocks_by, room_of}
-use Rattle.area_guard.specs.Reads.{known_rows}
+use Rattle.area_guard.specs.Reads.{known_rows, known_words}
 use Rattle.plan_words.specs.Places.{number_at}
 use Rattle.plan_words.specs.Reading.{same_known, same_numbers, same_places, same_rows}
 use Rattle.plan_words.proofs.Plans.{plan_stays}
-use Rattle.area_rows.specs.Callers.{CallerView, IsReading}
-use Rattle.area_rows.proofs.Written.{may_load_in, gap_or}
+use Rattle.area_rows.specs.Callers.{CallerView, IsReading, place_loads}
+use Rattle.area_rows.proofs.Written.{may_load_in}
 use Rattle.area_rows.proofs.space.Caller.plan_call.Goals as goal
 
 -- the caller's seat may load all rows of the space
@@ -69,10 +67,6 @@ returns-clause-known c =
           let s = plan_stays (known_rows old.pass) more c.args.call.now p.reply p.rows (number_at old.pass p.cut.at) p.cut.gone may.list
           c.plan_rows-planned.ensures.plan there (omega arith) in
           omega arith;
-      gap =
-          let rows = same_rows old c.plan_rows-planned.new.hand loaded in let places = same_places old c.plan_rows-planned.new.hand loaded in
-          subst (λ (z : List ℕ × (Position → ℕ) × ℕ). IsGapWord (kind_at (areas_from (spliced z.1 z.0 p.cut more))) z.2)
-          (λ i. (sym rows i, sym places i, sym c.unwrap_or-self-inside.ensures i)) (gap_or _ _ p.gap c.plan_rows-planned.ensures.gap);
     }
 
 -- and the splice is the plan of the call
@@ -92,6 +86,10 @@ returns-clause-leaves c = c.plan_rows-planned.ensures.refused
 pub returns-clause-loads : goal.returns-clause-loads
 returns-clause-loads c =
     let old = c.self.inside.seat in let new = c.plan_rows-planned.new.hand in
-    let rows = same_rows old new c.plan_rows-planned.ensures.loaded in
-    subst (λ (v : CallerView). TakesLoads (known_rows new.pass) c.args.call.now v.seat.trace.taken new.trace.taken) c.self.view_is
-    (subst (λ (l : List ℕ). TakesLoads l c.args.call.now old.trace.taken new.trace.taken) (sym rows) c.plan_rows-planned.ensures.loads)
+    let loaded = c.plan_rows-planned.ensures.loaded in
+    let may = may_load_in c.space.view_is c.self.view_is c.space.invariant.0 c.space.invariant.1 c.space.invariant.2 c.self.invariant.7 c.requires.may in
+    let rows = same_rows old new loaded in let blocks = loaded.blocks ∙ may.blocks_are in
+    subst (λ (v : CallerView). TakesLoads (known_rows new.pass) (place_loads new.pass.blocks (known_words new.pass)) c.args.call.now v.seat.trace.taken
+    new.trace.taken) c.self.view_is
+    (subst (λ (z : List ℕ × ℕ × List ℕ). TakesLoads z.0 (place_loads z.1 z.2) c.args.call.now old.trace.taken new.trace.taken)
+    (λ i. (sym rows i, sym blocks i, sym loaded.same i)) c.plan_rows-planned.ensures.loads)

@@ -98,7 +98,7 @@ slot_in-requires-clause-body c =
     let k = (goal.at.slot_in-requires-clause-body c).After-load_told-told in
     let table = own_blocks c.requires.table c.self.view_is c.self.invariant.1 in
     let layout = is_layout k in let free = layout.free in let block = c.requires.there.0 in
-    let told = ap (λ (x : ℕ). x / 128) (told_is k) in
+    let told = ap (λ (x : ℕ). x / 128 % 2048) (told_is k) in
     let body = layout.bodies (c.args.index / 128) (omega arith) in omega arith
 
 -- the row's slot

@@ -5,8 +5,9 @@ use Rattle.row_blocks.specs.declared.positions.Position.{Position}
 use Rattle.page_types.specs.declared.calls.Call.{Call}
 use Rattle.row_plans.specs.Loads.{TakesLoads}
 use Rattle.row_plans.specs.declared.planning.Cut.{Cut}
-use Rattle.area_guard.specs.Reads.{known_rows}
+use Rattle.area_guard.specs.Reads.{known_rows, known_words}
 use Rattle.area_guard.specs.Rows.{blocks_by}
+use Rattle.area_rows.specs.Callers.{place_loads}
 use Rattle.area_rows.specs.Called.{IsLastStep}
 use Rattle.area_rows.proofs.Wholes.{planned_right, numbered_held, last_held, ends_soon}
 use Rattle.range_rw.specs.Contract.{Record}
@@ -55,10 +56,10 @@ pub returns-clause-soon : goal.returns-clause-soon
 returns-clause-soon c =
     let p = c.plan-reply.ensures in let n = c.draw-entry.ensures in let w = c.write_plan.ensures in let more = ap length n.rows.more in
     let gone = ap (λ (x : Cut Position). x.gone) n.rows.cut in
-    let table = ap blocks_by c.requires.table in let steps = w.steps in
-    ends_soon p.reading (p.reading.held ∙ c.requires.held) (p.reading.read.pending ∙ c.requires.rest) p.planned.known n.drawn w.written
-    (subst (λ (call : Call). TakesLoads (known_rows c.plan-reply.new.caller.seat.pass) call (c.args.caller.now.seat.trace.taken + 1)
-    c.plan-reply.new.caller.seat.trace.taken) (sym n.call) p.loads) (omega arith)
+    let table = ap blocks_by c.requires.table in let steps = w.steps in let seat = c.plan-reply.new.caller.seat in
+    ends_soon p.reading (p.reading.held ∙ c.requires.held) (p.reading.read.pending ∙ c.requires.rest) p.planned.known (p.blocks ∙ sym table) n.drawn w.written
+    (subst (λ (call : Call). TakesLoads (known_rows seat.pass) (place_loads seat.pass.blocks (known_words seat.pass)) call
+    (c.args.caller.now.seat.trace.taken + 1) seat.trace.taken) (sym n.call) p.loads) (omega arith)
     (λ why is. let none = p.leaves why (sym n.reply ∙ is) in let none_comes = ap length none.1 in w.none (omega arith) (omega arith))
 
 -- the last of them raised the sequence word

@@ -64,9 +64,8 @@ returns-clause-write c = λ whole known.
       count = ap (λ (x : CallerView). x.count) c.caller.view_is;
       cut = ap (λ (x : CallerView). x.cut) c.caller.view_is;
       more = ap (λ (x : CallerView). x.more) c.caller.view_is;
-      gap = ap (λ (x : CallerView). x.gap) c.caller.view_is;
       change = ap (λ (x : CallerView). x.change) c.caller.view_is;
-    }) held drawn whole known leaves.some
+    }) held drawn whole known leaves
 
 -- over an area the caller has the row to store that it has chosen
 pub returns-clause-store : goal.returns-clause-store

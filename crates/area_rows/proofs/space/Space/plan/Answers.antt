@@ -1,10 +1,11 @@
 use Rattle.std.proofs.Common.{ℕ, ◌∙◌, length, ap, sym, subst, arith}
 use Rattle.area_guard.specs.Rows.{blocks_by, room_of}
 use Rattle.area_guard.specs.declared.guard.Pass.{Pass}
-use Rattle.area_guard.specs.Reads.{known_rows}
+use Rattle.area_guard.specs.Reads.{known_rows, known_words}
 use Rattle.row_plans.specs.Plans.{IsRowList}
 use Rattle.row_plans.specs.Loads.{TakesLoads}
 use Rattle.plan_words.specs.Reading.{reading_on}
+use Rattle.area_rows.specs.Callers.{place_loads}
 use Rattle.area_rows.proofs.LayoutLoads.{seen_reads}
 use Rattle.area_rows.proofs.Reading.{step_taken}
 use Rattle.area_rows.proofs.Wholes.{plan_shows, rows_left}
@@ -48,9 +49,16 @@ returns-clause-reading c =
 pub returns-clause-leaves : goal.returns-clause-leaves
 returns-clause-leaves c = c.plan_call.ensures.leaves
 
+-- it knows of as many blocks as the space has room for
+pub returns-clause-blocks : goal.returns-clause-blocks
+returns-clause-blocks c =
+    let n = c.load_count-count.ensures.seen in
+    c.plan_call.ensures.reading.read.blocks ∙ (ap (λ (x : Pass). x.blocks) n.step.pass ∙ (n.blocks ∙ ap blocks_by c.requires.table))
+
 -- behind the load of the count it takes those of the plan
 pub returns-clause-loads : goal.returns-clause-loads
 returns-clause-loads c =
     let new = c.plan_call.new.self.seat in
     let count = step_taken _ _ _ _ c.load_count-count.ensures.seen.step in
-    subst (λ (n : ℕ). TakesLoads (known_rows new.pass) c.args.call.now n new.trace.taken) count c.plan_call.ensures.loads
+    subst (λ (n : ℕ). TakesLoads (known_rows new.pass) (place_loads new.pass.blocks (known_words new.pass)) c.args.call.now n new.trace.taken) count
+    c.plan_call.ensures.loads

@@ -11,15 +11,15 @@ use Rattle.area_rows.proofs.BlockSlots.{rows_by, place_slot, place_before, block
 use Rattle.area_rows.proofs.space.Space.slot_before.Goals as goal
 
 -- a body word that was loaded names a body of the table
-told_body : (a b : SeatState Pass) (block told : ℕ) → IsSeen a (2 + block) told b → block < blocks_by a.table → told / 128 < blocks_by a.table
-told_body a b block told n lt = let word = ap (λ (x : ℕ). x / 128) n.word in let body = n.layout.bodies block lt in omega arith
+told_body : (a b : SeatState Pass) (block told : ℕ) → IsSeen a (2 + block) told b → block < blocks_by a.table → told / 128 % 2048 < blocks_by a.table
+told_body a b block told n lt = let word = ap (λ (x : ℕ). x / 128 % 2048) n.word in let body = n.layout.bodies block lt in omega arith
 
 -- the body of the block is one of the table's
 pub slot_in-requires-clause-body : goal.slot_in-requires-clause-body
 slot_in-requires-clause-body c =
     let table = own_blocks c.requires.table c.self.view_is c.self.invariant.1 in
     let free = c.requires.layout.free in let block = c.requires.block in
-    let told = ap (λ (x : ℕ). x / 128) c.requires.told in
+    let told = ap (λ (x : ℕ). x / 128 % 2048) c.requires.told in
     let body = c.requires.layout.bodies c.args.block (omega arith) in omega arith
 
 -- before a place comes the one before it

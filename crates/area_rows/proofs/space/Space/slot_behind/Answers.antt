@@ -11,7 +11,7 @@ pub slot_in-requires-clause-body : goal.slot_in-requires-clause-body
 slot_in-requires-clause-body c =
     let table = own_blocks c.requires.table c.self.view_is c.self.invariant.1 in
     let free = c.requires.layout.free in let block = c.requires.block in
-    let told = ap (λ (x : ℕ). x / 128) c.requires.told in
+    let told = ap (λ (x : ℕ). x / 128 % 2048) c.requires.told in
     let body = c.requires.layout.bodies c.args.block (omega arith) in omega arith
 
 -- behind a place comes the one behind it

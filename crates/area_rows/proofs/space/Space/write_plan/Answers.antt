@@ -9,13 +9,13 @@ use Rattle.area_rows.proofs.space.Space.write_plan.Goals as goal
 
 -- what the caller has to write its seat has to write
 is_ready : (c : After-as_slice) → IsReady c.self.inside.table c.self.inside.blocks c.caller.inside.count c.caller.inside.cut.at c.caller.inside.cut.gone
-    c.as_slice.result.now c.caller.inside.gap c.caller.inside.seat
+    c.as_slice.result.now c.caller.inside.seat
 is_ready c =
     let v = c.caller.inside in
-    let has : HasToWrite (record { seat = v.seat; left = v.left; count = v.count; cut = v.cut; more = v.plan.items; gap = v.gap; change = v.change }) =
+    let has : HasToWrite (record { seat = v.seat; left = v.left; count = v.count; cut = v.cut; more = v.plan.items; change = v.change }) =
     subst HasToWrite (sym c.caller.view_is) c.requires.planned in
     let table = ap (λ (x : CallerView). x.seat.table) c.caller.view_is ∙ (c.requires.table ∙ sym (ap (λ (t : TableShape). t.table) c.self.view_is)) in
-    subst (λ (l : List ℕ). IsReady c.self.inside.table c.self.inside.blocks v.count v.cut.at v.cut.gone l v.gap v.seat) (sym c.as_slice.ensures.value)
+    subst (λ (l : List ℕ). IsReady c.self.inside.table c.self.inside.blocks v.count v.cut.at v.cut.gone l v.seat) (sym c.as_slice.ensures.value)
     (ready c.self.inside.table c.self.invariant.0 c.self.invariant.1 c.self.invariant.2 table c.caller.invariant.7 has)
 
 pub write_splice-requires : goal.write_splice-requires
@@ -34,8 +34,8 @@ write_splice-requires c =
       stays = r.stays;
       fits = r.fits;
       some = r.some;
-      right = r.right;
-      stood = r.stood;
+      low = r.low;
+      low_after = r.low_after;
     }
 
 -- it is a caller still
