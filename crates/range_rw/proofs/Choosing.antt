@@ -29,7 +29,7 @@ use Rattle.range_rw.specs.declared.refusals.NotHeld.TheVariants.{Busy, Again, Lo
 use Rattle.range_rw.specs.Contract.{SeatState, Pools, IsLongRefusal, IsReadyLeft, IsWalkOf, IsSpentIn, IsCause, IsListCause, IsLockCall}
 use Rattle.range_rw.specs.Contract.{AsksOnly, OpenScan, WorksIn, TellsList, KeepsOthers, ClosesOthers, IsRefusedAfter, KeepsClear, MakesFew, StandsIn}
 use Rattle.range_rw.specs.Contract.{closed_pools, closed_at, pools_at, in_list}
-use Rattle.range_rw.specs.Seats.{counted_in, pools_of, scan_of, walk_of, placed_scan, placed_in, seat_state_in, seat_state_of}
+use Rattle.range_rw.specs.Seats.{counted_in, pools_of, scan_of, walk_of, placed_scan, placed_in, seat_state_in, seat_of, seat_state_of}
 use Rattle.range_rw.specs.Looks.{IsRefusedFrom}
 use Rattle.range_rw.specs.Trying.{IsLaterInTry, IsLaterOutside}
 use Rattle.range_rw.specs.Several.{list_state, HasLeft, IsLaterInLists, IsFreeSeat, HoldsAlone, IsCauseIn, IsGranted, IsHoldCall, IsWorkFor, ShowsOthers}
@@ -38,7 +38,7 @@ use Rattle.range_rw.proofs.Taking.{cause_within}
 use Rattle.range_rw.proofs.Asking.{asks_from}
 use Rattle.range_rw.proofs.Moves.{lists_on, narrow_counts, wide_counts}
 use Rattle.range_rw.proofs.Seated.{count_numbers, pools_shown, try_lists, lists_call, granted_list}
-use Rattle.range_rw.proofs.Meeting.{IsApart, IsFew, found_before, met_before, no_fewer}
+use Rattle.range_rw.proofs.Meeting.{IsApart, IsFewBy, found_before, met_before, no_fewer}
 
 -- a call of a try in the list to which the hand is turned, of a seat that held nothing
 pub record Here {P : Type 0} (p q : SeatPart (Beside P)) : Type 0 where
@@ -187,16 +187,16 @@ module _ {P : Type 0} {was at now : TableId} {p m q : SeatPart (Beside P)} (left
   }
 
   -- the cause of a try in one of the lists is one of the seat
-  pub seat_cause_in : (c : Regions) (asked : Held) (why : NotHeld) → IsCauseIn at c m q asked why
-      → IsCause (seat_state_of (record { table = was; part = p })) (seat_state_of (record { table = now; part = q })) asked why
-  seat_cause_in c asked why x =
+  pub seat_cause_in : (fast : Bool) (c : Regions) (asked : Held) (why : NotHeld) → IsCauseIn at c m q asked why
+      → IsCause (seat_state_of (record { table = was; part = p })) (seat_of fast (record { table = now; part = q })) asked why
+  seat_cause_in fast c asked why x =
       let i = x.0 in
       let there : i < p.pass.lists = let a = x.1 in let e = ap (λ (b : Beside P). b.lists) left.later.pass in omega arith in
       let here : i < q.pass.lists = let e = ap (λ (b : Beside P). b.lists) left.later.pass in let f = left.lists in omega arith in
       let before = in_list i (seat_state_of (record { table = was; part = p })) in
-      let after = in_list i (seat_state_of (record { table = now; part = q })) in
-      let pools = pools_shown was p i there in
-      let pools_now = pools_shown now q i here in
+      let after = in_list i (seat_of fast (record { table = now; part = q })) in
+      let pools = pools_shown false was p i there in
+      let pools_now = pools_shown fast now q i here in
       let n = count_numbers (λ j. pools_of (shown_core p j)) 1 (p.pass.lists - 1) in (
         i,
         omega arith,
@@ -212,19 +212,19 @@ module _ {P : Type 0} {was at now : TableId} {p m q : SeatPart (Beside P)} (left
   seat_told_in c asked (NoNode told stuck) x = subst (WorksIn c asked.range) (sym x.3.3) x.2
 
   -- Long comes exactly where a walk of the call is spent, in the words of the seat
-  pub seat_long_in : (c : Regions) (seats : ℕ) → q.seats ≡ seats → (asked : Held) (why : NotHeld) → IsCauseIn at c m q asked why → shown_grant q ≡ None
-      → held_at q.core.own ≡ None → (IsLongRefusal why ↔ IsSpent q)
-      → (IsLongRefusal why ↔ IsSpentIn seats (seat_state_of (record { table = was; part = p })) (seat_state_of (record { table = now; part = q })))
-  seat_long_in c seats many asked why cause free none long = (
+  pub seat_long_in : (fast : Bool) (c : Regions) (seats : ℕ) → q.seats ≡ seats → (asked : Held) (why : NotHeld) → IsCauseIn at c m q asked why
+      → shown_grant q ≡ None → held_at q.core.own ≡ None → (IsLongRefusal why ↔ IsSpent q)
+      → (IsLongRefusal why ↔ IsSpentIn seats (seat_state_of (record { table = was; part = p })) (seat_of fast (record { table = now; part = q })))
+  seat_long_in fast c seats many asked why cause free none long = (
     λ l. spent why cause l (long.0 l),
     λ s. long.1 (ap nodes_in s.0.is ∙ (s.1 ∙ ap (λ n. 16 * n + 1) (sym many)), none),
   )
     where
       spent : (w : NotHeld) → IsCauseIn at c m q asked w → IsLongRefusal w → IsSpent q
-          → IsSpentIn seats (seat_state_of (record { table = was; part = p })) (seat_state_of (record { table = now; part = q }))
+          → IsSpentIn seats (seat_state_of (record { table = was; part = p })) (seat_of fast (record { table = now; part = q }))
       spent (Busy owner range mode) x l s = absurd l
       spent (Again told place expected found) x l s = absurd l
-      spent (TooLong visits) x l s = let w = walk_on (seat_state_of (record { table = was; part = p })) (seat_state_of (record { table = now; part = q })) refl
+      spent (TooLong visits) x l s = let w = walk_on (seat_state_of (record { table = was; part = p })) (seat_of fast (record { table = now; part = q })) refl
           (refl, refl) refl (refl, refl) x.3.0 in (w, sym (ap nodes_in w.is) ∙ (s.0 ∙ ap (λ n. 16 * n + 1) many), free)
       spent (NoNode told stuck) x l s = absurd l
 
@@ -236,21 +236,22 @@ further_ready f g a b each first from zero (suc j) = first
 further_ready f g a b each first from (suc many) zero = each from
 further_ready f g a b each first from (suc many) (suc j) = further_ready f g a b each first (from + 1) many j
 
-pub ready_at : {P : Type 0} (was now : TableId) (p q : SeatPart (Beside P)) → q.pass.lists ≡ p.pass.lists → ((j : ℕ) → IsReadyLeft (shown_core p j).ready
-    (shown_core q j).ready) → (j : ℕ) → IsReadyLeft (pools_at (seat_state_of (record { table = was; part = p })) j).ready (pools_at (seat_state_of
-    (record { table = now; part = q })) j).ready
-ready_at was now p q lists each zero = each 0
-ready_at was now p q lists each (suc j) = subst (λ n. IsReadyLeft (get_or (map (λ i. pools_of (shown_core p i)) (numbers_from 1 (p.pass.lists - 1))) j
+pub ready_at : {P : Type 0} (was now : TableId) (fast : Bool) (p q : SeatPart (Beside P)) → q.pass.lists ≡ p.pass.lists
+    → ((j : ℕ) → IsReadyLeft (shown_core p j).ready (shown_core q j).ready)
+    → (j : ℕ) → IsReadyLeft (pools_at (seat_state_of (record { table = was; part = p })) j).ready
+    (pools_at (seat_of fast (record { table = now; part = q })) j).ready
+ready_at was now fast p q lists each zero = each 0
+ready_at was now fast p q lists each (suc j) = subst (λ n. IsReadyLeft (get_or (map (λ i. pools_of (shown_core p i)) (numbers_from 1 (p.pass.lists - 1))) j
     (pools_of (shown_core p 0))).ready (get_or (map (λ i. pools_of (shown_core q i)) (numbers_from 1 (n - 1))) j (pools_of (shown_core q 0))).ready) (sym lists)
     (further_ready (λ i. pools_of (shown_core p i)) (λ i. pools_of (shown_core q i)) (pools_of (shown_core p 0)) (pools_of (shown_core q 0)) each (each 0) 1
     (p.pass.lists - 1) j)
 
 -- what a call of a try leaves of each list in which it doesn't work, as the seats show them
-pub others_kept : {P : Type 0} (was now : TableId) (p m q : SeatPart (Beside P)) (c : Regions) (range : Interval) → p.pass.lists ≡ list_count c
+pub others_kept : {P : Type 0} (was now : TableId) (fast : Bool) (p m q : SeatPart (Beside P)) (c : Regions) (range : Interval) → p.pass.lists ≡ list_count c
     → q.pass.lists ≡ p.pass.lists → m ≡ p → ShowsOthers c range m q
-    → KeepsOthers c range (seat_state_of (record { table = was; part = p })) (seat_state_of (record { table = now; part = q }))
-others_kept {P} was now p m q c range many lists same others j less none = pools_shown now q j (omega arith) ∙ (ap pools_of (others j none ∙ ap
-    (λ (x : SeatPart (Beside P)). shown_core x j) same) ∙ sym (pools_shown was p j (omega arith)))
+    → KeepsOthers c range (seat_state_of (record { table = was; part = p })) (seat_of fast (record { table = now; part = q }))
+others_kept {P} was now fast p m q c range many lists same others j less none = pools_shown fast now q j (omega arith) ∙ (ap pools_of (others j none ∙ ap
+    (λ (x : SeatPart (Beside P)). shown_core x j) same) ∙ sym (pools_shown false was p j (omega arith)))
 
 -- what a seat has in each list once it is outside its epoch, as it shows it: an epoch that a scan left open is left
 pub closed_shown : {P : Type 0} (was : TableId) {p m : SeatPart (Beside P)} {c : Regions} {lists : ℕ} → HasLeft c lists p m → (j : ℕ) → j < p.pass.lists
@@ -261,7 +262,7 @@ closed_shown {P} was {p} {m} left j less = by (p.core.epoch % 2 == 0) refl
     pools = pools_at (seat_state_of (record { table = was; part = p })) j
 
     is : pools ≡ pools_of (shown_core p j)
-    is = pools_shown was p j less
+    is = pools_shown false was p j less
 
     same : m.pass ≡ p.pass
     same = left.left.later.pass
@@ -281,17 +282,17 @@ closed_shown {P} was {p} {m} left j less = by (p.core.epoch % 2 == 0) refl
         (λ away. ap pools_of (only_stays p m turned (ap (λ (b : Beside P). b.others) same) j (λ z. away (sym z))) ∙ (sym is
         ∙ sym (ap (λ (b : Bool). if b then record pools { epoch = next_epoch pools.epoch } else pools) (ne_eqb p.pass.list j away))))
 
-module _ {P : Type 0} (was now : TableId) (p m q : SeatPart (Beside P)) {c : Regions} {lists : ℕ} (left : HasLeft c lists p m)
+module _ {P : Type 0} (was now : TableId) (fast : Bool) (p m q : SeatPart (Beside P)) {c : Regions} {lists : ℕ} (left : HasLeft c lists p m)
     (many : p.pass.lists ≡ list_count c) (same : q.pass.lists ≡ p.pass.lists) where
   abbrev first : SeatState P
   first = seat_state_of (record { table = was; part = p })
 
   abbrev last : SeatState P
-  last = seat_state_of (record { table = now; part = q })
+  last = seat_of fast (record { table = now; part = q })
 
   -- a list that stays as it was once the seat is outside
   pub list_closed : (j : ℕ) → j < list_count c → shown_core q j ≡ shown_core m j → pools_at last j ≡ closed_at first j
-  list_closed j less stays = pools_shown now q j (omega arith) ∙ (ap pools_of stays ∙ closed_shown was left j (omega arith))
+  list_closed j less stays = pools_shown fast now q j (omega arith) ∙ (ap pools_of stays ∙ closed_shown was left j (omega arith))
 
   -- so do those in which a try doesn't work, and those that it doesn't find occupied
   pub others_closed : (range : Interval) → ShowsOthers c range m q → ClosesOthers c range first last
@@ -301,12 +302,13 @@ module _ {P : Type 0} (was now : TableId) (p m q : SeatPart (Beside P)) {c : Reg
   others_clear own apart j less away = ⊎_elim (λ e. inl (list_closed j less e)) (λ f. inr (found_before j q.trace left.left.later.taken f)) (apart j away)
 
   -- a try with a ready node in the list that holds its range then makes few steps, with the one that left an epoch
-  pub seat_few : (few : ℕ) {total : ℕ} {asked : Held} → 1 + few ≤ total → q.pass.list < q.pass.lists → IsGranted c asked q
-      → ((shown_core m q.pass.list).ready ≢ [] → IsFew few m q)
+  pub seat_few : (few : ℕ) {total : ℕ} {asked : Held} {quick : Bool} → 1 + few ≤ total → q.pass.list < q.pass.lists → IsGranted c asked q
+      → (quick ≡ true → fast ≡ true) → ((shown_core m q.pass.list).ready ≢ [] → IsFewBy quick few m q)
       → (pools_at first last.list).ready ≢ [] → MakesFew total first last
-  seat_few few sum there grant fast some = ⊎_elim (λ le. inl (let f = left.left.few in omega arith)) (λ x. inr (met_before q.trace left.left.later.taken x))
-      (fast (λ none. some (ap (λ i. (pools_at first i).ready) (granted_list there grant)
-      ∙ (ap (λ (x : Pools). x.ready) (pools_shown was p q.pass.list (omega arith))
+  seat_few few sum there grant holds makes some = ⊎_elim
+      (λ x. inl ((let n = x.0 in let f = left.left.few in omega arith), holds x.1)) (λ x. inr (met_before q.trace left.left.later.taken x))
+      (makes (λ none. some (ap (λ i. (pools_at first i).ready) (granted_list there grant)
+      ∙ (ap (λ (x : Pools). x.ready) (pools_shown false was p q.pass.list (omega arith))
       ∙ (sym (left_ready p m left.left.later left.left.ready q.pass.list) ∙ none)))))
 
   -- the same of a round that was refused
@@ -339,14 +341,15 @@ pub record Called {P : Type 0} (c : Regions) (range : Held) (before after : Seat
   pub closes : ClosesOthers c range.range before after
 
 -- by what its hand shows before, once it is outside its epoch, and after
-pub called_by : {P : Type 0} {was now : TableId} {p m q : SeatPart (Beside P)} {c : Regions} {lists : ℕ} {range : Held} → now ≡ was → HasLeft c lists p m
-    → IsWorkFor c range m q → Called c range (seat_state_of (record { table = was; part = p })) (seat_state_of (record { table = now; part = q }))
-called_by {P} {was} {now} {p} {m} {q} {c} {lists} {range} same left work =
+pub called_by : {P : Type 0} {was now : TableId} {p m q : SeatPart (Beside P)} {c : Regions} {lists : ℕ} {range : Held} (fast : Bool) → now ≡ was
+    → HasLeft c lists p m → IsWorkFor c range m q
+    → Called c range (seat_state_of (record { table = was; part = p })) (seat_of fast (record { table = now; part = q }))
+called_by {P} {was} {now} {p} {m} {q} {c} {lists} {range} fast same left work =
     let first = try_lists p m left.left.later in let all = lists_on first work.later in
     record {
-      call = lists_call was now p q same all;
+      call = lists_call was now fast p q same all;
       asks = asks_from left.left.asked work.asks;
-      only = λ closed. others_kept was now p m q c range.range (sym first.lists ∙ (sym left.lists.shown ∙ left.lists.many)) all.lists
+      only = λ closed. others_kept was now fast p m q c range.range (sym first.lists ∙ (sym left.lists.shown ∙ left.lists.many)) all.lists
           (left.left.same (closed_even p closed)) work.only;
-      closes = others_closed was now p m q left (sym first.lists ∙ (sym left.lists.shown ∙ left.lists.many)) all.lists range.range work.only;
+      closes = others_closed was now fast p m q left (sym first.lists ∙ (sym left.lists.shown ∙ left.lists.many)) all.lists range.range work.only;
     }

@@ -2,7 +2,7 @@
 -- call met the whole call met.
 use Rattle.std.proofs.Common.{◌≡◌, ◌⊎◌, ℕ, ◌+◌, ◌<◌, ◌≤◌, Bool, true, false, Result, Ok, Err, List, [], ◌∷◌, ◌++◌, length, inl, inr, ⊎_elim}
 use Rattle.std.proofs.Common.{refl, sym, ap, ◌∙◌, subst, arith}
-use Rattle.std.specs.Prelude.{OnOk, OnErr}
+use Rattle.std.specs.Prelude.{IfOk, OnOk, OnErr}
 use Rattle.epoch_pools.specs.declared.record.Occupied.{Occupied}
 use Rattle.epoch_pools.specs.declared.record.Record.{Record}
 use Rattle.epoch_pools.specs.declared.views.SeatPart.{SeatPart}
@@ -61,14 +61,18 @@ pub ok_any : {A E X : Type 0} (r : Result A E) → X → OnOk r X
 ok_any (Ok x) h = h
 ok_any (Err e) h = tt
 
+pub ok_each : {A E : Type 0} {F : A → Type 0} (r : Result A E) → ((a : A) → F a) → IfOk r F
+ok_each (Ok x) h = h x
+ok_each (Err e) h = tt
+
 pub err_any : {A E X : Type 0} (r : Result A E) → X → OnErr r X
 err_any (Ok x) h = tt
 err_any (Err e) h = h
 
 module _ {P : Type 0} where
   -- the fast path of a part behind a turn
-  pub fast_from : (p t q : SeatPart P) → t.trace.taken ≡ p.trace.taken → IsFast t q → IsFast p q
-  fast_from p t q same fast = subst (λ n. (q.trace.taken ≡ n + 5) ⊎ Meets n q.trace) same fast
+  pub fast_from : {quick : Bool} (p t q : SeatPart P) → t.trace.taken ≡ p.trace.taken → IsFast t q quick → IsFast p q quick
+  fast_from {quick} p t q same fast = subst (λ n. ((q.trace.taken ≡ n + 5) × (quick ≡ true)) ⊎ Meets n q.trace) same fast
 
   -- a look that found its list not empty
   pub look_met : (at : ℕ) {b : Bool} (s : Standing) (p : SeatPart (Beside P)) {q : SeatPart (Beside P)} → q ≡ after_look_at at b s p
@@ -123,5 +127,20 @@ module _ {P : Type 0} where
   pub once_few : (at : ℕ) (p q : SeatPart (Beside P)) → LooksOnce at p q → IsFew 1 p q
   once_few at p q x = ⊎_elim (λ e. inl (let t = e.0 in omega arith)) (λ f. inr (found_met p.trace.taken at q.trace f)) x
 
-  pub fast_few : (p q : SeatPart (Beside P)) → IsFast p q → IsFew 5 p q
-  fast_few p q x = ⊎_elim (λ e. inl (omega arith)) (λ m. inr m) x
+  -- ---- the same of a try, whose node the fast path linked
+
+  abbrev pub IsFewBy : Bool → ℕ → SeatPart (Beside P) → SeatPart (Beside P) → Type 0
+  IsFewBy quick few p q = ((q.trace.taken ≤ p.trace.taken + few) × (quick ≡ true)) ⊎ Meets p.trace.taken q.trace
+
+  pub fast_few : {quick : Bool} (p q : SeatPart (Beside P)) → IsFast p q quick → IsFewBy quick 5 p q
+  fast_few p q x = ⊎_elim (λ e. inl ((let n = e.0 in omega arith), e.1)) (λ m. inr m) x
+
+  pub fast_more : {quick : Bool} {a b : ℕ} (p q : SeatPart (Beside P)) → IsFewBy quick a p q → a ≤ b → IsFewBy quick b p q
+  fast_more p q x le = ⊎_elim (λ e. inl ((let n = e.0 in omega arith), e.1)) (λ m. inr m) x
+
+  -- with the looks behind it
+  pub fast_both : {quick : Bool} (a b : ℕ) {c : ℕ} (p m q : SeatPart (Beside P)) → IsFewBy quick a p m → IsFew b m q → a + b ≤ c
+      → p.trace.taken ≤ m.trace.taken → KeepsOccupied m.trace q.trace → IsFewBy quick c p q
+  fast_both a b p m q x y sum le kept = ⊎_elim
+      (λ few. ⊎_elim (λ more. inl ((let n = few.0 in omega arith), few.1)) (λ r. inr (met_before q.trace le r)) y)
+      (λ r. inr (met_still p.trace.taken m.trace q.trace kept r)) x

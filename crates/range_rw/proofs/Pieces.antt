@@ -1,7 +1,7 @@
 -- A piece of work in one list of several: the hand turns to the list, works there, and shows each other list as
 -- before. So what the calls on one list say of the hand is what a piece says of the seat.
 use Rattle.std.proofs.Common.{◌≡◌, ◌≢◌, ℕ, ◌%◌, ◌<◌, ◌≤◌, Bool, true, false, Result, Ok, Err, inl, refl, sym, ap, ◌∙◌, subst, arith, eq-eqb, ne_eqb}
-use Rattle.std.specs.Prelude.{[], ◌++◌, Option, Some, None, IfErr, IfSome, OnOk, OnErr, if◌then◌else◌}
+use Rattle.std.specs.Prelude.{[], ◌++◌, Option, Some, None, IfOk, IfErr, IfSome, OnOk, OnErr, if◌then◌else◌}
 use mathlib.Core.Logic.{dite}
 use native.Mathlib.Decide.{ℕ_discrete}
 use Rattle.atomic_table.specs.Seated.{TableId}
@@ -39,6 +39,10 @@ err_on F G (Err e) on h = on e h
 pub ok_on : {A E : Type 0} {X Y : Type 0} (r : Result A E) → (X → Y) → OnOk r X → OnOk r Y
 ok_on (Ok x) on h = on h
 ok_on (Err e) on h = h
+
+pub ok_if : {A E : Type 0} {F G : A → Type 0} (r : Result A E) → ((a : A) → F a → G a) → IfOk r F → IfOk r G
+ok_if (Ok x) on h = on x h
+ok_if (Err e) on h = h
 
 pub ok_both : {A E : Type 0} {X Y Z : Type 0} (r : Result A E) → (X → Y → Z) → OnOk r X → OnOk r Y → OnOk r Z
 ok_both (Ok x) on h k = on h k

@@ -2,7 +2,7 @@
 -- that counts. So what a call leaves of that list is what it leaves of the seat.
 use Rattle.std.proofs.Common.{◌≡◌, ◌≢◌, ℕ, zero, suc, ◌+◌, ◌-◌, ◌*◌, ◌%◌, ◌<◌, ◌≤◌, Bool, true, false, Result, Ok, Err, MatchResult, inl, ⊎_elim, refl, sym, ap}
 use Rattle.std.proofs.Common.{◌∙◌, subst, arith, eq-eqb, ne_eqb, eqb-true}
-use Rattle.std.specs.Prelude.{Option, Some, None, IsSome, ◌==◌, ◌&&◌, ◌||◌, if◌then◌else◌, List, [], ◌∷◌, length, map, get_or}
+use Rattle.std.specs.Prelude.{Option, Some, None, is_some, IsSome, ◌==◌, ◌&&◌, ◌||◌, if◌then◌else◌, List, [], ◌∷◌, length, map, get_or}
 use mathlib.Core.Logic.{dite}
 use native.Mathlib.Decide.{ℕ_discrete}
 use Rattle.atomic_table.specs.Seated.{TableId}
@@ -24,8 +24,8 @@ use Rattle.epoch_pools.specs.Hands.{HandState, IsResting}
 use Rattle.epoch_pools.specs.Running.{client_part}
 use Rattle.epoch_pools.proofs.Counting.{counts_one, counts_many}
 use Rattle.marked_list.specs.Scanning.{IsScanning}
-use Rattle.range_rw.specs.Contract.{SeatState, IsLockCall, IsRelease, ready_in, pools_at}
-use Rattle.range_rw.specs.Seats.{IsSettled, IsSeated, counted_in, pools_of, walk_of, scan_of, placed_in, seat_state_of}
+use Rattle.range_rw.specs.Contract.{SeatState, IsLockCall, IsRelease, GivesFast, ready_in, pools_at}
+use Rattle.range_rw.specs.Seats.{IsSettled, IsSeated, counted_in, pools_of, walk_of, scan_of, placed_in, is_fast, seat_of, seat_state_of}
 use Rattle.range_rw.specs.Trying.{IsBare, IsLaterInTry}
 use Rattle.range_rw.specs.Releasing.{GivesBack}
 use Rattle.range_rw.specs.Several.{HasLeft, IsLaterInLists, IsFreeSeat, IsGranted}
@@ -120,11 +120,19 @@ module _ {P : Type 0} where
   pub held_some : (p : SeatPart (Beside P)) → IsSeated p → IsSome (shown_grant p) → held_at p.core.own ≢ None
   held_some p s some none = absurd (let z : ◌≡◌ {A = Bool} false true = subst IsSome (seated_grant p s ∙ none) some in cc)
 
-  pub seat_holds : (h : HandState (Beside P)) {s : SeatState P} → seat_state_of h ≡ s → IsSeated h.part → IsSome s.held → held_at h.part.core.own ≢ None
+  pub seat_holds : (h : HandState (Beside P)) {b : Bool} {s : SeatState P} → seat_of b h ≡ s → IsSeated h.part → IsSome s.held → held_at h.part.core.own ≢ None
   seat_holds h is seated some = held_some h.part seated (subst (λ (x : SeatState P). IsSome x.held) (sym is) some)
 
+  -- one that holds nothing doesn't hold by the fast path
+  pub free_shown : (h : HandState (Beside P)) (quick : Bool) → shown_grant h.part ≡ None → seat_of (is_fast quick h) h ≡ seat_state_of h
+  free_shown h quick free = ap (λ (o : Option Held). seat_of (is_some o && quick) h) free
+
+  pub free_is : (h : HandState (Beside P)) (quick : Bool) {s : SeatState P} → seat_of (is_fast quick h) h ≡ s → s.held ≡ None → seat_state_of h ≡ s
+  free_is h quick is none = sym (free_shown h quick (ap (λ (x : SeatState P). x.held) is ∙ none)) ∙ is
+
   -- what its own node holds it shows
-  pub seat_shows : (h : HandState (Beside P)) {s : SeatState P} {v : View} → seat_state_of h ≡ s → IsSeated h.part → v ≡ h.part.core → s.held ≡ held_at v.own
+  pub seat_shows : (h : HandState (Beside P)) {b : Bool} {s : SeatState P} {v : View} → seat_of b h ≡ s → IsSeated h.part
+      → v ≡ h.part.core → s.held ≡ held_at v.own
   seat_shows h is seated view =
       sym (ap (λ (x : SeatState P). x.held) is) ∙ (seated_grant h.part seated ∙ ap (λ (x : View). held_at x.own) (sym view))
 
@@ -136,7 +144,7 @@ module _ {P : Type 0} where
   seated_own p s none = free_own p.core.own s.current.own (seated_none p s none)
 
   -- so it may leave its epoch
-  pub seat_bare : (h : HandState (Beside P)) {s : SeatState P} → seat_state_of h ≡ s → IsSeated h.part → s.held ≡ None → IsBare h.part
+  pub seat_bare : (h : HandState (Beside P)) {b : Bool} {s : SeatState P} → seat_of b h ≡ s → IsSeated h.part → s.held ≡ None → IsBare h.part
   seat_bare h is seated none =
       record { own = seated_own h.part seated (ap (λ (x : SeatState P). x.held) is ∙ none); given = seated.current.hand }
 
@@ -146,10 +154,10 @@ module _ {P : Type 0} where
       (ap (λ (b : Bool). if b then None else Some (walk_of (16 * q.seats + 1) q.core.cursor q.trace.looked)) (eq-eqb (q.core.epoch % 2) 0 rests.outside))
 
   -- the pools of a list, as the seat shows them
-  pub pools_shown : (table : TableId) (p : SeatPart (Beside P)) (j : ℕ) → j < p.pass.lists
-      → pools_at (seat_state_of (record { table = table; part = p })) j ≡ pools_of (shown_core p j)
-  pools_shown table p zero less = refl
-  pools_shown table p (suc j) less = further_at (λ n. pools_of (shown_core p n)) 1 (p.pass.lists - 1) j (pools_of (shown_core p 0)) (omega arith)
+  pub pools_shown : (fast : Bool) (table : TableId) (p : SeatPart (Beside P)) (j : ℕ) → j < p.pass.lists
+      → pools_at (seat_of fast (record { table = table; part = p })) j ≡ pools_of (shown_core p j)
+  pools_shown fast table p zero less = refl
+  pools_shown fast table p (suc j) less = further_at (λ n. pools_of (shown_core p n)) 1 (p.pass.lists - 1) j (pools_of (shown_core p 0)) (omega arith)
       ∙ ap (λ n. pools_of (shown_core p n)) (let e : 1 + j ≡ suc j = omega arith in e)
 
   -- ---- what a seat is after a call
@@ -207,9 +215,10 @@ module _ {P : Type 0} where
   }
 
   -- as it does once it has left its epoch
-  pub seat_left : (h : HandState (Beside P)) {s : SeatState P} {c : Regions} {lists : ℕ} {m : SeatPart (Beside P)} → seat_state_of h ≡ s → IsSeated h.part
+  pub seat_left : (h : HandState (Beside P)) {b : Bool} {s : SeatState P} {c : Regions} {lists : ℕ} {m : SeatPart (Beside P)} → seat_of b h ≡ s
+      → IsSeated h.part
       → s.held ≡ None → HasLeft c lists h.part m → IsFreeSeat m
-  seat_left h {s} {c} {lists} {m} is seated none left = seated_free h.part m seated
+  seat_left h {b} {s} {c} {lists} {m} is seated none left = seated_free h.part m seated
       (seated_none h.part seated (ap (λ (x : SeatState P). x.held) is ∙ none)) left.left.later.pass left.left.free.own left.rests
 
   -- a step on a client word leaves all of it
@@ -218,9 +227,9 @@ module _ {P : Type 0} where
       (record { there = s.there; current = s.current; others = s.others; counts = s.counts; free = s.free; one = s.one })
 
   -- what a call in several lists leaves is a call on the seat
-  pub lists_call : (was now : TableId) (p q : SeatPart (Beside P)) → now ≡ was → IsLaterInLists p q
-      → IsLockCall (seat_state_of (record { table = was; part = p })) (seat_state_of (record { table = now; part = q }))
-  lists_call was now p q same l = record { table = same; number = l.number; pass = l.pass; client = l.client; taken = l.taken }
+  pub lists_call : (was now : TableId) (fast : Bool) (p q : SeatPart (Beside P)) → now ≡ was → IsLaterInLists p q
+      → IsLockCall (seat_state_of (record { table = was; part = p })) (seat_of fast (record { table = now; part = q }))
+  lists_call was now fast p q same l = record { table = same; number = l.number; pass = l.pass; client = l.client; taken = l.taken }
 
   -- the ready nodes of each of some lists, as the seats show them
   pub ready_shown : (p q : SeatPart (Beside P)) → ((j : ℕ) → (shown_core q j).ready ≡ (shown_core p j).ready) → (l : List ℕ)
@@ -258,11 +267,12 @@ module _ {P : Type 0} where
         (both_true (is_here p.pass.standing p.pass.list) (is_whole p.pass.standing p.pass.lists) (stands_here p many (s.counts some))).0)
 
     -- and every other list of the seat is as it was
-    given_only : (was now : TableId) (j : ℕ) → j ≤ length (seat_state_of (record { table = was; part = p })).further → j ≢ counted_in p.pass.standing
-        → pools_at (seat_state_of (record { table = now; part = q })) j ≡ pools_at (seat_state_of (record { table = was; part = p })) j
-    given_only was now j le away = let n = count_numbers (λ i. pools_of (shown_core p i)) 1 (p.pass.lists - 1) in let there = s.there in
-        let less : j < p.pass.lists = omega arith in pools_shown now q j (let e = same_lists in omega arith) ∙ (ap pools_of (given_others j
-        (λ e. away (e ∙ sym stood_here))) ∙ sym (pools_shown was p j less))
+    given_only : (fast : Bool) (was now : TableId) (j : ℕ) → j ≤ length (seat_of fast (record { table = was; part = p })).further
+        → j ≢ counted_in p.pass.standing
+        → pools_at (seat_state_of (record { table = now; part = q })) j ≡ pools_at (seat_of fast (record { table = was; part = p })) j
+    given_only fast was now j le away = let n = count_numbers (λ i. pools_of (shown_core p i)) 1 (p.pass.lists - 1) in let there = s.there in
+        let less : j < p.pass.lists = omega arith in pools_shown false now q j (let e = same_lists in omega arith) ∙ (ap pools_of (given_others j
+        (λ e. away (e ∙ sym stood_here))) ∙ sym (pools_shown fast was p j less))
 
     -- so the seat is between two calls again
     pub given_seated : IsSeated q
@@ -280,9 +290,9 @@ module _ {P : Type 0} where
     }
 
     -- what the hand gave back its seat released
-    pub seated_release : (was now : TableId) → now ≡ was
-        → IsRelease rested (seat_state_of (record { table = was; part = p })) (seat_state_of (record { table = now; part = q }))
-    seated_release was now same = record {
+    pub seated_release : (fast : Bool) (was now : TableId) → now ≡ was → (fast ≡ true → GivesFast p.trace q.trace)
+        → IsRelease rested (seat_of fast (record { table = was; part = p })) (seat_state_of (record { table = now; part = q }))
+    seated_release fast was now same gives = record {
       table = same;
       number = g.number;
       held = seated_grant q given_seated ∙ ap held_at g.own;
@@ -291,17 +301,18 @@ module _ {P : Type 0} where
       ready = given_ready 0;
       further = (λ i. map ready_in (map (λ j. pools_of (shown_core q j)) (numbers_from 1 (same_lists i - 1))))
           ∙ ready_shown p q given_ready (numbers_from 1 (p.pass.lists - 1));
-      only = given_only was now;
+      only = given_only fast was now;
       scan = λ i. placed_in (same_lists i) (same_list i) (g.scan i);
       client = g.client;
       asked = g.asked;
       met = g.met;
       least = g.least;
       most = g.most;
+      fast = gives;
     }
 
 module _ {P N : Type 0} (holds : Grants → List ℕ → List P → Type 0) (allows : Grants → List ℕ → List P → ℕ → ClientStep → N → P → Type 0) (note : N)
-    (h : HandState (Beside P)) {s : SeatState P} (is : seat_state_of h ≡ s) where
+    (h : HandState (Beside P)) {b : Bool} {s : SeatState P} (is : seat_of b h ≡ s) where
   -- a step on a client word that the seat may take its hand may take
   pub seat_allowed : (step : ClientStep) → IsAllowed holds allows note s.number s.held s.pass step
       → IsAllowed holds allows note h.part.number (shown_grant h.part) (inner_pass h.part) step

@@ -28,7 +28,7 @@ use Rattle.marked_list.specs.Scanning.{IsResting, Passes}
 use Rattle.range_rw.specs.declared.scan.Scanned.{Scanned}
 use Rattle.range_rw.specs.Calls.{IsHandOf, Leaves}
 use Rattle.range_rw.specs.Contract.{SeatState, TableShape, OpenScan, fresh_in, scan_steps, ready_in}
-use Rattle.range_rw.specs.Seats.{IsBetween, IsSeated, walk_of, scan_of, placed_scan, placed_in, pools_of, seat_state_of}
+use Rattle.range_rw.specs.Seats.{IsBetween, IsSeated, walk_of, scan_of, placed_scan, placed_in, pools_of, is_fast, seat_of, seat_state_of}
 use Rattle.range_rw.specs.Trying.{IsLaterInTry}
 use Rattle.range_rw.specs.Scan.{scanned_as, WalkedFrom, IsScanCall, IsNextIn, IsListEnd, IsPassed, IsNext}
 use Rattle.range_rw.specs.Scan.{IsScanSeat, IsInScan, IsScanLater, StaysInScan, OpensEpoch, ClosesEpoch, ListGives, IsNoEnd}
@@ -36,7 +36,7 @@ use Rattle.range_rw.proofs.Calls.{counted_on}
 use Rattle.range_rw.proofs.Pieces.{own_at, own_each, only_stays}
 use Rattle.range_rw.proofs.Moves.{lists_on, turn_on, turn_asks}
 use Rattle.range_rw.proofs.Scans.{bare_settled, scan_none, scan_some, scan_inside, walk_most, walk_nodes, walk_ended, opened_is}
-use Rattle.range_rw.proofs.Seated.{both_true, count_numbers, seated_grant, seated_none, seated_own, try_lists, ready_shown}
+use Rattle.range_rw.proofs.Seated.{both_true, count_numbers, free_is, free_shown, seated_grant, seated_none, seated_own, try_lists, ready_shown}
 use Rattle.range_rw.proofs.Choosing.{left_ready}
 
 bare_between : (v : View) → v.own ≡ Nothing → v.hand ≡ None → IsResting v → IsBetween v
@@ -224,6 +224,12 @@ module _ {P : Type 0} where
     client = l.later.client;
     taken = l.later.taken;
   }
+
+  -- also as the seats of these hands show it, which hold nothing
+  pub scan_shown : (h k : HandState (Beside P)) (quick : Bool) {s : SeatState P} → seat_of (is_fast quick h) h ≡ s → s.held ≡ None → k.table ≡ h.table
+      → IsScanLater h.part k.part → IsScanCall s (seat_of (is_fast quick k) k)
+  scan_shown h k quick is none same l = let call = scan_call h.table k.table h.part k.part same l in
+      subst (λ (z : SeatState P × SeatState P). IsScanCall z.0 z.1) (λ i. (free_is h quick is none i, sym (free_shown k quick call.held) i)) call
 
   -- after entering the open scan is a fresh one in that list
   pub opens_fresh : (at : ℕ) (p q : SeatPart (Beside P)) (seats : ℕ) → q.seats ≡ seats → OpensEpoch at p q

@@ -16,8 +16,8 @@ use Rattle.epoch_pools.proofs.Opening.{first_core}
 use Rattle.epoch_pools.proofs.Turning.{core_shown}
 use Rattle.range_rw.specs.Contract.{SeatState, first_pools, new_seat_in, pass_in}
 use Rattle.epoch_pools.specs.declared.views.Beside.{Beside}
-use Rattle.range_rw.specs.Seats.{IsBetween, IsSeated, pools_of, seat_state_of}
-use Rattle.range_rw.proofs.Seated.{seated_grant, rests_closed}
+use Rattle.range_rw.specs.Seats.{IsBetween, IsSeated, pools_of, is_fast, seat_of, seat_state_of}
+use Rattle.range_rw.proofs.Seated.{seated_grant, free_shown, rests_closed}
 use Rattle.range_rw.proofs.Waiting.{no_waits}
 use Rattle.range_rw.proofs.Lists.{at_removed, first_of_list, append_one}
 
@@ -82,9 +82,10 @@ module _ {P : Type 0} (table : TableId) (first : ℕ → P) (lists seats : ℕ) 
 
   -- the seat of the hand that comes next is a new one
   pub next_new : (n : ℕ) (hands : List (HandState (Beside P))) (h : HandState (Beside P)) → 0 < lists → IsNewFrom n hands → 0 < length hands
-      → h ≡ get_or hands 0 h → seat_state_of h ≡ new_seat_in lists table first n
-  next_new n hands h there rest more is = let z : n + 0 ≡ n = omega arith in seat_is n h there (rest 0 h (at_index hands 0 h more is) ∙ ap (new_hand table
-      first lists seats) z)
+      → h ≡ get_or hands 0 h → seat_of (is_fast false h) h ≡ new_seat_in lists table first n
+  next_new n hands h there rest more is = let z : n + 0 ≡ n = omega arith in
+      let new = seat_is n h there (rest 0 h (at_index hands 0 h more is) ∙ ap (new_hand table first lists seats) z) in
+      free_shown h false (ap (λ (s : SeatState P). s.held) new) ∙ new
 
   -- without the first the rest are those from the next number on
   pub new_on : (n : ℕ) (hands left : List (HandState (Beside P))) → IsNewFrom n hands → left ≡ remove hands 0 → IsNewFrom (n + 1) left

@@ -14,7 +14,7 @@ use Rattle.lock_core.specs.Views.{next_epoch}
 use Rattle.lock_core.specs.Machine.{numbers_from}
 use Rattle.lock_core.specs.declared.range.Held.{Held}
 use Rattle.lock_core.specs.declared.steps.Step.{Step}
-use Rattle.lock_core.specs.declared.steps.Step.TheVariants.{Link, Unlink, Settle}
+use Rattle.lock_core.specs.declared.steps.Step.TheVariants.{Link, Unlink, QuickUnlink, Settle}
 use Rattle.epoch_pools.specs.declared.record.Looked.{Looked}
 use Rattle.epoch_pools.specs.declared.record.Lost.{Lost}
 use Rattle.epoch_pools.specs.declared.record.Met.{Met}
@@ -75,14 +75,16 @@ fresh_in list most = record { list = list; most = most; nodes = 0; passed = 0; e
 abbrev pub fresh_scan : ℕ → OpenScan
 fresh_scan most = fresh_in 0 most
 
--- a seat: its table and number, the range that it holds, the list that holds it (0 where it holds nothing), its pools
--- in list 0 and in each further list, its open scan, its pass, and the record of its steps. It is inside an epoch of
--- its own exactly where it has an open scan
+-- a seat: its table and number, the range that it holds, the list that holds it (0 where it holds nothing), whether the
+-- fast path linked the node there by which it holds it (false where it holds nothing), its pools in list 0 and in each
+-- further list, its open scan, its pass, and the record of its steps. It is inside an epoch of its own exactly where it
+-- has an open scan
 pub record SeatState (P : Type 0) : Type 0 where
   pub table : TableId
   pub number : ℕ
   pub held : Option Held
   pub list : ℕ
+  pub fast : Bool
   pub pools : Pools
   pub further : List Pools
   pub scan : Option OpenScan
@@ -177,6 +179,20 @@ Meets first t = HasOccupied (λ o. first ≤ o.step) t.occupied
 abbrev pub Finds : ℕ → ℕ → Record → Type 0
 Finds first list t = HasOccupied (λ o. (first ≤ o.step) × (o.list ≡ list)) t.occupied
 
+-- the first step of a call was the fast path's exchange at the head by which a node is unlinked, and it found another
+-- word there: the node isn't alone in its list as the fast path linked it. The call made two steps
+pub record LosesHead (before after : Record) : Type 0 where
+  pub lost : Lost
+  pub is : after.lost ≡ Some lost
+  pub kind : lost.kind ≡ QuickUnlink
+  pub first : lost.step ≡ before.taken
+  pub two : after.taken ≡ before.taken + 2
+
+-- what a release leaves in the record where the fast path linked the node: two steps, and nothing else; or the node
+-- wasn't alone any more
+abbrev pub GivesFast : Record → Record → Type 0
+GivesFast before after = (after ≡ record before { taken = before.taken + 2; away = [] }) ⊎ LosesHead before after
+
 -- the pools of list j once the epoch is left in which an open scan keeps its seat: its number there is one higher
 abbrev pub closed_pools : Option OpenScan → ℕ → Pools → Pools
 closed_pools None j pools = pools
@@ -219,6 +235,7 @@ module _ {P : Type 0} where
     number = k;
     held = None;
     list = 0;
+    fast = false;
     pools = first_pools k;
     further = replicate (lists - 1) (first_pools k);
     scan = None;
@@ -261,6 +278,7 @@ module _ {P : Type 0} where
     pub number : after.number ≡ before.number
     pub held : after.held ≡ before.held
     pub list : after.list ≡ before.list
+    pub fast : after.fast ≡ before.fast
     pub pools : after.pools ≡ before.pools
     pub further : after.further ≡ before.further
     pub scan : after.scan ≡ before.scan
@@ -277,8 +295,8 @@ module _ {P : Type 0} where
 
   -- a range was given back, in one step or two, of which none is a client step and none meets a node: the pass is
   -- rested, and an open scan stays, so a seat that was outside its epoch is outside after it. What the seat has in each
-  -- list but the one that held the range is as it was. The fast path may lose an exchange here, so the record's `lost`
-  -- is left open
+  -- list but the one that held the range is as it was. Where the fast path linked the node it is tried here first: it
+  -- makes two steps, or loses its exchange, and the node is marked
   pub record IsRelease (rested : P → P) (before after : SeatState P) : Type 0 where
     pub table : after.table ≡ before.table
     pub number : after.number ≡ before.number
@@ -294,6 +312,7 @@ module _ {P : Type 0} where
     pub met : after.trace.met ≡ before.trace.met
     pub least : before.trace.taken + 1 ≤ after.trace.taken
     pub most : after.trace.taken ≤ before.trace.taken + 2
+    pub fast : before.fast ≡ true → GivesFast before.trace after.trace
 
   -- what calls leave that give back all that they take: the seat is of the same table and number, and holds nothing
   pub record IsGivenBack (before after : SeatState P) : Type 0 where
@@ -335,9 +354,9 @@ module _ {P : Type 0} where
   IsRefusedAfter c looks before after = ((j : ℕ) → 0 < j → j < list_count c → pools_at after j ≡ closed_at before j)
       ⊎ (length before.trace.occupied + looks < length after.trace.occupied)
 
-  -- the call made so many steps at most, or met another
+  -- the call made so many steps at most, and holds by a node that the fast path linked; or it met another
   abbrev pub MakesFew : ℕ → SeatState P → SeatState P → Type 0
-  MakesFew few before after = (after.trace.taken ≤ before.trace.taken + few) ⊎ Meets before.trace.taken after.trace
+  MakesFew few before after = ((after.trace.taken ≤ before.trace.taken + few) × (after.fast ≡ true)) ⊎ Meets before.trace.taken after.trace
 
   -- a used node came home, and this call read that odd epoch of another seat, last of all that it read there, in that
   -- list; that seat isn't passed, and no other epoch was noted of it before

@@ -2,7 +2,7 @@
 -- Between two calls a hand has no node of its own but one by which a range is held, and owes no node its home. This
 -- project's own profile, over the list of Kogan, Dice and Issa 2020.
 use Rattle.std.specs.Prelude.{◌≡◌, ◌≢◌, ℕ, suc, ◌+◌, ◌-◌, ◌*◌, ◌%◌, ◌<◌, ◌==◌, ◌&&◌, Bool, true, false, if◌then◌else◌, List, [], ◌∷◌, map, Option, Some, None}
-use Rattle.std.specs.Prelude.{unwrap_or, slice_get}
+use Rattle.std.specs.Prelude.{is_some, unwrap_or, slice_get}
 use Rattle.atomic_table.specs.Seated.{TableId}
 use Rattle.lock_core.specs.declared.views.View.{View}
 use Rattle.lock_core.specs.declared.views.Cursor.{Cursor}
@@ -88,19 +88,28 @@ counted_in Free = 0
 counted_in (Narrow i) = i
 counted_in (Wide p) = 0
 
--- what contracts see of a seat, from its hand
-abbrev pub seat_state_of : {P : Type 0} → HandState (Beside P) → SeatState P
-seat_state_of s = record {
+-- what contracts see of a seat, from its hand and whether it holds its range by the fast path
+abbrev pub seat_of : {P : Type 0} → Bool → HandState (Beside P) → SeatState P
+seat_of fast s = record {
   table = s.table;
   number = s.part.number;
   held = shown_grant s.part;
   list = counted_in s.part.pass.standing;
+  fast = fast;
   pools = pools_of (shown_core s.part 0);
   further = further_of s.part;
   scan = placed_in s.part.pass.lists s.part.pass.list (scan_of s.part);
   pass = s.part.pass.pass;
   trace = s.part.trace;
 }
+
+-- it does where it holds one, by a node that the fast path linked
+abbrev pub is_fast : {P : Type 0} → Bool → HandState (Beside P) → Bool
+is_fast quick s = is_some (shown_grant s.part) && quick
+
+-- and doesn't where it holds nothing
+abbrev pub seat_state_of : {P : Type 0} → HandState (Beside P) → SeatState P
+seat_state_of s = seat_of false s
 
 -- the seat as the list has it to which its hand is turned. It says nothing of which list that is
 abbrev pub seat_state_in : {P : Type 0} → TableId → SeatPart (Beside P) → SeatState P
@@ -109,6 +118,7 @@ seat_state_in table p = record {
   number = p.number;
   held = held_at p.core.own;
   list = 0;
+  fast = false;
   pools = pools_of p.core;
   further = [];
   scan = scan_of p;

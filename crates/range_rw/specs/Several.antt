@@ -2,7 +2,7 @@
 -- to it, and all other lists are shown as before, so what is said of one list is said of the seat. A seat that holds
 -- nothing holds nothing in any list, and nothing counts; one that holds a range holds it in one list alone, and it
 -- counts. This project's own profile.
-use Rattle.std.specs.Prelude.{◌≡◌, ◌≢◌, ◌⊎◌, ◌↔◌, ℕ, ◌+◌, ◌*◌, ◌<◌, ◌≤◌, true, false, [], Some, None, Result, IfErr, OnOk, OnErr}
+use Rattle.std.specs.Prelude.{◌≡◌, ◌≢◌, ◌⊎◌, ◌↔◌, ℕ, ◌+◌, ◌*◌, ◌<◌, ◌≤◌, true, false, [], Some, None, Bool, Result, IfOk, IfErr, OnOk, OnErr}
 use Rattle.atomic_table.specs.Seated.{TableId}
 use Rattle.list_cuts.specs.Cut.{Regions, list_count, Takes, TakesOne}
 use Rattle.lock_core.specs.Range.{Interval}
@@ -165,16 +165,16 @@ module _ {P : Type 0} where
 
   -- the same of a try: each list's ready nodes are as before, or without the first, and a refusal has a cause in one of
   -- the lists. It is `Long` exactly where the last walk is spent. The lists have so many seats
-  pub record IsTryCall {A : Type 0} (table : TableId) (c : Regions) (many : ℕ) (asked : Held) (result : Result A NotHeld) (p q : SeatPart (Beside P)) :
+  pub record IsTryCall (table : TableId) (c : Regions) (many : ℕ) (asked : Held) (result : Result Bool NotHeld) (p q : SeatPart (Beside P)) :
       Type 0 where
     pub call : IsHoldCall c asked result p q
     pub ready : (j : ℕ) → IsReadyLeft (shown_core p j).ready (shown_core q j).ready
     pub cause : IfErr result (IsCauseIn table c p q asked)
     pub long : IfErr result (λ why. IsLongRefusal why ↔ IsSpent q)
-    -- with a ready node in the list that holds the range, five steps and a look at each list that it takes, or it met
-    -- another
-    pub fast : OnOk result ((k : ℕ) → TakesMany c asked.range k → (shown_core p q.pass.list).ready ≢ []
-        → (q.trace.taken ≤ p.trace.taken + (5 + k)) ⊎ Meets p.trace.taken q.trace)
+    -- with a ready node in the list that holds the range, five steps and a look at each list that it takes, and the
+    -- fast path linked its node; or it met another
+    pub fast : IfOk result (λ quick. (k : ℕ) → TakesMany c asked.range k → (shown_core p q.pass.list).ready ≢ []
+        → ((q.trace.taken ≤ p.trace.taken + (5 + k)) × (quick ≡ true)) ⊎ Meets p.trace.taken q.trace)
     -- each other list is as before, or a step of this call found it not empty
     pub apart : (own : ℕ) → StandsIn c asked.range own → (j : ℕ) → j ≢ own → (shown_core q j ≡ shown_core p j) ⊎ Finds p.trace.taken j q.trace
     pub seats : p.seats ≡ many

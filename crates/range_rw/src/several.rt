@@ -4,7 +4,7 @@
 //! range there too, looks, and gives that node back. Each function works in one list, to which it turns the hand; a
 //! reader may rely on a refusal leaving nothing held, and on its cause being that of a try in one list. This project's
 //! own profile.
-ghost use Rattle.std.specs.Prelude.{◌≡◌, ◌≢◌, ◌<◌, ◌≤◌, ◌+◌, ◌*◌, ◌↔◌, ℕ, [], None, Some, IfErr, OnOk, OnErr};
+ghost use Rattle.std.specs.Prelude.{◌≡◌, ◌≢◌, ◌<◌, ◌≤◌, ◌+◌, ◌*◌, ◌↔◌, ℕ, [], None, Some, IfOk, IfErr, OnOk, OnErr};
 ghost use Rattle.lock_core.specs.declared.range.Held.{Held};
 ghost use Rattle.list_cuts.specs.Cut.{list_count, Takes};
 ghost use Rattle.epoch_pools.specs.Standings.{standing_back};
@@ -84,7 +84,7 @@ fn link_piece<G: Guard, L: Ledger>(
     ensures ready { IsReadyLeft (shown_core hand.old.part at).ready (shown_core hand.new.part at).ready }
     ensures cause { IfErr result (IsCauseAt hand.old.table at hand.old.part hand.new.part (record { range = range; mode = mode })) }
     ensures long { IfErr result (λ why. IsLongRefusal why ↔ IsSpent hand.new.part) }
-    ensures fast { OnOk result ((shown_core hand.old.part at).ready ≢ [] → IsFast hand.old.part hand.new.part) }
+    ensures fast { IfOk result (λ quick. (shown_core hand.old.part at).ready ≢ [] → IsFast hand.old.part hand.new.part quick) }
     ensures seats { hand.old.part.seats ≡ list.now.seats }
     ensures bound { hand.new.part.trace.taken ≤ hand.old.part.trace.taken + 43 + 145 * hand.old.part.seats }
 {

@@ -1,7 +1,7 @@
-use Rattle.std.proofs.Common.{◌≡◌, rules, true, false, Bool, sym, ap, ◌∙◌, arith}
+use Rattle.std.proofs.Common.{◌≡◌, rules, true, false, Bool, inl, inr, sym, ap, ◌∙◌}
 use Rattle.epoch_pools.specs.declared.views.SeatPart.{SeatPart}
 use Rattle.epoch_pools.specs.Beside.{given_back}
-use Rattle.range_rw.proofs.Giving.{holder, may_mark, holds_node, quick_given, marked_back, may_mark_still, marked_later}
+use Rattle.range_rw.proofs.Giving.{holder, may_mark, holds_node, quick_given, marked_back, may_mark_still, marked_later, head_lost}
 use Rattle.range_rw.proofs.release.unlink_or_mark.Goals as goal
 
 -- the held node may be marked
@@ -28,7 +28,7 @@ returns-then-quick_give g c = record {
   };
   -- in two steps
   fast = λ _. let node = (holder c.requires.may.is).node in
-      ap (λ (y : SeatPart _). y.trace.taken) (c.if-quick_give.ensures.given node (holder c.requires.may.is).is);
+      inl (ap (λ (y : SeatPart _). y.trace) (c.if-quick_give.ensures.given node (holder c.requires.may.is).is));
 }
 
 -- the range is still held, so its node may be marked
@@ -45,7 +45,7 @@ returns g c =
         is = marked_later c.requires.may.is (quick_given c.requires.may.is rested c.quick_give.new.hand.part false c.if-quick_give.ensures.given) rested
             c.mark-2.new.hand.part c.mark-2.ensures.marked;
       };
-      fast = λ _.
-          let one = (quick_given c.requires.may.is rested c.quick_give.new.hand.part false c.if-quick_give.ensures.given).taken in
-          let two = c.mark-2.ensures.marked.taken in omega arith;
+      -- whose exchange is in the record
+      fast = λ _. inr (head_lost c.requires.may.is rested c.quick_give.new.hand.part c.mark-2.new.hand.part c.if-quick_give.ensures.given
+          c.mark-2.ensures.marked);
     }

@@ -4,7 +4,7 @@ use Rattle.range_rw.specs.Contract.{IsReadyLeft, StandsIn}
 use Rattle.range_rw.specs.Several.{IsWorkFor}
 use Rattle.range_rw.proofs.Calls.{counted_on}
 use Rattle.range_rw.proofs.Moves.{linked_cause, ready_each, ready_all, ready_kept, spent_kept}
-use Rattle.range_rw.proofs.Meeting.{IsApart, apart_after, apart_before, fast_few, few_both}
+use Rattle.range_rw.proofs.Meeting.{IsApart, apart_after, apart_before, fast_few, fast_both}
 use Rattle.range_rw.proofs.Dues.{home_is, work_on, work_link, work_freed, home_works, home_granted, link_free, given_free}
 use Rattle.range_rw.proofs.several.hold_in.Given.{Over}
 use Rattle.range_rw.proofs.several.hold_in.Goals.{After-look_in_all}
@@ -72,7 +72,7 @@ returns-in-Ok-look_in_all g c =
           long = tt;
           -- five steps for the link, and one for each look, or another was met
           fast = λ k many some. let link = c.link_piece.ensures.link.is.piece in
-              few_both 5 k c.args.hand.now.part c.link_piece.new.hand.part c.look_in_all.new.hand.part
+              fast_both 5 k c.args.hand.now.part c.link_piece.new.hand.part c.look_in_all.new.hand.part
               (fast_few c.args.hand.now.part c.link_piece.new.hand.part (c.in-Ok.ensures.fast
               (subst (λ n. (shown_core c.args.hand.now.part n).ready ≢ []) done.0.turned some)))
               (c.in-Ok-look_in_all.ensures.looks.is.few k many) (omega arith) link.later.taken c.look_in_all.ensures.looks.is.work.later.occupied;

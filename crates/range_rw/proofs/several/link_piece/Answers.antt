@@ -2,7 +2,7 @@ use Rattle.std.proofs.Common.{◌≢◌, ℕ, List, [], refl, sym, subst, ap, �
 use Rattle.epoch_pools.specs.declared.views.SeatPart.{SeatPart}
 use Rattle.range_rw.proofs.Calls.{counted_on, counted_turn}
 use Rattle.range_rw.proofs.Meeting.{fast_from}
-use Rattle.range_rw.proofs.Pieces.{err_on, ok_on, try_linked, ready_piece, cause_piece}
+use Rattle.range_rw.proofs.Pieces.{err_on, ok_if, try_linked, ready_piece, cause_piece}
 use Rattle.range_rw.proofs.several.link_piece.Goals as goal
 
 -- the hand rests in the list, without a node of its own
@@ -20,7 +20,7 @@ returns g c =
           c.turn.ensures.table link.piece.turned (record { range = c.args.range; mode = c.args.mode })) done.is.cause;
       long = done.is.long;
       -- with a ready node there it makes five steps, or meets another
-      fast = ok_on c.try_range.result (λ f some. fast_from p t q (ap (λ (x : SeatPart _). x.trace.taken) is)
+      fast = ok_if c.try_range.result (λ quick f some. fast_from p t q (ap (λ (x : SeatPart _). x.trace.taken) is)
           (f (subst (λ (l : List ℕ). l ≢ []) (sym (ap (λ (x : SeatPart _). x.core.ready) is)) some))) done.is.fast;
       -- the table has as many seats as the hand's part says
       seats = sym (ap (λ (x : SeatPart _). x.seats) is) ∙ done.is.seats;

@@ -5,8 +5,8 @@ use Rattle.lock_core.specs.declared.range.Held.{Held}
 use Rattle.list_cuts.proofs.Cutting.{takes_there}
 use Rattle.list_cuts.specs.Cut.{list_count}
 use Rattle.std.proofs.Math.Nat.{mul-suc}
-use Rattle.range_rw.proofs.Meeting.{fast_few, few_more}
-use Rattle.range_rw.proofs.Pieces.{is_there, err_on, ok_on}
+use Rattle.range_rw.proofs.Meeting.{fast_few, fast_more}
+use Rattle.range_rw.proofs.Pieces.{is_there, err_on, ok_if}
 use Rattle.range_rw.proofs.Choosing.{Here, free_sweeps, here_call, here_ready, here_cause, here_only, ready_here, one_home}
 use Rattle.range_rw.proofs.TakenLists.{some_below, takes_first}
 use Rattle.range_rw.proofs.several.try_hold.Goals as goal
@@ -34,7 +34,7 @@ returns-then-lists-eq1 g c =
               (inl (omega arith))) tried.is.cause;
           long = tried.is.long;
           -- its steps are five, or it met another; and each other list is as before
-          fast = ok_on c.try_range.result (λ f k many some. few_more c.args.hand.now.part c.try_range.new.hand.part (fast_few c.args.hand.now.part
+          fast = ok_if c.try_range.result (λ quick f k many some. fast_more c.args.hand.now.part c.try_range.new.hand.part (fast_few c.args.hand.now.part
               c.try_range.new.hand.part (f (ready_here h some))) (omega arith)) tried.is.fast;
           apart = λ own stands j away. inl (here_only h j (λ e. away (e ∙ one_home cut c.args.range may.lists.regions
               (sym may.lists.many ∙ c.if-lists-eq1.true) (let z : c.args.hand.now.part.pass.list ≡ 0 = omega arith in z) stands)));

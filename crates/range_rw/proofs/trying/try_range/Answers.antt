@@ -2,7 +2,7 @@ use Rattle.std.proofs.Common.{◌≡◌, Bool, true, false, inl, inr, sym, ◌�
 use Rattle.range_rw.proofs.Asking.{asks_kept, asks_on}
 use Rattle.range_rw.proofs.Calls.{outside_on, counted_on}
 use Rattle.range_rw.proofs.Later.{later_on}
-use Rattle.range_rw.proofs.Meeting.{met_still, ok_any}
+use Rattle.range_rw.proofs.Meeting.{met_still, ok_each}
 use Rattle.range_rw.proofs.Taking.{tried_ends, some_again, ready_again, cause_again, Inserted, inserted, not_inserted, held_at_once}
 use Rattle.range_rw.proofs.trying.try_range.Given.{Over}
 use Rattle.range_rw.proofs.trying.try_range.Goals.{After-refusal_of}
@@ -97,7 +97,7 @@ returns-in_default-clause-tried g c =
             before.is.later (λ none. absurd (some_again tried c.if-held.false r left none)) (record { range = c.args.range; mode = c.args.mode })
             c.try_again.result again.is.cause;
         long = again.is.long;
-        fast = ok_any c.try_again.result (λ some. inr (met_still c.args.hand.now.part.trace.taken c.link_if_empty.new.hand.part.trace
+        fast = ok_each c.try_again.result (λ quick some. inr (met_still c.args.hand.now.part.trace.taken c.link_if_empty.new.hand.part.trace
             c.try_again.new.hand.part.trace
             (later_on c.link_if_empty.new.hand.part r c.try_again.new.hand.part epoch.left.is.later again.is.later.later).occupied
             ((c.in-Ok.ensures.link.is.quick some).1 c.if-held.false)));

@@ -1,8 +1,6 @@
-use Rattle.std.proofs.Common.{ap, ◌∙◌, subst, arith}
+use Rattle.std.proofs.Common.{ap, ◌∙◌, arith}
 use Rattle.range_rw.specs.Contract.{TableShape, SeatState}
-use Rattle.range_rw.specs.Seats.{seat_state_of}
-use Rattle.range_rw.specs.Scan.{IsScanCall}
-use Rattle.range_rw.proofs.SeatedScans.{scan_seated, scan_call, opens_fresh}
+use Rattle.range_rw.proofs.SeatedScans.{scan_seated, scan_shown, opens_fresh}
 use Rattle.range_rw.proofs.table.RangeTable.begin_scan.Goals as goal
 
 -- the seat holds nothing
@@ -12,8 +10,8 @@ invariant_of-seat g c = scan_seated c.open_epoch.new.hand.part c.open_epoch.ensu
 
 -- the call is one of a scan
 pub returns-clause-call : goal.returns-clause-call
-returns-clause-call g c = subst (λ (s : SeatState _). IsScanCall s (seat_state_of c.open_epoch.new.hand)) c.seat.view_is (scan_call c.seat.inside.hand.table
-    c.open_epoch.new.hand.table c.seat.inside.hand.part c.open_epoch.new.hand.part c.open_epoch.ensures.table c.open_epoch.ensures.inside.later)
+returns-clause-call g c = scan_shown c.seat.inside.hand c.open_epoch.new.hand c.seat.inside.quick c.seat.view_is c.requires.free
+    c.open_epoch.ensures.table c.open_epoch.ensures.inside.later
 
 -- and the scan a fresh one, in list 0
 pub returns-clause-begun : goal.returns-clause-begun

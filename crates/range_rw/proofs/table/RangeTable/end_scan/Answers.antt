@@ -1,8 +1,6 @@
-use Rattle.std.proofs.Common.{ap, subst, arith}
+use Rattle.std.proofs.Common.{ap, arith}
 use Rattle.range_rw.specs.Contract.{SeatState}
-use Rattle.range_rw.specs.Seats.{seat_state_of}
-use Rattle.range_rw.specs.Scan.{IsScanCall}
-use Rattle.range_rw.proofs.SeatedScans.{scan_seated, scan_call, closes_none}
+use Rattle.range_rw.proofs.SeatedScans.{scan_seated, scan_shown, closes_none}
 use Rattle.range_rw.proofs.table.RangeTable.end_scan.Goals as goal
 
 -- the seat holds nothing
@@ -12,8 +10,8 @@ invariant_of-seat g c = scan_seated c.close_epoch.new.hand.part c.close_epoch.en
 
 -- the call is one of a scan
 pub returns-clause-call : goal.returns-clause-call
-returns-clause-call g c = subst (λ (s : SeatState _). IsScanCall s (seat_state_of c.close_epoch.new.hand)) c.seat.view_is (scan_call c.seat.inside.hand.table
-    c.close_epoch.new.hand.table c.seat.inside.hand.part c.close_epoch.new.hand.part c.close_epoch.ensures.table c.close_epoch.ensures.outside.later)
+returns-clause-call g c = scan_shown c.seat.inside.hand c.close_epoch.new.hand c.seat.inside.quick c.seat.view_is c.requires.free
+    c.close_epoch.ensures.table c.close_epoch.ensures.outside.later
 
 -- and no scan is open
 pub returns-clause-ended : goal.returns-clause-ended

@@ -1,21 +1,25 @@
-use Rattle.std.proofs.Common.{◌≡◌, sym, ◌∙◌, subst}
+use Rattle.std.proofs.Common.{◌≡◌, Bool, sym, ◌∙◌, subst}
 use Rattle.list_cuts.specs.Cut.{list_count, TakesTwo}
 use Rattle.range_rw.specs.Contract.{TableShape, SeatState, StandsIn, AsksFor, IsRefusedAfter}
-use Rattle.range_rw.specs.Seats.{counted_in, seat_state_of}
+use Rattle.range_rw.specs.Seats.{counted_in, is_fast, seat_of, seat_state_of}
 use Rattle.range_rw.proofs.Asking.{for_from}
 use Rattle.range_rw.proofs.Pieces.{is_there}
 use Rattle.range_rw.proofs.Choosing.{Called, called_by, refused_after}
-use Rattle.range_rw.proofs.Seated.{free_seated, free_grant, alone_seated, alone_grant, rests_closed, try_lists}
+use Rattle.range_rw.proofs.Seated.{free_is, free_seated, free_grant, alone_seated, alone_grant, rests_closed, try_lists}
 use Rattle.range_rw.proofs.table.RangeTable.hold_or_wait.Given.{Over}
 use Rattle.range_rw.proofs.table.RangeTable.hold_or_wait.Goals.{After-list}
 use Rattle.range_rw.proofs.table.RangeTable.hold_or_wait.Goals as goal
 
--- what the call leaves of the seat
-called : (g : Over) (c : After-list g) → Called c.args.self.now.cut (record { range = c.args.range; mode = c.args.mode }) c.args.seat.now
-    (seat_state_of c.hold_or_try-held.new.hand)
-called g c = subst (λ (z : TableShape × SeatState _). Called z.0.cut (record { range = c.args.range; mode = c.args.mode }) z.1
-    (seat_state_of c.hold_or_try-held.new.hand)) (λ i. (c.self.view_is i, c.seat.view_is i))
-    (called_by (c.hold_or_try-held.ensures.call.counted.table ∙ c.leave_and_count-lists.ensures.left.counted.table) c.leave_and_count-lists.ensures.left.is
+-- the seat before, which holds nothing
+was : (g : Over) (c : After-list g) → seat_state_of c.seat.inside.hand ≡ c.args.seat.now
+was g c = free_is c.seat.inside.hand c.seat.inside.quick c.seat.view_is c.requires.free
+
+-- what the call leaves of the seat, whichever way it holds its range
+called : (g : Over) (c : After-list g) (fast : Bool) → Called c.args.self.now.cut (record { range = c.args.range; mode = c.args.mode }) c.args.seat.now
+    (seat_of fast c.hold_or_try-held.new.hand)
+called g c fast = subst (λ (z : TableShape × SeatState _). Called z.0.cut (record { range = c.args.range; mode = c.args.mode }) z.1
+    (seat_of fast c.hold_or_try-held.new.hand)) (λ i. (c.self.view_is i, was g c i))
+    (called_by fast (c.hold_or_try-held.ensures.call.counted.table ∙ c.leave_and_count-lists.ensures.left.counted.table) c.leave_and_count-lists.ensures.left.is
     c.hold_or_try-held.ensures.call.is.work)
 
 -- there are as many lists as the cut says, before and after
@@ -32,7 +36,8 @@ same_lists g c = c.hold_or_try-held.ensures.call.is.work.later.lists ∙ (try_li
 -- the range is held
 pub returns-in-Ok : goal.returns-in-Ok
 returns-in-Ok g c =
-    let call = called g (goal.at.returns-in-Ok g c).After-list in let now = c.hold_or_try-held.new.hand.part in record {
+    let fast = is_fast c.in-Ok.fast c.hold_or_try-held.new.hand in
+    let call = called g (goal.at.returns-in-Ok g c).After-list fast in let now = c.hold_or_try-held.new.hand.part in record {
       -- the call is one on the seat, which asks for the range alone
       call = call.call;
       asks = call.asks;
@@ -59,7 +64,7 @@ invariant_of-seat g c = alone_seated (is_there c.list.ensures.list c.list.ensure
 -- the call has to begin anew
 pub returns : goal.returns
 returns g c =
-    let h = (goal.at.returns g c).After-list in let call = called g h in record {
+    let h = (goal.at.returns g c).After-list in let fast = is_fast c.seat.inside.quick c.hold_or_try-held.new.hand in let call = called g h fast in record {
       -- the call is one on the seat, which asks for the range alone
       call = call.call;
       asks = call.asks;
@@ -74,9 +79,9 @@ returns g c =
       only = call.only;
       closes = call.closes;
       -- a wide range was refused in list 0, or after so many further looks
-      kept = λ two. subst (λ (z : TableShape × SeatState _). IsRefusedAfter z.0.cut c.args.looks z.1 (seat_state_of c.hold_or_try-held.new.hand))
-          (λ i. (c.self.view_is i, c.seat.view_is i))
-          (refused_after c.seat.inside.hand.table c.hold_or_try-held.new.hand.table c.seat.inside.hand.part c.leave_and_count-lists.new.hand.part
+      kept = λ two. subst (λ (z : TableShape × SeatState _). IsRefusedAfter z.0.cut c.args.looks z.1 (seat_of fast c.hold_or_try-held.new.hand))
+          (λ i. (c.self.view_is i, was g h i))
+          (refused_after c.seat.inside.hand.table c.hold_or_try-held.new.hand.table fast c.seat.inside.hand.part c.leave_and_count-lists.new.hand.part
           c.hold_or_try-held.new.hand.part c.leave_and_count-lists.ensures.left.is (shown_lists g h) (same_lists g h) c.args.looks
           (c.in-Err.ensures.kept (subst (λ (t : TableShape). TakesTwo t.cut c.args.range) (sym c.self.view_is) two)));
     }

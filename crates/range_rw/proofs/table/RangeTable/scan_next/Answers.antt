@@ -6,6 +6,7 @@ use Rattle.marked_list.specs.Order.{IsInside}
 use Rattle.range_rw.specs.Contract.{TableShape, SeatState}
 use Rattle.range_rw.specs.Seats.{seat_state_of}
 use Rattle.range_rw.specs.Scan.{scanned_as, IsScanCall, IsNext, IsScanSeat}
+use Rattle.range_rw.proofs.Seated.{free_is, free_shown}
 use Rattle.range_rw.proofs.SeatedScans.{scan_seat, scan_seated, scan_call, opened_in, opened_list, opened_most, seat_stays, scan_bound}
 use Rattle.range_rw.proofs.table.RangeTable.scan_next.Given.{Over}
 use Rattle.range_rw.proofs.table.RangeTable.scan_next.Goals.{After-lists_of-lists}
@@ -36,16 +37,19 @@ invariant_of-seat g c = scan_seated c.pass_on.new.hand.part c.pass_on.ensures.la
 pub returns : goal.returns
 returns g c =
     let h = c.lists_of-lists.new.hand in let q = c.pass_on.new.hand in let done = c.pass_on.ensures in
-    let same = ap seat_state_of c.lists_of-lists.ensures.hand ∙ c.seat.view_is in record {
-      call = subst (λ (s : SeatState _). IsScanCall s (seat_state_of q)) same (scan_call h.table q.table h.part q.part done.later.counted.table done.later.is);
+    let quick = c.seat.inside.quick in
+    let same = ap seat_state_of c.lists_of-lists.ensures.hand ∙ free_is c.seat.inside.hand quick c.seat.view_is c.requires.free in
+    let call = scan_call h.table q.table h.part q.part done.later.counted.table done.later.is in let now = free_shown q quick call.held in record {
+      call = subst (λ (z : SeatState _ × SeatState _). IsScanCall z.0 z.1) (λ i. (same i, sym now i)) call;
       -- with its answer and cause
-      next = λ was opened. subst (λ (s : SeatState _). IsNext s (seat_state_of q) was c.answer_of.result) same (subst (λ answer. IsNext (seat_state_of h)
-          (seat_state_of q) was answer) (sym c.answer_of.ensures) (done.next was (ap (λ (s : SeatState _). s.scan) same ∙ opened)));
+      next = λ was opened. subst (λ (z : SeatState _ × SeatState _). IsNext z.0 z.1 was c.answer_of.result) (λ i. (same i, sym now i))
+          (subst (λ answer. IsNext (seat_state_of h) (seat_state_of q) was answer) (sym c.answer_of.ensures)
+          (done.next was (ap (λ (s : SeatState _). s.scan) same ∙ opened)));
       -- at the end of the last list it stays, and where it has looked at as many nodes as it may
       ended = λ was opened ended. let s = done.ended was (ap (λ (s : SeatState _). s.scan) same ∙ opened) ended in
-          (seat_stays h.table q.table h.part q.part done.later.counted.table s.0 ∙ same, c.answer_of.ensures ∙ ap scanned_as s.1);
+          (now ∙ (seat_stays h.table q.table h.part q.part done.later.counted.table s.0 ∙ same), c.answer_of.ensures ∙ ap scanned_as s.1);
       spent = λ was opened spent. let s = done.spent was (ap (λ (s : SeatState _). s.scan) same ∙ opened) spent in
-          (seat_stays h.table q.table h.part q.part done.later.counted.table s.0 ∙ same, c.answer_of.ensures ∙ ap scanned_as s.1);
+          (now ∙ (seat_stays h.table q.table h.part q.part done.later.counted.table s.0 ∙ same), c.answer_of.ensures ∙ ap scanned_as s.1);
       -- its steps are those of the lists that are left
       bound = λ was opened. let shown = ap (λ (s : SeatState _). s.scan) same ∙ opened in
           let odd = inside g (goal.at.returns g c).After-lists_of-lists in

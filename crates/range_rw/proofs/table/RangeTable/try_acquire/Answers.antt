@@ -1,24 +1,30 @@
-use Rattle.std.proofs.Common.{◌≡◌, ◌≢◌, [], ◌↔◌, ◌+◌, ◌*◌, ◌<◌, ◌≤◌, ℕ, ap, ◌∙◌, subst, sym, arith}
+use Rattle.std.proofs.Common.{◌≡◌, ◌≢◌, Bool, [], ◌↔◌, ◌+◌, ◌*◌, ◌<◌, ◌≤◌, ℕ, ap, ◌∙◌, subst, sym, arith}
+use Rattle.std.specs.Prelude.{Option, is_some, ◌&&◌}
 use Rattle.list_cuts.specs.Cut.{list_count}
+use Rattle.lock_core.specs.declared.range.Held.{Held}
 use Rattle.range_rw.specs.Contract.{TableShape, SeatState, IsReadyLeft, IsSpentIn, IsLongRefusal, IsCause, KeepsClear, MakesFew}
 use Rattle.range_rw.specs.Contract.{TakesMany, StandsIn, TellsList, try_steps, pools_at}
 use Rattle.range_rw.specs.Several.{TakesAlone}
-use Rattle.range_rw.specs.Seats.{counted_in, seat_state_of}
+use Rattle.range_rw.specs.Seats.{counted_in, is_fast, seat_of, seat_state_of}
 use Rattle.range_rw.proofs.Moves.{ready_from}
 use Rattle.range_rw.proofs.Choosing.{Called, called_by, Left, seat_cause_in, seat_told_in, seat_long_in, left_by, ready_at, others_clear, seat_few}
 use Rattle.range_rw.proofs.Pieces.{is_there}
 use Rattle.range_rw.proofs.TakenLists.{wide_steps}
-use Rattle.range_rw.proofs.Seated.{free_seated, free_grant, alone_seated, alone_grant, rests_closed, none_here, try_lists}
+use Rattle.range_rw.proofs.Seated.{free_is, free_seated, free_grant, alone_seated, alone_grant, rests_closed, none_here, try_lists}
 use Rattle.range_rw.proofs.table.RangeTable.try_acquire.Given.{Over}
 use Rattle.range_rw.proofs.table.RangeTable.try_acquire.Goals.{After-list}
 use Rattle.range_rw.proofs.table.RangeTable.try_acquire.Goals as goal
 
--- what the call leaves of the seat
-called : (g : Over) (c : After-list g) → Called c.args.self.now.cut (record { range = c.args.range; mode = c.args.mode }) c.args.seat.now
-    (seat_state_of c.try_hold-tried.new.hand)
-called g c = subst (λ (z : TableShape × SeatState _). Called z.0.cut (record { range = c.args.range; mode = c.args.mode }) z.1
-    (seat_state_of c.try_hold-tried.new.hand)) (λ i. (c.self.view_is i, c.seat.view_is i))
-    (called_by (c.try_hold-tried.ensures.tried.counted.table ∙ c.leave_and_count-lists.ensures.left.counted.table) c.leave_and_count-lists.ensures.left.is
+-- the seat before, which holds nothing
+was : (g : Over) (c : After-list g) → seat_state_of c.seat.inside.hand ≡ c.args.seat.now
+was g c = free_is c.seat.inside.hand c.seat.inside.quick c.seat.view_is c.requires.free
+
+-- what the call leaves of the seat, whichever way it holds its range
+called : (g : Over) (c : After-list g) (fast : Bool) → Called c.args.self.now.cut (record { range = c.args.range; mode = c.args.mode }) c.args.seat.now
+    (seat_of fast c.try_hold-tried.new.hand)
+called g c fast = subst (λ (z : TableShape × SeatState _). Called z.0.cut (record { range = c.args.range; mode = c.args.mode }) z.1
+    (seat_of fast c.try_hold-tried.new.hand)) (λ i. (c.self.view_is i, was g c i))
+    (called_by fast (c.try_hold-tried.ensures.tried.counted.table ∙ c.leave_and_count-lists.ensures.left.counted.table) c.leave_and_count-lists.ensures.left.is
     c.try_hold-tried.ensures.tried.is.call.work)
 
 -- and of its lists
@@ -28,9 +34,10 @@ left g c = left_by c.seat.inside.hand.table c.leave_and_count-lists.new.hand.tab
     c.try_hold-tried.ensures.tried.is.call.work.later
 
 -- each list's ready nodes are as before or without the first
-ready : (g : Over) (c : After-list g) (j : ℕ) → IsReadyLeft (pools_at c.args.seat.now j).ready (pools_at (seat_state_of c.try_hold-tried.new.hand) j).ready
-ready g c j = let p = c.seat.inside.hand.part in let l = left g c in subst (λ (s : SeatState _). IsReadyLeft (pools_at s j).ready (pools_at
-    (seat_state_of c.try_hold-tried.new.hand) j).ready) c.seat.view_is (ready_at c.seat.inside.hand.table c.try_hold-tried.new.hand.table p
+ready : (g : Over) (c : After-list g) (fast : Bool) (j : ℕ)
+    → IsReadyLeft (pools_at c.args.seat.now j).ready (pools_at (seat_of fast c.try_hold-tried.new.hand) j).ready
+ready g c fast j = let p = c.seat.inside.hand.part in let l = left g c in subst (λ (s : SeatState _). IsReadyLeft (pools_at s j).ready (pools_at
+    (seat_of fast c.try_hold-tried.new.hand) j).ready) (was g c) (ready_at c.seat.inside.hand.table c.try_hold-tried.new.hand.table fast p
     c.try_hold-tried.new.hand.part (l.lists ∙ (try_lists p c.leave_and_count-lists.new.hand.part l.later).lists) (λ i. ready_from (l.ready i)
     (c.try_hold-tried.ensures.tried.is.ready i)) j)
 
@@ -64,11 +71,11 @@ same_lists : (g : Over) (c : After-list g) → c.try_hold-tried.new.hand.part.pa
 same_lists g c = let l = left g c in l.lists ∙ (try_lists c.seat.inside.hand.part c.leave_and_count-lists.new.hand.part l.later).lists
 
 -- each list but the one that holds the range is as it was, or was found not empty
-clear : (g : Over) (c : After-list g) (own : ℕ) → StandsIn c.args.self.now.cut c.args.range own
-    → KeepsClear c.args.self.now.cut own c.args.seat.now (seat_state_of c.try_hold-tried.new.hand)
-clear g c own stands = subst (λ (z : TableShape × SeatState _). KeepsClear z.0.cut own z.1 (seat_state_of c.try_hold-tried.new.hand))
-    (λ i. (c.self.view_is i, c.seat.view_is i))
-    (others_clear c.seat.inside.hand.table c.try_hold-tried.new.hand.table c.seat.inside.hand.part c.leave_and_count-lists.new.hand.part
+clear : (g : Over) (c : After-list g) (fast : Bool) (own : ℕ) → StandsIn c.args.self.now.cut c.args.range own
+    → KeepsClear c.args.self.now.cut own c.args.seat.now (seat_of fast c.try_hold-tried.new.hand)
+clear g c fast own stands = subst (λ (z : TableShape × SeatState _). KeepsClear z.0.cut own z.1 (seat_of fast c.try_hold-tried.new.hand))
+    (λ i. (c.self.view_is i, was g c i))
+    (others_clear c.seat.inside.hand.table c.try_hold-tried.new.hand.table fast c.seat.inside.hand.part c.leave_and_count-lists.new.hand.part
     c.try_hold-tried.new.hand.part c.leave_and_count-lists.ensures.left.is (shown_lists g c) (same_lists g c) own
     (c.try_hold-tried.ensures.tried.is.apart own (subst (λ (t : TableShape). StandsIn t.cut c.args.range own) (sym c.self.view_is) stands)))
 
@@ -77,14 +84,15 @@ clear g c own stands = subst (λ (z : TableShape × SeatState _). KeepsClear z.0
 -- the range is held
 pub returns-in-Ok : goal.returns-in-Ok
 returns-in-Ok g c =
-    let h = (goal.at.returns-in-Ok g c).After-list in let call = called g h in record {
+    let h = (goal.at.returns-in-Ok g c).After-list in let fast = is_fast c.in-Ok.quick c.try_hold-tried.new.hand in let call = called g h fast in
+    let there = is_there c.list.ensures.list c.list.ensures.there in record {
       -- the call is one on the seat, which asks for the range alone
       call = call.call;
       asks = call.asks;
       -- the seat is outside its epoch
       outside = rests_closed c.try_hold-tried.new.hand.part c.in-Ok.ensures.tried.is.call.held.held.rests;
       -- and holds the range
-      held = alone_grant (is_there c.list.ensures.list c.list.ensures.there) c.in-Ok.ensures.tried.is.call.held;
+      held = alone_grant there c.in-Ok.ensures.tried.is.call.held;
       -- in the list that it takes alone, or in list 0
       stands = subst (λ (t : TableShape). StandsIn t.cut c.args.range (counted_in c.try_hold-tried.new.hand.part.pass.standing)) c.self.view_is
           c.in-Ok.ensures.tried.is.call.held.stands;
@@ -93,20 +101,21 @@ returns-in-Ok g c =
       told = tt;
       long = tt;
       -- the ready nodes of list 0, and those of every list
-      ready = ready g h 0;
-      further = ready g h;
+      ready = ready g h fast 0;
+      further = ready g h fast;
       -- each list in which it doesn't work is as it was, where no scan was open
       only = call.only;
       -- and where one was, but for its epoch; each other list is as it was, or was found not empty
       closes = call.closes;
-      clear = clear g h;
+      clear = clear g h fast;
       -- few steps were made, or another was met
-      fast = λ k many some. subst (λ (s : SeatState _). MakesFew (6 + k) s (seat_state_of c.try_hold-tried.new.hand)) c.seat.view_is
-          (seat_few c.seat.inside.hand.table c.try_hold-tried.new.hand.table c.seat.inside.hand.part c.leave_and_count-lists.new.hand.part
+      fast = λ k many some. subst (λ (s : SeatState _). MakesFew (6 + k) s (seat_of fast c.try_hold-tried.new.hand)) (was g h)
+          (seat_few c.seat.inside.hand.table c.try_hold-tried.new.hand.table fast c.seat.inside.hand.part c.leave_and_count-lists.new.hand.part
           c.try_hold-tried.new.hand.part c.leave_and_count-lists.ensures.left.is (shown_lists g h) (same_lists g h) (5 + k) (omega arith)
-          (is_there c.list.ensures.list c.list.ensures.there) c.in-Ok.ensures.tried.is.call.held
+          there c.in-Ok.ensures.tried.is.call.held
+          (λ e. ap (λ (o : Option Held). is_some o && c.in-Ok.quick) (alone_grant there c.in-Ok.ensures.tried.is.call.held) ∙ e)
           (c.in-Ok.ensures.tried.is.fast k (subst (λ (t : TableShape). TakesMany t.cut c.args.range k) (sym c.self.view_is) many))
-          (subst (λ (s : SeatState _). (pools_at s (counted_in c.try_hold-tried.new.hand.part.pass.standing)).ready ≢ []) (sym c.seat.view_is) some));
+          (subst (λ (s : SeatState _). (pools_at s (counted_in c.try_hold-tried.new.hand.part.pass.standing)).ready ≢ []) (sym (was g h)) some));
       -- the steps of a range that takes one list, of any by the number of all lists, and by how many it takes
       bound = bound g h;
       wide = wide g h;
@@ -123,7 +132,8 @@ invariant_of-seat g c = alone_seated (is_there c.list.ensures.list c.list.ensure
 -- the range is refused
 pub returns-in-Err : goal.returns-in-Err
 returns-in-Err g c =
-    let h = (goal.at.returns-in-Err g c).After-list in let call = called g h in
+    let h = (goal.at.returns-in-Err g c).After-list in let fast = is_fast c.seat.inside.quick c.try_hold-tried.new.hand in
+    let call = called g h fast in
     let none = free_grant (is_there c.list.ensures.list c.list.ensures.there) c.in-Err.ensures.tried.is.call.free in record {
       -- the call is one on the seat, which asks for the range alone
       call = call.call;
@@ -135,26 +145,26 @@ returns-in-Err g c =
       stands = tt;
       free = none;
       -- the cause of the refusal, in the words of the seat
-      cause = subst (λ (s : SeatState _). IsCause s (seat_state_of c.try_hold-tried.new.hand) (record { range = c.args.range; mode = c.args.mode })
-          c.in-Err.why) c.seat.view_is (seat_cause_in (left g h) c.self.inside.list.cut (record { range = c.args.range; mode = c.args.mode }) c.in-Err.why
+      cause = subst (λ (s : SeatState _). IsCause s (seat_of fast c.try_hold-tried.new.hand) (record { range = c.args.range; mode = c.args.mode })
+          c.in-Err.why) (was g h) (seat_cause_in (left g h) fast c.self.inside.list.cut (record { range = c.args.range; mode = c.args.mode }) c.in-Err.why
           c.in-Err.ensures.tried.is.cause);
       -- the list that it tells is one in which the call works
       told = subst (λ (t : TableShape). TellsList t.cut c.args.range c.in-Err.why) c.self.view_is
           (seat_told_in (left g h) c.self.inside.list.cut (record { range = c.args.range; mode = c.args.mode }) c.in-Err.why c.in-Err.ensures.tried.is.cause);
       -- Long comes exactly where a walk of the call is spent
-      long = subst (λ (s : SeatState _). IsLongRefusal c.in-Err.why ↔ IsSpentIn c.args.self.now.seats s (seat_state_of c.try_hold-tried.new.hand))
-          c.seat.view_is (seat_long_in (left g h) c.self.inside.list.cut c.args.self.now.seats (c.try_hold-tried.ensures.tried.is.call.work.later.seats ∙
+      long = subst (λ (s : SeatState _). IsLongRefusal c.in-Err.why ↔ IsSpentIn c.args.self.now.seats s (seat_of fast c.try_hold-tried.new.hand))
+          (was g h) (seat_long_in (left g h) fast c.self.inside.list.cut c.args.self.now.seats (c.try_hold-tried.ensures.tried.is.call.work.later.seats ∙
           (c.try_hold-tried.ensures.tried.is.seats ∙ ap (λ (t : TableShape). t.seats) c.self.view_is)) (record { range = c.args.range; mode = c.args.mode })
           c.in-Err.why
           c.in-Err.ensures.tried.is.cause none (none_here c.try_hold-tried.new.hand.part c.in-Err.ensures.tried.is.call.free) c.in-Err.ensures.tried.is.long);
       -- the ready nodes of list 0, and those of every list
-      ready = ready g h 0;
-      further = ready g h;
+      ready = ready g h fast 0;
+      further = ready g h fast;
       -- each list in which it doesn't work is as it was, where no scan was open
       only = call.only;
       -- and where one was, but for its epoch; each other list is as it was, or was found not empty
       closes = call.closes;
-      clear = clear g h;
+      clear = clear g h fast;
       fast = tt;
       -- the steps of a range that takes one list, of any by the number of all lists, and by how many it takes
       bound = bound g h;
