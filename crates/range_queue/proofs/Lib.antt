@@ -1,0 +1,6 @@
+mod Acting
+mod Announced
+mod Inside
+mod Looked
+mod Starting
+mod Tried

@@ -1,0 +1,17 @@
+use Rattle.lock_core.specs.Client.{loads}
+use Rattle.range_queue.proofs.Inside.{seat_may, seat_made}
+use Rattle.range_queue.proofs.table.QueueTable.load_as.Goals as goal
+
+-- the guard behind the queue allows it
+pub load_as_uncounted-requires-clause-allowed : goal.load_as_uncounted-requires-clause-allowed
+load_as_uncounted-requires-clause-allowed g c =
+    seat_may g.G.Guard.holds g.G.Guard.allows g.M.Means.note c.seat.inside.seat c.args.seat.now c.seat.view_is (loads c.args.i) c.requires.allowed
+
+pub returns-clause-pass : goal.returns-clause-pass
+returns-clause-pass g c = (seat_made g.G.Guard.holds g.G.Guard.allows g.M.Means.note c.seat.inside.seat c.args.seat.now c.seat.view_is (loads c.args.i)
+    c.load_as_uncounted.result c.load_as_uncounted.new.seat.pass c.load_as_uncounted.ensures.made).0
+
+-- it was made over that guard's words
+pub returns-clause-made : goal.returns-clause-made
+returns-clause-made g c = (seat_made g.G.Guard.holds g.G.Guard.allows g.M.Means.note c.seat.inside.seat c.args.seat.now c.seat.view_is (loads c.args.i)
+    c.load_as_uncounted.result c.load_as_uncounted.new.seat.pass c.load_as_uncounted.ensures.made).1

@@ -1,0 +1,4 @@
+pub mod Looks
+pub mod Opening
+pub mod Settled
+pub mod Tries
