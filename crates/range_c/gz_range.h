@@ -40,9 +40,9 @@
      on the same word. Two readers are in no order to each other, and neither are ranges that don't overlap. This isn't
      proved of your memory: it rests on each step of the library being sequentially consistent, and on a compiler that
      moves no access across a call.
-   - No call sleeps, and none takes a lock but in malloc and free. Only gz_range_acquire waits without a bound, by
-     trying again; gz_range_try and gz_range_pause wait a bounded number of turns. Only open, open_cut, share and close
-     call the allocator, and only the first three can fail for want of memory. A table takes 2 to 25 KB for 1 to 16
+   - No call sleeps but gz_range_acquire_until, and none takes a lock but in malloc and free. Only gz_range_acquire waits
+     without a bound, by trying again; gz_range_try and gz_range_pause wait a bounded number of turns. Only open,
+     open_cut, share and close call the allocator, and only the first three can fail for want of memory. A table takes 2 to 25 KB for 1 to 16
      seats, once for each of its lists, twice as much while it is opened, and 8 bytes for each client word; each further
      handle takes 128 bytes.
 
@@ -52,8 +52,10 @@
    - A handle goes to another thread by a lock, by a thread's start or join, or by a sequentially consistent atomic.
    - A pointer is to a live object of its type that nobody else uses meanwhile. None is null; without client words use
      gz_range_open_plain, and without busy gz_range_try_plain.
-   - No call is made in a signal handler, or in the forked child of a process that has threads. No call is left by
-     longjmp or by an asynchronous cancel; none is a cancellation point.
+   - No call is made in a signal handler. In the forked child of a process that had threads gz_range_forget alone is
+     called with a handle from before the fork; a table that is opened there is like any other, if malloc may be called
+     there, as glibc allows. No call is left by longjmp or by an asynchronous cancel. Only gz_range_acquire_until is a cancellation point, where it sleeps; the handle
+     holds nothing then.
    - malloc, realloc and free belong to one allocator, which aligns a block to each power of two up to 16 that divides
      its size.
    - A thread that ends without closing its handle leaves its range held and its seat taken for ever.
@@ -67,6 +69,7 @@
 #include <stdbool.h>
 #include <stddef.h>
 #include <stdint.h>
+#include <time.h>
 
 #ifndef __x86_64__
 #error "gz_range.h: the range lock's archive is for x86-64"
@@ -77,16 +80,19 @@
    when a program for the version before may no longer compile, or may mean something else.
    1.1 has gz_range_open_cut, BAD_CUT, gz_range_held, gz_range_pause and the names of the modes; gz_range_end refuses an
    open `next`; what gz_range_try waits between two tries grows; the seat of a closed handle is shared again.
-   1.2 has gz_range_try_counted. */
-#define GZ_RANGE_VERSION 102
-#define GZ_RANGE_VERSION_TEXT "1.2.0"
+   1.2 has gz_range_try_counted, 1.3 gz_range_acquire_until, gz_range_forget, gz_range_scan, FULL and
+   gz_range_counts. */
+#define GZ_RANGE_VERSION 103
+#define GZ_RANGE_VERSION_TEXT "1.3.0"
 
 #ifdef __GNUC__
 #define GZ_RANGE_NONNULL __attribute__((nonnull))
 #define GZ_RANGE_MUST_CHECK __attribute__((nonnull, warn_unused_result))
+#define GZ_RANGE_FIRST __attribute__((nonnull(1), warn_unused_result))
 #else
 #define GZ_RANGE_NONNULL
 #define GZ_RANGE_MUST_CHECK
+#define GZ_RANGE_FIRST
 #endif
 
 #ifdef __cplusplus
@@ -126,8 +132,12 @@ typedef struct gz_busy {
     bool writer;
 } gz_busy;
 
-/* What a call answers. Each call's comment names its answers. Only BUSY, AGAIN, LONG and NO_NODE mean that a later try
-   may do better. The examples meet each answer but AGAIN, LONG and NO_NODE, which need another thread inside a call. */
+/* What a call answers. Each call's comment names its answers. After BUSY, AGAIN, LONG and NO_NODE, and no other, a later
+   try may do better (gz_range_may_retry): BUSY tells of a range in conflict, and the other three of another thread's
+   work in the list, so that a caller treats them alike. NO_NODE comes often where there are more threads than
+   processors: a thread that loses its processor inside a call keeps the nodes that all others gave back from being
+   ready, until it runs again. More tries don't help then; a sleep between them does (gz_range_acquire_until).
+   The examples meet each answer but AGAIN, LONG and NO_NODE, which need another thread inside a call. */
 typedef enum gz_range_answer {
     GZ_RANGE_DONE = 0,       /* the call did what it is for */
     GZ_RANGE_BUSY = 1,       /* at a step of the last try another seat held, or asked for, the range in busy */
@@ -146,7 +156,8 @@ typedef enum gz_range_answer {
     GZ_RANGE_NONE_LEFT = 14, /* the handle has no seat left to share, and none was found that was given back */
     GZ_RANGE_NO_WORD = 15,   /* the table has no client word of that number */
     GZ_RANGE_OTHER = 16,     /* the client word had another value than the expected one */
-    GZ_RANGE_BAD_CUT = 17    /* there are 0 regions, or more than 16, or a block has more than 2^62 numbers */
+    GZ_RANGE_BAD_CUT = 17,   /* there are 0 regions, or more than 16, or a block has more than 2^62 numbers */
+    GZ_RANGE_FULL = 18       /* a scan went past one range more than there are places */
 } gz_range_answer;
 
 /* The archive was made for these sizes. */
@@ -175,6 +186,7 @@ static inline const char *gz_range_text(gz_range_answer answer) {
     case GZ_RANGE_NO_WORD: return "the table has no client word of that number";
     case GZ_RANGE_OTHER: return "the client word has another value than the expected one";
     case GZ_RANGE_BAD_CUT: return "the numbers make no cut into regions";
+    case GZ_RANGE_FULL: return "more ranges than places";
     }
     return "no answer of the range lock";
 }
@@ -267,6 +279,11 @@ gz_range_answer gz_range_release(gz_range *handle);
    The thread that has the handle. */
 GZ_RANGE_NONNULL
 gz_range_answer gz_range_held(const gz_range *handle, gz_busy *held);
+
+/* What gz_range_scan calls. It puts `next`, a closed handle, in the place of the handle until the scan is over. IS_OPEN
+   if next is open, with nothing changed. */
+GZ_RANGE_NONNULL
+gz_range_answer gz_range_scan_into(gz_range *handle, gz_range next, gz_busy *ranges, size_t count, size_t *found);
 
 /* Each of the next four is one sequentially consistent atomic step on client word i, counted from 0. It needs no held
    range. What the handle holds stays.
@@ -394,6 +411,23 @@ static inline gz_range_answer gz_range_exchange_told(gz_range *handle, uint32_t 
 #define gz_range_exchange gz_range_exchange_told
 #endif
 
+/* Shows who has or wants what in the handle's table, as for a table that seems stuck. It goes through all lists, and
+   writes each range that it goes past, held or only asked for, to ranges[0] and on, of which there are `count`. *found
+   is how many. Each stood in a list at a step of this call, and no list is left out; but other threads go on meanwhile,
+   so a range may be missing that came or went, or be shown twice, as one in several regions that is asked for may.
+   While nobody comes or goes, twice as many places as the table has seats are enough.
+   DONE if it came to the end of all lists. With what was found until then: FULL if it went past one range more than
+   there are places, AGAIN if another thread changed the list where it was, LONG if it looked at 16 nodes for each seat
+   and one more. With *found 0: IS_CLOSED, or HAS_ONE if the handle holds a range. So keep a handle for this: a table
+   whose seats are all out has none to share.
+   It waits for nobody, and makes a bounded number of atomic steps.
+   The thread that has the handle. */
+GZ_RANGE_NONNULL
+static inline gz_range_answer gz_range_scan(gz_range *handle, gz_busy *ranges, size_t count, size_t *found) {
+    gz_range closed = GZ_RANGE_CLOSED;
+    return gz_range_scan_into(handle, closed, ranges, count, found);
+}
+
 /* gz_range_try without busy, for when it doesn't matter who is in the way. */
 GZ_RANGE_MUST_CHECK
 static inline gz_range_answer gz_range_try_plain(gz_range *handle, uint64_t lo, uint64_t hi, bool writer,
@@ -412,6 +446,17 @@ static inline gz_range_answer gz_range_close(gz_range *handle) {
     return gz_range_end(handle, closed);
 }
 
+/* Makes a handle closed and leaves its table alone: what it holds stays held, its seat stays taken, and no memory is
+   freed. It is for the child after a fork, whose copy of a table other threads may have left in the middle of a call;
+   there it opens a table of its own. The example forks.c does it by pthread_atfork.
+   It answers nothing, and the handle is closed.
+   The thread that has the handle, or the child. */
+GZ_RANGE_NONNULL
+static inline void gz_range_forget(gz_range *handle) {
+    gz_range closed = GZ_RANGE_CLOSED;
+    *handle = closed;
+}
+
 /* Whether a handle is open. */
 GZ_RANGE_NONNULL
 static inline bool gz_range_is_open(const gz_range *handle) { return handle->opened != 0; }
@@ -419,6 +464,22 @@ static inline bool gz_range_is_open(const gz_range *handle) { return handle->ope
 /* Whether an answer is a refusal after which a later try may do better: BUSY, AGAIN, LONG or NO_NODE. */
 static inline bool gz_range_may_retry(gz_range_answer answer) {
     return answer >= GZ_RANGE_BUSY && answer <= GZ_RANGE_NO_NODE;
+}
+
+/* What the callers of a table met that gave this to gz_range_acquire_counted: how many tries they made, how many of
+   these were refused with the answer of that number, as refused[GZ_RANGE_BUSY], how many waits they made between two
+   tries, and how many sleeps. It begins as all 0. Each step on it is a relaxed atomic one, so threads may share one;
+   read a number of it by __atomic_load_n while they run. */
+typedef struct gz_range_counts {
+    uint64_t tries, refused[GZ_RANGE_NO_NODE + 1], waits, sleeps;
+} gz_range_counts;
+
+/* Counts one try by its answer, for a loop of the program's own. An answer that comes before a try isn't counted, and
+   where counts is null none is. */
+static inline void gz_range_count(gz_range_counts *counts, gz_range_answer answer) {
+    if (!counts || answer > GZ_RANGE_NO_NODE) return;
+    __atomic_fetch_add(&counts->tries, 1, __ATOMIC_RELAXED);
+    if (answer != GZ_RANGE_DONE) __atomic_fetch_add(&counts->refused[answer], 1, __ATOMIC_RELAXED);
 }
 
 /* Holds a range, however long that takes, as pthread_mutex_lock does. It tries once. After BUSY, LONG or NO_NODE it
@@ -433,19 +494,84 @@ static inline bool gz_range_may_retry(gz_range_answer answer) {
    and 5.4. Of sixteen threads the longest wait in three rounds of 80 ms was 12, 9.3 and 15 ms. Longer runs may have
    longer waits.
    It uses its processor as long as it waits, and under SCHED_FIFO, where sched_yield gives nothing to threads of lower
-   priority, it may try for ever. The example waiting.c has two ways to wait by sleeping: until a deadline, and until
+   priority, it may try for ever. gz_range_acquire_until sleeps between its tries; the example waiting.c sleeps until
    another thread gives a range back.
+   counts is null, or what this call met is added to it.
    DONE; IS_CLOSED, HAS_ONE or BAD_RANGE at once, with the handle as it was.
    The thread that has the handle. */
-GZ_RANGE_MUST_CHECK
-static inline gz_range_answer gz_range_acquire(gz_range *handle, uint64_t lo, uint64_t hi, bool writer) {
+GZ_RANGE_FIRST
+static inline gz_range_answer gz_range_acquire_counted(gz_range *handle, uint64_t lo, uint64_t hi, bool writer,
+                                                       gz_range_counts *counts) {
     uint32_t turns = 0;
     for (;;) {
         gz_range_answer answer = gz_range_try_plain(handle, lo, hi, writer, 1);
+        gz_range_count(counts, answer);
         if (!gz_range_may_retry(answer)) return answer;
-        if (answer != GZ_RANGE_AGAIN && gz_range_pause(&turns)) sched_yield();
+        if (answer == GZ_RANGE_AGAIN) continue;
+        if (counts) __atomic_fetch_add(&counts->waits, 1, __ATOMIC_RELAXED);
+        if (gz_range_pause(&turns)) sched_yield();
     }
 }
+
+/* The same, and nothing is counted. */
+GZ_RANGE_MUST_CHECK
+static inline gz_range_answer gz_range_acquire(gz_range *handle, uint64_t lo, uint64_t hi, bool writer) {
+    return gz_range_acquire_counted(handle, lo, hi, writer, NULL);
+}
+
+/* A program that is compiled for ISO C alone, as by -std=c11, has no CLOCK_MONOTONIC unless _POSIX_C_SOURCE is 199309L
+   or above, and then none of these three. */
+#ifdef CLOCK_MONOTONIC
+/* The nanoseconds until a moment of CLOCK_MONOTONIC: 0 or below when it has passed, and 10^9 if it is far. */
+static inline int64_t gz_range_left(const struct timespec *moment) {
+    const int64_t second = 1000000000;
+    struct timespec now;
+    clock_gettime(CLOCK_MONOTONIC, &now);
+    if (moment->tv_sec < now.tv_sec) return 0;
+    if (moment->tv_sec > now.tv_sec + 1) return second;
+    return (moment->tv_sec - now.tv_sec) * second + moment->tv_nsec - now.tv_nsec;
+}
+
+/* Holds a range as gz_range_acquire does, but gives up when a moment of CLOCK_MONOTONIC has passed, and sleeps after its
+   first waits, so that it leaves the processor to others, also under SCHED_FIFO. It tries at least once: with a moment
+   in the past it is one try. After a try that is refused it looks at the clock. Then it waits by gz_range_pause, and
+   after the first wait of 8,192 turns it sleeps instead: 50 microseconds, then twice as long each time, at most a
+   millisecond, and never past the moment. A signal ends a sleep, and then it tries again. So a range that is given back
+   may be free for a millisecond before a waiting thread takes it.
+   DONE; IS_CLOSED, HAS_ONE or BAD_RANGE at once, with the handle as it was; or BUSY, AGAIN, LONG or NO_NODE when the
+   moment has passed: why the last try was refused, with nothing held. counts as with gz_range_acquire_counted.
+   The thread that has the handle. */
+GZ_RANGE_FIRST
+static inline gz_range_answer gz_range_acquire_until_counted(gz_range *handle, uint64_t lo, uint64_t hi, bool writer,
+                                                             const struct timespec *moment, gz_range_counts *counts) {
+    const int64_t shortest = 50000, longest = 1000000;
+    uint32_t turns = 0;
+    int64_t sleep = 0;
+    for (;;) {
+        gz_range_answer answer = gz_range_try_plain(handle, lo, hi, writer, 1);
+        gz_range_count(counts, answer);
+        int64_t left = gz_range_may_retry(answer) ? gz_range_left(moment) : 0;
+        if (left <= 0) return answer;
+        if (answer == GZ_RANGE_AGAIN) continue;
+        if (sleep > 0) {
+            struct timespec time = { 0, (long)(left < sleep ? left : sleep) };
+            if (counts) __atomic_fetch_add(&counts->sleeps, 1, __ATOMIC_RELAXED);
+            nanosleep(&time, NULL);
+            sleep = 2 * sleep < longest ? 2 * sleep : longest;
+        } else {
+            if (counts) __atomic_fetch_add(&counts->waits, 1, __ATOMIC_RELAXED);
+            if (gz_range_pause(&turns)) sleep = shortest;
+        }
+    }
+}
+
+/* The same, and nothing is counted. */
+GZ_RANGE_MUST_CHECK
+static inline gz_range_answer gz_range_acquire_until(gz_range *handle, uint64_t lo, uint64_t hi, bool writer,
+                                                     const struct timespec *moment) {
+    return gz_range_acquire_until_counted(handle, lo, hi, writer, moment, NULL);
+}
+#endif
 
 #ifdef __cplusplus
 }

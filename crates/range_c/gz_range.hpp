@@ -2,7 +2,7 @@
 
    A `table` is one lock. It hands out its seats one by one, a seat to each thread, and a seat holds one range at a time:
    a try or a wait gives a `write_range` or a `read_range`, whose end gives the range back. Nothing here throws but the
-   constructor of a table, and that alone where exceptions are on.
+   constructor of a table and the calls of a lockable range, and those alone where exceptions are on.
 
        #include <gz_range.hpp>
        #include <cstdio>
@@ -29,18 +29,25 @@
    - To read a result that was refused ends the program by abort.
 
    What you owe, as in C: a seat and the range that it holds are used by one thread at a time, and so is a table; no call
-   is made in a signal handler, or in the forked child of a process that has threads.
+   is made in a signal handler, and in the forked child of a process that had threads none but forget() with what is from
+   before the fork.
 
    The calls of the archive are proved; this header isn't. */
 #ifndef GZ_RANGE_HPP
 #define GZ_RANGE_HPP
 
+#if __cplusplus < 201703L
+#error "gz_range.hpp: the header is for C++17 and later, as by -std=c++17; gz_range.h is for C++11 too"
+#endif
+
 #include "gz_range.h"
 
+#include <chrono>
 #include <cstdio>
 #include <cstdlib>
 #include <new>
 #include <optional>
+#include <thread>
 #include <utility>
 
 #ifdef __cpp_exceptions
@@ -54,9 +61,31 @@ struct refusal {
     gz_range_answer answer = GZ_RANGE_DONE;
     gz_busy busy = {};
 
-    const char *text() const noexcept { return gz_range_text(answer); }
-    bool may_retry() const noexcept { return gz_range_may_retry(answer); }
+    [[nodiscard]] const char *text() const noexcept { return gz_range_text(answer); }
+    [[nodiscard]] bool may_retry() const noexcept { return gz_range_may_retry(answer); }
 };
+
+#ifdef __cpp_exceptions
+/* What the constructor of a table throws, and a lockable range that can't be held. */
+class error : public std::runtime_error {
+  public:
+    explicit error(gz_range_answer answer) : std::runtime_error(gz_range_text(answer)), answer_(answer) {}
+    [[nodiscard]] gz_range_answer answer() const noexcept { return answer_; }
+
+  private:
+    gz_range_answer answer_;
+};
+#endif
+
+namespace detail {
+
+/* The end of a program that reads what isn't there, or where exceptions are off, of one that would see one. */
+[[noreturn]] inline void stop(const char *what, gz_range_answer answer) noexcept {
+    std::fprintf(stderr, "gz_range: %s: %s\n", what, gz_range_text(answer));
+    std::abort();
+}
+
+} // namespace detail
 
 /* What a call gives, or why it was refused; as std::expected of C++23. A result that was moved from has what its value
    is after a move. */
@@ -66,26 +95,27 @@ template <class T> class [[nodiscard]] result {
     result(refusal why) noexcept : why_(why) {}
     result(gz_range_answer answer) noexcept : why_{ answer, {} } {}
 
-    bool has_value() const noexcept { return value_.has_value(); }
+    [[nodiscard]] bool has_value() const noexcept { return value_.has_value(); }
     explicit operator bool() const noexcept { return has_value(); }
 
     /* The value. Where there is none the program ends by abort, with the answer's text on standard error. */
-    T &value() & noexcept { return *checked(); }
-    T &&value() && noexcept { return std::move(*checked()); }
-    T &operator*() & noexcept { return *checked(); }
-    T &&operator*() && noexcept { return std::move(*checked()); }
-    T *operator->() noexcept { return checked(); }
+    T &value() & noexcept { return checked(), *value_; }
+    const T &value() const & noexcept { return checked(), *value_; }
+    T &&value() && noexcept { return checked(), *std::move(value_); }
+    T &operator*() & noexcept { return value(); }
+    const T &operator*() const & noexcept { return value(); }
+    T &&operator*() && noexcept { return std::move(*this).value(); }
+    T *operator->() noexcept { return &value(); }
+    const T *operator->() const noexcept { return &value(); }
 
     /* Why there is no value; the answer is DONE where there is one. */
-    const refusal &error() const noexcept { return why_; }
-    gz_range_answer answer() const noexcept { return why_.answer; }
-    const char *text() const noexcept { return why_.text(); }
+    [[nodiscard]] const refusal &error() const noexcept { return why_; }
+    [[nodiscard]] gz_range_answer answer() const noexcept { return why_.answer; }
+    [[nodiscard]] const char *text() const noexcept { return why_.text(); }
 
   private:
-    T *checked() noexcept {
-        if (value_) return &*value_;
-        std::fprintf(stderr, "gz_range: the result of a refused call was read: %s\n", why_.text());
-        std::abort();
+    void checked() const noexcept {
+        if (!value_) detail::stop("the result of a refused call was read", why_.answer);
     }
 
     std::optional<T> value_;
@@ -110,6 +140,7 @@ struct place {
 
 class seat;
 class table;
+template <bool Writes> class lockable_range;
 
 /* A range that is held, as a writer or as a reader. Its end gives the range back. */
 template <bool Writes> class [[nodiscard]] held_range {
@@ -128,8 +159,8 @@ template <bool Writes> class [[nodiscard]] held_range {
     ~held_range() { release(); }
 
     /* The ends that were asked for; they stay when the range is given back. */
-    uint64_t lo() const noexcept { return lo_; }
-    uint64_t hi() const noexcept { return hi_; }
+    [[nodiscard]] uint64_t lo() const noexcept { return lo_; }
+    [[nodiscard]] uint64_t hi() const noexcept { return hi_; }
 
     /* Gives the range back before its scope ends.
        DONE; HAS_NONE where it was given back or moved from; IS_CLOSED where its seat is gone, which gave it back. */
@@ -160,17 +191,18 @@ using read_range = held_range<false>;
 class seat {
   public:
     seat() noexcept = default;
-    seat(seat &&from) noexcept : place_(std::exchange(from.place_, nullptr)) {}
+    seat(seat &&from) noexcept : place_(std::exchange(from.place_, nullptr)), counts_(from.counts_) {}
     seat &operator=(seat &&from) noexcept {
         if (this != &from) {
             close();
             place_ = std::exchange(from.place_, nullptr);
+            counts_ = from.counts_;
         }
         return *this;
     }
     ~seat() { close(); }
 
-    bool is_open() const noexcept { return place_ != nullptr; }
+    [[nodiscard]] bool is_open() const noexcept { return place_ != nullptr; }
 
     /* Each tries to hold the numbers from lo on and below hi, at most so many times: gz_range_try. */
     result<write_range> try_write(uint64_t lo, uint64_t hi, uint32_t tries = usual_tries) noexcept {
@@ -193,6 +225,26 @@ class seat {
     result<write_range> write(uint64_t lo, uint64_t hi) noexcept { return hold<true>(lo, hi); }
     result<read_range> read(uint64_t lo, uint64_t hi) noexcept { return hold<false>(lo, hi); }
 
+    /* The same, for so long at most, or until a moment, as try_lock_for and try_lock_until of std::timed_mutex. Each
+       tries at least once. Between two tries it waits as gz_range_acquire_until does, also asleep. Where the time is
+       over the error says why the last try was refused. */
+    template <class Rep, class Period>
+    result<write_range> try_write_for(uint64_t lo, uint64_t hi, const std::chrono::duration<Rep, Period> &time) {
+        return hold_until<true>(lo, hi, std::chrono::steady_clock::now() + time);
+    }
+    template <class Rep, class Period>
+    result<read_range> try_read_for(uint64_t lo, uint64_t hi, const std::chrono::duration<Rep, Period> &time) {
+        return hold_until<false>(lo, hi, std::chrono::steady_clock::now() + time);
+    }
+    template <class Clock, class Time>
+    result<write_range> try_write_until(uint64_t lo, uint64_t hi, const std::chrono::time_point<Clock, Time> &moment) {
+        return hold_until<true>(lo, hi, moment);
+    }
+    template <class Clock, class Time>
+    result<read_range> try_read_until(uint64_t lo, uint64_t hi, const std::chrono::time_point<Clock, Time> &moment) {
+        return hold_until<false>(lo, hi, moment);
+    }
+
     /* What the seat holds, with its number: gz_range_held. HAS_NONE where it holds nothing; the number is then in the
        error's busy. */
     result<gz_busy> held() noexcept {
@@ -201,6 +253,16 @@ class seat {
         if (answer != GZ_RANGE_DONE) return refusal{ answer, held };
         return held;
     }
+
+    /* What the lists of the table show, in the first `found` of so many places: gz_range_scan. */
+    gz_range_answer scan(gz_busy *ranges, size_t count, size_t &found) noexcept {
+        found = 0;
+        return place_ ? gz_range_scan(&place_->handle, ranges, count, &found) : GZ_RANGE_IS_CLOSED;
+    }
+
+    /* From now on what the seat's calls for a range meet is added to this, or to nothing: gz_range_counts. It has to be
+       there as long as the seat is. */
+    void count_in(gz_range_counts *counts) noexcept { counts_ = counts; }
 
     /* One more seat of the same table, where one is free: gz_range_share. */
     result<seat> share() noexcept {
@@ -237,14 +299,27 @@ class seat {
         detail::place *place = std::exchange(place_, nullptr);
         if (!place) return GZ_RANGE_IS_CLOSED;
         gz_range_answer answer = gz_range_close(&place->handle);
-        if (place->guarded) place->left = true;
-        else delete place;
+        leave(place);
         return answer;
+    }
+
+    /* Is closed, and leaves its table alone: gz_range_forget, for the child after a fork. */
+    void forget() noexcept {
+        detail::place *place = std::exchange(place_, nullptr);
+        if (!place) return;
+        gz_range_forget(&place->handle);
+        leave(place);
     }
 
   private:
     friend class table;
+    template <bool> friend class lockable_range;
     explicit seat(detail::place *place) noexcept : place_(place) {}
+
+    static void leave(detail::place *place) noexcept {
+        if (place->guarded) place->left = true;
+        else delete place;
+    }
 
     template <bool Writes> result<held_range<Writes>> try_hold(uint64_t lo, uint64_t hi, uint32_t tries) noexcept {
         uint32_t made;
@@ -263,13 +338,90 @@ class seat {
 
     template <bool Writes> result<held_range<Writes>> hold(uint64_t lo, uint64_t hi) noexcept {
         if (!place_) return GZ_RANGE_IS_CLOSED;
-        gz_range_answer answer = gz_range_acquire(&place_->handle, lo, hi, Writes);
+        gz_range_answer answer = gz_range_acquire_counted(&place_->handle, lo, hi, Writes, counts_);
         if (answer != GZ_RANGE_DONE) return answer;
         return held_range<Writes>(place_, lo, hi);
     }
 
+    template <bool Writes, class Clock, class Time>
+    result<held_range<Writes>> hold_until(uint64_t lo, uint64_t hi,
+                                          const std::chrono::time_point<Clock, Time> &moment) {
+        using std::chrono::microseconds;
+        uint32_t turns = 0;
+        microseconds sleep(0);
+        for (;;) {
+            auto held = try_hold<Writes>(lo, hi, 1);
+            gz_range_count(counts_, held.answer());
+            if (held || !held.error().may_retry()) return held;
+            auto left = moment - Clock::now();
+            if (left <= left.zero()) return held;
+            if (held.answer() == GZ_RANGE_AGAIN) continue;
+            if (sleep > sleep.zero()) {
+                if (counts_) __atomic_fetch_add(&counts_->sleeps, 1, __ATOMIC_RELAXED);
+                if (left < sleep) std::this_thread::sleep_for(left);
+                else std::this_thread::sleep_for(sleep);
+                sleep = sleep < microseconds(500) ? 2 * sleep : microseconds(1000);
+            } else {
+                if (counts_) __atomic_fetch_add(&counts_->waits, 1, __ATOMIC_RELAXED);
+                if (gz_range_pause(&turns)) sleep = microseconds(50);
+            }
+        }
+    }
+
     detail::place *place_ = nullptr;
+    gz_range_counts *counts_ = nullptr;
 };
+
+/* One range of a seat as std's locks take it, Lockable and TimedLockable: unique_lock, scoped_lock, lock_guard and
+   condition_variable_any work with it.
+
+       gz::lockable_write first_pages(seat, 0, 16);
+       std::scoped_lock held(first_pages);
+
+   Its seat stays where it is as long as the lockable is used. Two that are locked at once, as by one scoped_lock, are of
+   two seats, since a seat holds one range at a time; and if both are of one table, of ranges that aren't in conflict. A
+   call that no later try would help, as of a closed seat, of ends that bound no range, or of a seat that holds
+   another range, throws gz::error, or ends the program by abort where exceptions are off. */
+template <bool Writes> class lockable_range {
+  public:
+    lockable_range(seat &by, uint64_t lo, uint64_t hi) noexcept : by_(by), lo_(lo), hi_(hi) {}
+    lockable_range(const lockable_range &) = delete;
+    lockable_range &operator=(const lockable_range &) = delete;
+
+    void lock() { keep(by_.template hold<Writes>(lo_, hi_)); }
+    [[nodiscard]] bool try_lock() { return keep(by_.template try_hold<Writes>(lo_, hi_, usual_tries)); }
+    template <class Rep, class Period>
+    [[nodiscard]] bool try_lock_for(const std::chrono::duration<Rep, Period> &time) {
+        return try_lock_until(std::chrono::steady_clock::now() + time);
+    }
+    template <class Clock, class Time>
+    [[nodiscard]] bool try_lock_until(const std::chrono::time_point<Clock, Time> &moment) {
+        return keep(by_.template hold_until<Writes>(lo_, hi_, moment));
+    }
+    void unlock() noexcept { held_.reset(); }
+
+  private:
+    bool keep(result<held_range<Writes>> held) {
+        if (held) held_.emplace(*std::move(held));
+        else if (!held.error().may_retry()) refuse(held.answer());
+        return held.has_value();
+    }
+
+    [[noreturn]] static void refuse(gz_range_answer answer) {
+#ifdef __cpp_exceptions
+        throw error(answer);
+#else
+        detail::stop("a range can't be locked", answer);
+#endif
+    }
+
+    seat &by_;
+    uint64_t lo_, hi_;
+    std::optional<held_range<Writes>> held_;
+};
+
+using lockable_write = lockable_range<true>;
+using lockable_read = lockable_range<false>;
 
 /* Client words to open a table with: of an array, a std::vector or another row with data() and size(), or none. */
 class words {
@@ -284,18 +436,6 @@ class words {
     const uint64_t *first_ = nullptr;
     size_t count_ = 0;
 };
-
-#ifdef __cpp_exceptions
-/* What the constructor of a table throws. */
-class error : public std::runtime_error {
-  public:
-    explicit error(gz_range_answer answer) : std::runtime_error(gz_range_text(answer)), answer_(answer) {}
-    gz_range_answer answer() const noexcept { return answer_; }
-
-  private:
-    gz_range_answer answer_;
-};
-#endif
 
 /* A range lock, as it hands out its seats. It is used by one thread at a time, and may end before its seats: the lock
    itself is there as long as one seat is. A table that was moved from is closed. */
@@ -346,6 +486,12 @@ class table {
     gz_range_answer close() noexcept {
         took_last_ = false;
         return last_.close();
+    }
+
+    /* Is closed, and leaves the lock alone, as forget() of a seat does. */
+    void forget() noexcept {
+        took_last_ = false;
+        last_.forget();
     }
 
   private:

@@ -1,7 +1,6 @@
-mod AsBox
 mod Crossing
 mod Places
-mod Refusals
 mod Rows
+mod Shows
 mod Steps
 mod Tries

@@ -12,7 +12,8 @@ use Rattle.range_rw.specs.Contract.{IsSeatCount, AreNewSeatsIn, new_seat_in}
 use Rattle.range_c.specs.declared.answers.Answer.{Answer}
 use Rattle.range_c.specs.declared.answers.Answer.TheVariants.{BadCut}
 use Rattle.range_c.specs.Recording.{begun}
-use Rattle.range_c.specs.Behind.{Behind, RecordingSeat, IsNewBehindIn, IsNotOpened, IsNotCut, IsShared, IsSpareShared, IsFreeShared, cut_into}
+use Rattle.c_handles.specs.Asked.{cut_into}
+use Rattle.range_c.specs.Behind.{Behind, RecordingSeat, IsNewBehindIn, IsNotOpened, IsNotCut, IsShared, IsSpareShared, IsFreeShared}
 
 -- this is so of each element of the list, by its place
 abbrev pub AllAt : {A : Type 0} → (ℕ → A → Type 0) → List A → Type 0

@@ -15,7 +15,8 @@ use Rattle.range_rw.proofs.Asking.{asks_stay, asks_on}
 use Rattle.range_c.specs.declared.answers.Answer.{Answer}
 use Rattle.range_c.specs.declared.answers.Answer.TheVariants.{Done, Refused, NotTried, BadRange, HasOne}
 use Rattle.range_c.specs.Behind.{Behind, RecordingSeat, IsTrial, IsOneTry, IsGranted, IsRefused, AreRefused, IsTrialAnswer, IsTriedFor, IsTriedIn, most_steps}
-use Rattle.range_c.specs.Behind.{mode_for, asked}
+use Rattle.c_handles.specs.Asked.{mode_for}
+use Rattle.range_c.specs.Behind.{asked}
 
 -- what `range_rw` says of a try that was refused, put together
 pub refused_for : {T : Type 0} (r : Result T NotHeld) (seats : ℕ) (cut : Regions) (ask : Held) {entry after : RecordingSeat}

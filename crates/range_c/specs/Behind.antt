@@ -1,19 +1,18 @@
 -- What contracts see of what is behind a handle: its seat, how many seats are left to share, how many client words and
 -- seats the table has, and how the numbers are cut for its lists; and what each call answers and leaves of it. The
 -- causes of a refused try are those of `range_rw`; the answers are this project's own.
-use Rattle.std.specs.Prelude.{◌≡◌, ◌≢◌, ◌⊎◌, ℕ, zero, suc, ◌+◌, ◌*◌, ◌%◌, ◌<◌, ◌≤◌, ◌^◌, ◌↔◌, Bool, true, false}
+use Rattle.std.specs.Prelude.{◌≡◌, ◌≢◌, ◌⊎◌, ℕ, zero, suc, ◌+◌, ◌*◌, ◌%◌, ◌<◌, ◌≤◌, ◌^◌, ◌↔◌, Bool}
 use Rattle.std.specs.Prelude.{List, length, slice_index_or, Option, Some, None}
 use Rattle.atomic_table.specs.Seated.{TableId}
 use Rattle.list_cuts.specs.Cut.{Regions, IsCut, list_count}
 use Rattle.lock_core.specs.Client.{IsMade}
 use Rattle.lock_core.specs.Range.{Interval, IsRange}
 use Rattle.lock_core.specs.declared.range.Held.{Held}
-use Rattle.lock_core.specs.declared.range.Mode.{Mode}
-use Rattle.lock_core.specs.declared.range.Mode.TheVariants.{Reader, Writer}
 use Rattle.range_rw.specs.declared.refusals.NotHeld.{NotHeld}
 use Rattle.range_rw.specs.Contract.{SeatState, AsksOnly, IsSeatCount, IsLockCall, IsClientCall, IsRelease, IsCause, IsLongRefusal, IsReadyLeft, IsSpentIn}
 use Rattle.range_rw.specs.Contract.{KeepsOthers, StandsIn, TakesMany, TellsList, new_seat_in, pools_at, try_steps}
 use Rattle.range_rw.specs.Several.{TakesAlone}
+use Rattle.c_handles.specs.Asked.{cut_into, mode_for}
 use Rattle.range_c.specs.declared.answers.Answer.{Answer}
 use Rattle.range_c.specs.declared.answers.Answer.TheVariants.{Done, Refused, NotTried, BadRange, HasOne, HasNone, Memory, Seats, Words, NoneLeft, NoWord, Other}
 use Rattle.range_c.specs.declared.answers.Answer.TheVariants.{BadCut}
@@ -35,20 +34,6 @@ pub record Behind : Type 0 where
   pub seats : ℕ
   pub cut : Regions
 
--- a handle is open
-abbrev pub IsOpen : Option Behind → Type 0
-IsOpen h = (b : Behind) × (h ≡ Some b)
-
--- the flag of a handle
-abbrev pub flag_of : Option Behind → ℕ
-flag_of None = 0
-flag_of (Some b) = 1
-
--- the mode that a flag means: true is a writer's
-abbrev pub mode_for : Bool → Mode
-mode_for false = Reader
-mode_for true = Writer
-
 -- what is behind a new handle of a new table over a cut: the seat of the highest number, which holds nothing and knows
 -- that the client words were these at the opening, and the others
 pub record IsNewBehindIn (cut : Regions) (seats : ℕ) (client : List ℕ) (b : Behind) : Type 0 where
@@ -59,10 +44,6 @@ pub record IsNewBehindIn (cut : Regions) (seats : ℕ) (client : List ℕ) (b : 
   pub words : b.words ≡ length client
   pub table_seats : b.seats ≡ seats
   pub table_cut : b.cut ≡ cut
-
--- the cut into so many regions, in blocks of 2^bits numbers
-abbrev pub cut_into : ℕ → ℕ → Regions
-cut_into regions bits = record { count = regions; bits = bits }
 
 -- the same of a table of one region, which has one list
 abbrev pub IsNewBehind : ℕ → List ℕ → Behind → Type 0

@@ -2,10 +2,10 @@
 //! gives its code, and one that gives what C is shown of a range in conflict. `specs/Codes.antt` has the same numbers
 //! as definitions; a reader may rely on no two answers having one code, so a code tells its cause.
 ghost use Rattle.std.specs.Prelude.{◌≡◌};
-ghost use Rattle.range_c.specs.Codes.{code_of, refusal_code, shown_of, shown_in};
+ghost use Rattle.range_c.specs.Codes.{code_of, refusal_code, scan_code, shown_by, shown_of, shown_in};
 
 use lock_core::Mode;
-use range_rw::NotHeld;
+use range_rw::{NotHeld, Scanned};
 
 /// What a call came to.
 #[derive(Drop)]
@@ -40,10 +40,12 @@ pub enum Answer {
     Other,
     /// The two numbers make no cut: there is no region or more than 16, or a block has more than 2^62 numbers.
     BadCut,
+    /// What the last call of a scan came to.
+    Ended(Scanned),
 }
 
-/// A range of a seat, as C reads it: that of another seat which refused a try, all 0 where no try was refused so; or
-/// the one that a handle holds.
+/// A range of a seat, as C reads it: that of another seat which refused a try, all 0 where no try was refused so; the
+/// one that a handle holds; or one that a scan went past.
 #[repr(C)]
 #[derive(Clone, Copy, Drop)]
 pub struct GzBusy {
@@ -66,6 +68,33 @@ fn refusal(why: &NotHeld) -> u32
         NotHeld::Again { .. } => 2,
         NotHeld::Long { .. } => 3,
         NotHeld::NoNode { .. } => 4,
+    }
+}
+
+/// The code of what the last call of a scan came to. A node for which there is no place is the reason to stop.
+fn ended(last: &Scanned) -> u32
+    ensures { result ≡ scan_code last.now }
+{
+    match last {
+        Scanned::End => 0,
+        Scanned::Again { .. } => 2,
+        Scanned::Long { .. } => 3,
+        Scanned::Found { .. } => 18,
+    }
+}
+
+/// What C is shown of the node that a call of a scan went past, if it went past one.
+pub(crate) fn node_of(answer: &Scanned) -> Option<GzBusy>
+    ensures { result ≡ shown_by answer.now }
+{
+    match answer {
+        Scanned::Found { owner, range, mode } => Some(GzBusy {
+            lo: range.lo(),
+            hi: range.hi(),
+            owner: *owner,
+            writer: *mode == Mode::Writer,
+        }),
+        _ => None,
     }
 }
 
@@ -113,6 +142,7 @@ impl Answer {
             Answer::NoWord => 15,
             Answer::Other => 16,
             Answer::BadCut => 17,
+            Answer::Ended(last) => ended(last),
         }
     }
 

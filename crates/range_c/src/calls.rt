@@ -1,14 +1,15 @@
 //! The calls on a handle: where it is open, what is behind it is taken out, worked with and put back. A reader may rely
 //! on a closed handle being told and left as it is.
 ghost use Rattle.std.specs.Prelude.{◌≡◌, Some, IfOk, IfErr};
-ghost use Rattle.range_c.specs.Behind.{IsOpen, IsTried, IsReleased, IsShared, IsNotShared};
-ghost use Rattle.range_c.specs.Calls.{Between, OnHandle, OnLook, OnTries, OnWord};
+ghost use Rattle.c_handles.specs.Handles.{Between, IsOpen};
+ghost use Rattle.range_c.specs.Behind.{IsTried, IsReleased, IsShared, IsNotShared};
+ghost use Rattle.range_c.specs.Calls.{OnHandle, OnLook, OnScan, OnTries, OnWord};
 
 use crate::answers::{Answer, GzBusy, NOTHING};
 use crate::handle::GzRange;
 use crate::recording::WordStep;
 use crate::state::{Asked, State};
-use core::mem::replace_with;
+use core::mem::{forget, replace, replace_with};
 use std::alloc::Global;
 
 fn try_behind(handle: GzRange, asked: Asked) -> (GzRange, (Answer, u32))
@@ -68,6 +69,26 @@ pub(crate) fn look_by(handle: &mut GzRange) -> (Answer, GzBusy)
         return (Answer::Closed, NOTHING);
     }
     replace_with(handle, (), look_behind)
+}
+
+/// Shows the ranges that a scan went past, and says how many. Meanwhile a closed handle is in the place of the handle.
+pub(crate) fn scan_by(handle: &mut GzRange, next: GzRange, ranges: &mut [GzBusy]) -> (Answer, usize)
+    ensures scanned { OnScan next.pointer.behind ranges.old ranges.new result.1 result.0 handle.old.pointer.behind handle.new.pointer.behind }
+{
+    if next.is_open() {
+        forget(next.into_box());
+        return (Answer::Open, 0);
+    }
+    let was = replace(handle, next);
+    if !was.is_open() {
+        was.forget();
+        return (Answer::Closed, 0);
+    }
+    let mut b = was.into_box();
+    let scanned = b.scan(ranges);
+    let closed = replace(handle, GzRange::over(b));
+    closed.forget();
+    scanned
 }
 
 /// A step on the client word of a number, counted from 0, and what is to be told where it finds no value.

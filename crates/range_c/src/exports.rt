@@ -2,21 +2,22 @@
 //! may rely on a handle staying as it was, and on nothing else being written, where the answer is a refusal.
 ghost use Rattle.std.specs.Prelude.{◌≡◌, ◌<◌, ◌*◌, ◌==◌, ℕ, Some, None, length, min};
 ghost use Rattle.word_rows.specs.declared.backoff.TheConstants.{LONGEST_WAIT};
+ghost use Rattle.c_handles.specs.Asked.{wait_of};
 ghost use Rattle.range_c.specs.declared.recording.WordStep.TheVariants.{Load, Store, Add, Exchange};
 ghost use Rattle.range_c.specs.Behind.{IsTried, IsReleased};
 ghost use Rattle.range_c.specs.Codes.{Says, shown_of};
-ghost use Rattle.range_c.specs.Calls.{OnHandle, OnLook, OnTries, OnWord, IsFresh, IsFreshCut, IsOpenRefusal, IsCutRefusal};
-ghost use Rattle.range_c.specs.Calls.{HandleShared, IsShareRefusal, IsEnd, wait_of};
+ghost use Rattle.range_c.specs.Calls.{OnHandle, OnLook, OnScan, OnTries, OnWord, IsFresh, IsFreshCut, IsOpenRefusal, IsCutRefusal};
+ghost use Rattle.range_c.specs.Calls.{HandleShared, IsShareRefusal, IsEnd};
 
 use crate::answers::{Answer, GzBusy};
-use crate::calls::{WordCall, look_by, release_by, share_by, step_by, try_by};
+use crate::calls::{WordCall, look_by, release_by, scan_by, share_by, step_by, try_by};
 use crate::handle::GzRange;
 use crate::opening::{end, open_regions, open_table};
 use crate::recording::WordStep;
 use crate::state::{Asked, State};
+use c_handles::pause;
 use core::mem::{forget, replace};
 use std::alloc::Global;
-use word_rows::Backoff;
 
 /// Puts an open handle over a box in the place of a closed one.
 fn open_over(handle: &mut GzRange, b: Box<State, Global>)
@@ -168,6 +169,24 @@ pub extern "C" fn gz_range_held(handle: &mut GzRange, held: &mut GzBusy) -> u32
     answer.code()
 }
 
+/// Scans the lists of the handle's table, and writes the ranges that it went past, held or asked for, from the first
+/// place of `ranges` on; `found` is how many. The handle is open and holds nothing, and `next` is a closed one, which
+/// stands in its place meanwhile.
+#[unsafe(no_mangle)]
+pub extern "C" fn gz_range_scan_into(
+    handle: &mut GzRange,
+    next: GzRange,
+    ranges: &mut [GzBusy],
+    found: &mut usize,
+) -> u32
+    ensures scanned { Says (λ answer. OnScan next.pointer.behind ranges.old ranges.new found.new answer
+        handle.old.pointer.behind handle.new.pointer.behind) result }
+{
+    let (answer, count) = scan_by(handle, next, ranges);
+    *found = count;
+    answer.code()
+}
+
 /// Loads client word `i`, counted from 0, into `value`.
 #[unsafe(no_mangle)]
 pub extern "C" fn gz_range_load(handle: &mut GzRange, i: u32, value: &mut u64) -> u32
@@ -246,10 +265,7 @@ pub extern "C" fn gz_range_pause(turns: &mut u32) -> bool
     ensures longer { turns.new ≡ min (2 * wait_of turns.old) LONGEST_WAIT }
     ensures longest { result ≡ (wait_of turns.old == LONGEST_WAIT) }
 {
-    let mut backoff = Backoff::of(*turns);
-    let longest = backoff.pause();
-    *turns = backoff.turns();
-    longest
+    pause(turns)
 }
 
 /// Puts a closed handle in the place of a handle, and ends what that was: gives back what it held, then its seat and

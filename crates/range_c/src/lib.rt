@@ -8,7 +8,7 @@ mod calls;
 mod exports;
 mod handle;
 mod opening;
-mod parts;
 mod recording;
 mod shelf;
+mod showing;
 mod state;

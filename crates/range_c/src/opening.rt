@@ -5,7 +5,9 @@ ghost use Rattle.std.specs.Prelude.{◌≡◌, ◌+◌, ◌<◌, ◌≤◌, ◌^
 ghost use Rattle.std.specs.List.{All};
 ghost use Rattle.list_cuts.specs.Cut.{IsCut, list_count};
 ghost use Rattle.range_rw.specs.Contract.{AreNewSeatsIn};
-ghost use Rattle.range_c.specs.Behind.{IsNewBehind, IsNewBehindIn, IsNotOpened, IsNotCut, IsShared, IsNotShared, IsSeatFor, IsSpareShared, IsFreeShared, IsPlaceOf, cut_into};
+ghost use Rattle.c_handles.specs.Asked.{cut_into};
+ghost use Rattle.range_c.specs.Behind.{IsNewBehind, IsNewBehindIn, IsNotOpened, IsNotCut, IsPlaceOf};
+ghost use Rattle.range_c.specs.Behind.{IsShared, IsNotShared, IsSeatFor, IsSpareShared, IsFreeShared};
 ghost use Rattle.range_c.specs.Recording.{begun};
 
 use crate::answers::Answer;

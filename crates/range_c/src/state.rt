@@ -2,11 +2,14 @@
 //! call of C's is a method here. A reader may rely on all the seats being of that table, and on those that are left to
 //! share being as they were at the opening.
 ghost use Rattle.std.specs.Prelude.{◌≡◌, None, IfOk, IfErr};
-ghost use Rattle.range_c.specs.Behind.{IsTried, IsTriedIn, IsReleased, IsStepped, IsTrial, IsGranted, IsRefused, IsTrialAnswer, IsLooked, mode_for};
+ghost use Rattle.range_c.specs.Behind.{IsTried, IsTriedIn, IsReleased, IsStepped, IsTrial, IsGranted, IsRefused, IsTrialAnswer, IsLooked};
+ghost use Rattle.range_c.specs.Shown.{IsScanned};
 
 use crate::answers::{Answer, GzBusy, NOTHING};
 use crate::recording::{Recording, WordStep};
 use crate::shelf::Shelf;
+use crate::showing::show_all;
+use c_handles::mode_of;
 use lock_core::{Mode, Range};
 use range_rw::{NotHeld, RangeTable, Seat};
 use std::alloc::Global;
@@ -66,13 +69,6 @@ pub(crate) struct Asked {
     pub(crate) hi: u64,
     pub(crate) writer: bool,
     pub(crate) tries: u32,
-}
-
-/// The mode that C's flag means.
-fn mode_of(writer: bool) -> Mode
-    ensures { result ≡ mode_for writer }
-{
-    if writer { Mode::Writer } else { Mode::Reader }
 }
 
 /// Waits before the next try, where one is to come and another seat has to move first. After a lost exchange none has
@@ -169,6 +165,18 @@ impl State {
             }
             None => (Answer::HasNone, GzBusy { owner, ..NOTHING }),
         }
+    }
+
+    /// Shows the ranges that a scan of the table's lists went past, and says how many. The seat holds nothing, or it is
+    /// told.
+    pub(crate) fn scan(&mut self, ranges: &mut [GzBusy]) -> (Answer, usize)
+        ensures scanned { IsScanned ranges.old ranges.new result.1 result.0 self.old self.new }
+    {
+        if self.lock.table.held(&self.seat).is_some() {
+            return (Answer::HasOne, 0);
+        }
+        let (last, found) = show_all(&self.lock.table, &mut self.seat, ranges);
+        (Answer::Ended(last), found)
     }
 
     /// Makes a step on client word `i`, counted from 0, and returns what a load, an addition or an exchange found.

@@ -1,6 +1,7 @@
 use Rattle.std.proofs.Common.{rules, ◌≡◌, None}
 use Rattle.lock_core.specs.Range.{IsRange}
-use Rattle.range_c.specs.Behind.{IsTriedIn, mode_for}
+use Rattle.c_handles.specs.Asked.{mode_for}
+use Rattle.range_c.specs.Behind.{IsTriedIn}
 use Rattle.range_c.proofs.Tries.{tried_for}
 use Rattle.range_c.proofs.state.State.try_asked.Goals as goal
 

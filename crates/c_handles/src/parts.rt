@@ -1,6 +1,6 @@
 //! A box with its pointer in sight. A box goes into its parts and comes back out of them, and what it owns goes along;
-//! a reader may rely on the value staying the same both ways. These two functions and the casts of `handle` are the
-//! only ones here that are proved step by step.
+//! a reader may rely on the value staying the same both ways. A crate whose handles C has casts that pointer to one
+//! that names nothing, and back; these casts and the two functions here are proved step by step.
 ghost use Rattle.std.specs.Prelude.{◌≡◌};
 ghost use Rattle.std.specs.Box.Ownership.{box_owns};
 
@@ -8,10 +8,12 @@ use std::alloc::Allocator;
 use std::marker::Model;
 
 /// What a box is made of: the pointer to its value, and the allocator that has the value's memory.
-pub(crate) struct Parts<T, A: Allocator> {
-    pub(crate) ptr: *mut T,
-    pub(crate) alloc: A,
-    pub(crate) ghost value: { T },
+pub struct Parts<T, A: Allocator> {
+    /// The pointer to the value.
+    pub ptr: *mut T,
+    /// The allocator that has its memory.
+    pub alloc: A,
+    pub ghost value: { T },
 }
 
 impl<T, A: Allocator> Model for Parts<T, A> {
@@ -20,7 +22,7 @@ impl<T, A: Allocator> Model for Parts<T, A> {
 
 impl<T, A: Allocator> Parts<T, A> {
     /// Takes a box apart.
-    pub(crate) fn of(b: Box<T, A>) -> Parts<T, A>
+    pub fn of(b: Box<T, A>) -> Parts<T, A>
     where
         T: Drop,
         ensures { result.value ≡ b.value }
@@ -30,7 +32,7 @@ impl<T, A: Allocator> Parts<T, A> {
     }
 
     /// Puts the box together again.
-    pub(crate) fn into_box(self) -> Box<T, A>
+    pub fn into_box(self) -> Box<T, A>
         ensures { result.value ≡ self.value }
     {
         let Parts { ptr, alloc } = self;
