@@ -49,8 +49,8 @@
      call takes one of these pages, unless both are faults that aren't alone. This isn't proved of your memory: it rests
      on each step of the library being sequentially consistent, and on a compiler that moves no access across a call.
    - No call sleeps, and none takes a lock but in malloc and free. The calls that are written in this header wait
-     without a bound, by trying again; gz_space_try and gz_space_try_fault pause a bounded number of turns. That a call
-     which waits ever returns isn't claimed. Only open, share and close call the allocator, and only the first two can
+     without a bound, by trying again; the three that try once pause a bounded number of turns. That a call which waits
+     ever returns isn't claimed. Only open, share and close call the allocator, and only the first two can
      fail for want of memory.
    - A space takes some 2.1 MB, written at its opening, and each caller 1 MB that is reserved and mostly not touched;
      for a moment the opening takes some 8.4 MB. It is that much at once since no call may fail later for want of
@@ -87,8 +87,8 @@
 /* The version of this header and its archive: 100 for each step of the first number, 1 for each of the second. The
    second rises when calls, names or causes of a refusal are added; the first, which the shared object's name has too,
    when a program for the version before may no longer compile, or may mean something else. */
-#define GZ_SPACE_VERSION 102
-#define GZ_SPACE_VERSION_TEXT "1.2.0"
+#define GZ_SPACE_VERSION 103
+#define GZ_SPACE_VERSION_TEXT "1.3.0"
 
 #ifdef __GNUC__
 #define GZ_SPACE_NONNULL __attribute__((nonnull))
@@ -138,7 +138,7 @@ typedef struct gz_space {
 #define GZ_SPACE_MAYMOVE 1
 
 /* What a call returns. Each call's comment names its answers. Only after LATER and AT_ONCE may the same call do better,
-   which the calls that wait see to. The example space_answers.c meets each answer but LATER, AT_ONCE and SPENT. */
+   which the calls that wait see to. The example space_answers.c meets each answer but LATER and SPENT. */
 typedef enum gz_space_answer {
     GZ_SPACE_DONE = 0,         /* the call did what it is for; the space's answer is in `reply` */
     GZ_SPACE_LATER = 1,        /* another caller has a page that this try needs, or work of others is in its way */
@@ -151,7 +151,7 @@ typedef enum gz_space_answer {
     GZ_SPACE_BAD_CALLERS = 8,  /* the number of callers is 0 or above GZ_SPACE_MOST_CALLERS */
     GZ_SPACE_BAD_CUT = 9,      /* there are 0 regions or more than 16, or a block has more than 2^62 pages */
     GZ_SPACE_NONE_LEFT = 10,   /* the handle has no caller left to share */
-    GZ_SPACE_BAD_CALL = 11,    /* a kind, a protection, a flag or an access is none of those above */
+    GZ_SPACE_BAD_CALL = 11,    /* a kind, a protection, a flag or an access isn't above; pages are too high or none */
     GZ_SPACE_SPENT = 12        /* this caller has made 2^56 calls */
 } gz_space_answer;
 
@@ -218,11 +218,32 @@ typedef struct gz_space_range {
     uint32_t writer; /* 1 as a writer: nobody else holds one of the pages; 0 as a reader, of a fault that isn't alone */
 } gz_space_range;
 
+/* Pages by their numbers, counted from 0: from lo on and below hi. */
+typedef struct gz_space_pages {
+    uint64_t lo, hi;
+} gz_space_pages;
+
+/* The area at a page: the longest run of pages round it that are mapped alike. All 0 where the page isn't mapped. */
+typedef struct gz_space_mapping {
+    uint64_t lo, hi; /* its pages, counted from 0: from lo on and below hi */
+    uint32_t prot;   /* what may be done with each: any of READ, WRITE and EXEC */
+    uint32_t shared; /* 1 if they were mapped as SHARED */
+    uint32_t sealed; /* 1 if they are sealed */
+    uint32_t mapped; /* 1, and 0 where the page isn't mapped */
+} gz_space_mapping;
+
+/* How many areas there are, and how many pages they have together. */
+typedef struct gz_space_counts {
+    uint64_t areas, pages;
+} gz_space_counts;
+
 GZ_SPACE_ASSERT(sizeof(gz_space) == 16 && sizeof(void *) == 8, "a handle is two words");
 GZ_SPACE_ASSERT(sizeof(gz_space_answer) == 4, "an answer is a uint32_t");
 GZ_SPACE_ASSERT(sizeof(gz_space_call) == 48 && offsetof(gz_space_call, addr) == 16, "a call is six words");
 GZ_SPACE_ASSERT(sizeof(gz_space_reply) == 32 && offsetof(gz_space_reply, at) == 24, "a reply is four words");
 GZ_SPACE_ASSERT(sizeof(gz_space_range) == 24 && offsetof(gz_space_range, caller) == 16, "a range is three words");
+GZ_SPACE_ASSERT(sizeof(gz_space_mapping) == 32 && offsetof(gz_space_mapping, mapped) == 28, "an area is four words");
+GZ_SPACE_ASSERT(sizeof(gz_space_counts) == 16, "counts are two words");
 
 /* The answer in words, for messages; it never comes back NULL. */
 static inline const char *gz_space_text(gz_space_answer answer) {
@@ -238,7 +259,7 @@ static inline const char *gz_space_text(gz_space_answer answer) {
     case GZ_SPACE_BAD_CALLERS: return "the number of callers isn't from 1 to 16";
     case GZ_SPACE_BAD_CUT: return "the numbers make no cut into regions";
     case GZ_SPACE_NONE_LEFT: return "no caller is left to share";
-    case GZ_SPACE_BAD_CALL: return "a kind, a protection, a flag or an access has no name";
+    case GZ_SPACE_BAD_CALL: return "a kind, a protection, a flag or an access has no name, or a page is too high";
     case GZ_SPACE_SPENT: return "the caller has made 2^56 calls";
     }
     return "no answer of the address space";
@@ -290,6 +311,35 @@ gz_space_answer gz_space_try(gz_space *handle, const gz_space_call *call, uint32
 GZ_SPACE_MUST_CHECK
 gz_space_answer gz_space_try_fault(gz_space *handle, uint64_t addr, uint32_t access, bool alone, bool keep,
                                    gz_space_reply *reply);
+
+/* One look for the area at a page, by its number below GZ_SPACE_LIMIT. It holds pages as a reader, reads, and gives
+   them back: those of `around` if the page is one of them and all are below GZ_SPACE_LIMIT, and else the page alone. An
+   area has its exact ends only under pages that are held past both; so a look that finds more than it holds is answered
+   AT_ONCE, with the pages for the next look in `around`. *round and *around are 0 before the first look for a page, and
+   each look writes what the next one is to be given. It pauses as gz_space_try_fault does, and where it holds pages of
+   several regions, after 16 that were answered LATER, as gz_space_try. It isn't a call of the space's history.
+   DONE, with the area at one moment of the look in *area, all 0 if the page wasn't mapped then. Or the first of
+   IS_CLOSED, BAD_CALL (the page), HOLDS that applies, with the handle, *round and *around as they were. Or LATER, after
+   which to wait before the next look, or AT_ONCE, after which not to. *area is all 0 after each answer but DONE.
+   The thread that has the handle. */
+GZ_SPACE_MUST_CHECK
+gz_space_answer gz_space_try_area(gz_space *handle, uint64_t page, uint32_t *round, gz_space_pages *around,
+                                  gz_space_mapping *area);
+
+/* One look for the areas of the pages from lo on and below hi, by their numbers, each clipped to these pages. It holds
+   all of them at once as a reader, reads, and gives them back, or with `keep` goes on holding them: then the areas stay
+   what they are until gz_space_done, while faults that aren't alone go on. `areas` has room for so many: the first ones
+   are put there in order, and what isn't needed stays as it was. *counts has how many areas there are, whatever the
+   room, and how many pages they have together; so a room that is too small is told. It takes no memory. *round is 0
+   before the first look for a span. It pauses as gz_space_try_area does. It isn't a call of the space's history.
+   DONE, with the areas and counts of one moment of the look. Or the first of IS_CLOSED, BAD_CALL (lo isn't below hi, or
+   hi is above GZ_SPACE_LIMIT), HOLDS that applies, with the handle and *round as they were. Or LATER, after which to
+   wait before the next look, or AT_ONCE, after which not to, with nothing held. After each answer but DONE *counts is
+   all 0, and `areas` as it was.
+   The thread that has the handle. */
+GZ_SPACE_MUST_CHECK
+gz_space_answer gz_space_try_areas(gz_space *handle, uint64_t lo, uint64_t hi, uint32_t *round, bool keep,
+                                   gz_space_mapping *areas, size_t room, gz_space_counts *counts);
 
 /* Gives back the pages that a held call goes on holding.
    DONE, and nothing is held; IS_CLOSED or HOLDS_NONE, with the handle as it was. HOLDS_NONE comes also after a held
@@ -368,6 +418,27 @@ static inline gz_space_answer gz_space_try_fault_told(gz_space *handle, uint64_t
     return answer;
 }
 
+GZ_SPACE_MUST_CHECK
+static inline gz_space_answer gz_space_try_area_told(gz_space *handle, uint64_t page, uint32_t *round,
+                                                     gz_space_pages *around, gz_space_mapping *area) {
+    bool named = around->lo <= page && page < around->hi && around->hi <= GZ_SPACE_LIMIT;
+    uint64_t lo = named ? around->lo : page, hi = named ? around->hi : page + 1;
+    gz_space_tell_before(lo, hi);
+    gz_space_answer answer = gz_space_try_area(handle, page, round, around, area);
+    if (answer == GZ_SPACE_DONE) gz_space_tell_after(lo, hi);
+    return answer;
+}
+
+GZ_SPACE_MUST_CHECK
+static inline gz_space_answer gz_space_try_areas_told(gz_space *handle, uint64_t lo, uint64_t hi, uint32_t *round,
+                                                      bool keep, gz_space_mapping *areas, size_t room,
+                                                      gz_space_counts *counts) {
+    gz_space_tell_before(lo, hi);
+    gz_space_answer answer = gz_space_try_areas(handle, lo, hi, round, keep, areas, room, counts);
+    if (answer == GZ_SPACE_DONE) gz_space_tell_after(lo, hi);
+    return answer;
+}
+
 GZ_SPACE_NONNULL
 static inline gz_space_answer gz_space_done_told(gz_space *handle) {
     gz_space_tell_release(handle);
@@ -382,6 +453,8 @@ static inline gz_space_answer gz_space_end_told(gz_space *handle, gz_space next)
 
 #define gz_space_try gz_space_try_told
 #define gz_space_try_fault gz_space_try_fault_told
+#define gz_space_try_area gz_space_try_area_told
+#define gz_space_try_areas gz_space_try_areas_told
 #define gz_space_done gz_space_done_told
 #define gz_space_end gz_space_end_told
 #endif
@@ -544,6 +617,55 @@ GZ_SPACE_MUST_CHECK
 static inline gz_space_answer gz_space_fault_held(gz_space *handle, uint64_t addr, uint32_t access, bool alone,
                                                   gz_space_reply *reply) {
     return gz_space_fault_by(handle, addr, access, alone, true, reply);
+}
+
+/* The area of the byte at addr, with its exact ends, as it is at one moment of the call: gz_space_try_area until it is
+   DONE. It holds pages as a reader: faults that aren't alone run beside it, and all other calls wait. Nothing is held
+   afterwards. While others change the area's ends it may look again and again.
+   DONE, with the area in *area, all 0 if the page isn't mapped; IS_CLOSED, BAD_CALL for an address at or above page
+   GZ_SPACE_LIMIT, or HOLDS at once, with the handle as it was and *area all 0.
+   The thread that has the handle. */
+GZ_SPACE_MUST_CHECK
+static inline gz_space_answer gz_space_area(gz_space *handle, uint64_t addr, gz_space_mapping *area) {
+    uint32_t round = 0, turns = 0;
+    gz_space_pages around = { 0, 0 };
+    gz_space_answer answer;
+    do answer = gz_space_try_area(handle, addr / GZ_SPACE_PAGE, &round, &around, area);
+    while (gz_space_again(answer, &turns));
+    return answer;
+}
+
+/* The areas of the pages from lo on and below hi, each clipped to them, as they are at one moment of the call:
+   gz_space_try_areas until it is DONE; 0 and GZ_SPACE_LIMIT are all pages. gz_space_areas_held goes on holding these
+   pages as a reader, so that the areas stay what they are until gz_space_done, as for a copy of the pages.
+   gz_space_count has no room: it counts alone.
+   DONE, with the first areas in `areas`, as many as have room, and how many there are in counts->areas: where that is
+   more than `room`, the others may be had by another call, at another moment. IS_CLOSED, BAD_CALL or HOLDS at once,
+   with the handle as it was, *counts all 0 and `areas` as it was.
+   The thread that has the handle. */
+GZ_SPACE_MUST_CHECK
+static inline gz_space_answer gz_space_areas_by(gz_space *handle, uint64_t lo, uint64_t hi, bool keep,
+                                                gz_space_mapping *areas, size_t room, gz_space_counts *counts) {
+    uint32_t round = 0, turns = 0;
+    gz_space_answer answer;
+    do answer = gz_space_try_areas(handle, lo, hi, &round, keep, areas, room, counts);
+    while (gz_space_again(answer, &turns));
+    return answer;
+}
+GZ_SPACE_MUST_CHECK
+static inline gz_space_answer gz_space_areas(gz_space *handle, uint64_t lo, uint64_t hi, gz_space_mapping *areas,
+                                             size_t room, gz_space_counts *counts) {
+    return gz_space_areas_by(handle, lo, hi, false, areas, room, counts);
+}
+GZ_SPACE_MUST_CHECK
+static inline gz_space_answer gz_space_areas_held(gz_space *handle, uint64_t lo, uint64_t hi, gz_space_mapping *areas,
+                                                  size_t room, gz_space_counts *counts) {
+    return gz_space_areas_by(handle, lo, hi, true, areas, room, counts);
+}
+GZ_SPACE_MUST_CHECK
+static inline gz_space_answer gz_space_count(gz_space *handle, uint64_t lo, uint64_t hi, gz_space_counts *counts) {
+    gz_space_mapping none;
+    return gz_space_areas_by(handle, lo, hi, false, &none, 0, counts);
 }
 
 #ifdef __cplusplus

@@ -2,7 +2,7 @@
 
    A `space` hands out its callers one by one, a caller to each thread. Each call of a caller gives a `reply`, which
    says what the call came to; a held one gives a `held_reply`, whose end gives the pages back. Nothing here throws but
-   the constructor of a space, and that alone where exceptions are on.
+   the constructor of a space, where exceptions are on, and a vector that grows.
 
        #include <gz_space.hpp>
        #include <cstdio>
@@ -39,8 +39,13 @@
 #ifndef GZ_SPACE_HPP
 #define GZ_SPACE_HPP
 
+#if __cplusplus < 201703L
+#error "gz_space.hpp: the header is for C++17 and later, as by -std=c++17; gz_space.h is for C++11 too"
+#endif
+
 #include "gz_space.h"
 
+#include <cstddef>
 #include <new>
 #include <utility>
 
@@ -59,6 +64,24 @@ struct [[nodiscard]] reply {
     explicit operator bool() const noexcept {
         return said.kind == GZ_SPACE_ADDRESS || said.kind == GZ_SPACE_ZERO || said.kind == GZ_SPACE_GRANTED;
     }
+};
+
+/* What a look for an area came to: what it returned, and the area, which is all 0 unless that is DONE and the page is
+   mapped. As a condition it is true where there is an area. */
+struct [[nodiscard]] area_reply {
+    gz_space_answer answer = GZ_SPACE_IS_CLOSED;
+    gz_space_mapping found = {};
+
+    explicit operator bool() const noexcept { return found.mapped != 0; }
+};
+
+/* What a look for the areas of a span came to: what it returned, and how many areas there are, with their pages, which
+   is all 0 unless that is DONE. As a condition it is true where it is DONE. */
+struct [[nodiscard]] areas_reply {
+    gz_space_answer answer = GZ_SPACE_IS_CLOSED;
+    gz_space_counts counts = {};
+
+    explicit operator bool() const noexcept { return answer == GZ_SPACE_DONE; }
 };
 
 namespace detail {
@@ -171,6 +194,40 @@ class caller {
         return guarded(fault_by(addr, access, alone, true));
     }
     held_reply make_held(const gz_space_call &call) noexcept { return guarded(make_by(call, true)); }
+
+    /* The area of the byte at addr, with its exact ends, at one moment: gz_space_area. */
+    area_reply area(uint64_t addr) noexcept {
+        area_reply came;
+        if (place_) came.answer = gz_space_area(&place_->handle, addr, &came.found);
+        return came;
+    }
+
+    /* The areas of the pages from lo on and below hi, by their numbers, clipped to them, at one moment: gz_space_areas.
+       The first go to `areas`, as far as there is room; the counts are of all. */
+    areas_reply areas(uint64_t lo, uint64_t hi, gz_space_mapping *areas, size_t room) noexcept {
+        areas_reply came;
+        if (place_) came.answer = gz_space_areas(&place_->handle, lo, hi, areas, room, &came.counts);
+        return came;
+    }
+
+    /* The same with all areas in a vector, in place of what it had, by as many looks as it takes: the areas are those
+       of the last one. What its resize throws goes through; nothing is held then. It is empty unless the answer is
+       DONE. */
+    template <class Vector> areas_reply areas(uint64_t lo, uint64_t hi, Vector &into) {
+        areas_reply came;
+        into.resize(into.capacity() > 0 ? into.capacity() : 1);
+        while ((came = areas(lo, hi, into.data(), into.size())) && came.counts.areas > into.size())
+            into.resize(static_cast<size_t>(came.counts.areas));
+        into.resize(static_cast<size_t>(came.counts.areas));
+        return came;
+    }
+
+    /* How many areas they have, and how many pages are mapped: gz_space_count. */
+    areas_reply count(uint64_t lo, uint64_t hi) noexcept {
+        areas_reply came;
+        if (place_) came.answer = gz_space_count(&place_->handle, lo, hi, &came.counts);
+        return came;
+    }
 
     /* What the caller holds, with its number, in `held`: gz_space_held. */
     gz_space_answer held(gz_space_range &held) const noexcept {

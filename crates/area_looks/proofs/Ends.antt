@@ -65,6 +65,12 @@ pub shows_free : (seat : SeatState Pass) (wide : Span) (held : Option Held) (pag
 shows_free seat wide held page row shows is kind_is from until first last start history state words m =
     (shows start history state words m).kind page (in_span wide held page is first last) from until ∙ kind_is
 
+-- what a look came to is told from before what came before it
+pub found_on : {a b : SeatState Pass} (wide : Span) (page : ℕ) (found : Found) → HasSeenSame a b → IsFound b page wide found → IsFound a page wide found
+found_on wide page Free same is = was_on same is
+found_on wide page (Whole area) same is = was_on same is
+found_on wide page (Wider span) same is = is
+
 -- what a look behind others came to is told from before all of them
 pub found_last : (a b : SeatState Pass) (wide : Span) (page : ℕ) (found : Found) → HasSeenSame a b → IsFound b page wide found → IsLast a page found
 found_last a b wide page Free same is = (wide, was_on same is)

@@ -1,3 +1,4 @@
 mod Stretches
 mod Showing
 mod Ends
+mod Putting

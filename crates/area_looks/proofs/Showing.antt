@@ -43,7 +43,6 @@ same_twice a b c f g = record {
   count = g.count ∙ f.count;
   cut = g.cut ∙ f.cut;
   more = g.more ∙ f.more;
-  gap = g.gap ∙ f.gap;
   change = g.change ∙ f.change;
 }
 
@@ -53,7 +52,7 @@ pub reads_none : (c : CallerView) (span : Span) (page : ℕ) (list : List Area) 
 reads_none c span page list wide at none = record {
   reading = no_reading c.seat;
   left = refl;
-  same = record { count = refl; cut = refl; more = refl; gap = refl; change = refl };
+  same = record { count = refl; cut = refl; more = refl; change = refl };
   from = omega arith;
   until = omega arith;
   shows = λ start history state words m. subst (λ (z : ℕ × List Area). AreRead span.lo span.hi z.0 0 z.1 state) (λ i. (sym at i, sym none i))
@@ -108,23 +107,27 @@ part_shown before after span list read = (read.0, read.1, λ start history state
 pub seen_same : {a b : SeatState Pass} → IsReading a b → HasSeenSame a b
 seen_same r = record { table = r.table; number = r.number; start = r.start; seen = r.seen; mine = r.mine; looks = r.looks }
 
+-- what is shown by what was read under a held range was so at the moment of a step behind that
+pub seen_here : (b r : SeatState Pass) (held : Option Held) (what : List Area → Type 0) → b.held ≡ held → IsReading b r → HasMoment r
+    → Shows r (λ words state. what state) → WasSeen b held what
+seen_here b r held what is reading m shows = record {
+  seat = r;
+  same = seen_same reading;
+  holds = reading.held ∙ is;
+  history = m.history;
+  state = m.state;
+  words = m.words;
+  moment = m.moment;
+  more = subst (λ (seen : List Entry). StartsWith m.history seen) reading.seen m.more;
+  shows = shows;
+  so = shows r.pass.start m.history m.state m.words m.moment;
+}
+
 -- so they were at the moment of a step behind them
 pub all_were : (before after : CallerView) (span : Span) (list : List Area) → HasReadAll before span list after → HasMoment after.seat
     → WasSeen before.seat before.seat.held (AreAreasIn span.lo span.hi list)
 all_were before after span list read m =
-    let shown = all_shown before after span list read in
-    record {
-      seat = after.seat;
-      same = seen_same read.1.reading;
-      holds = read.1.reading.held;
-      history = m.history;
-      state = m.state;
-      words = m.words;
-      moment = m.moment;
-      more = subst (λ (seen : List Entry). StartsWith m.history seen) read.1.reading.seen m.more;
-      shows = shown;
-      so = shown after.seat.pass.start m.history m.state m.words m.moment;
-    }
+    seen_here before.seat after.seat before.seat.held (AreAreasIn span.lo span.hi list) refl read.1.reading m (all_shown before after span list read)
 
 -- and they are an area list
 pub read_list : (before after : CallerView) (span : Span) (page rows made : ℕ) (list : List Area) → HasReadTo before span page rows made list after
@@ -217,32 +220,6 @@ back_same r left rest = record {
   left = left;
   rest = ap (λ (p : Pass). p.pending) r.pass ∙ rest;
 }
-
--- what is shown by what was read under a range that was taken was so at the moment of a step behind that
-pub was_seen : (a b r : SeatState Pass) (held : Option Held) (what : List Area → Type 0) → IsLockCall a b → b.held ≡ held → IsReading b r → HasMoment r
-    → Shows r (λ words state. what state) → WasSeen a held what
-was_seen a b r held what lock is reading m shows =
-    let l = lock_same lock in
-    let same : HasSeenSame a r = record {
-      table = reading.table ∙ l.table;
-      number = reading.number ∙ l.number;
-      start = reading.start ∙ l.start;
-      seen = reading.seen ∙ l.seen;
-      mine = reading.mine ∙ l.mine;
-      looks = reading.looks ∙ l.looks;
-    } in
-    record {
-      seat = r;
-      same = same;
-      holds = reading.held ∙ is;
-      history = m.history;
-      state = m.state;
-      words = m.words;
-      moment = m.moment;
-      more = subst (λ (seen : List Entry). StartsWith m.history seen) same.seen m.more;
-      shows = shows;
-      so = shows r.pass.start m.history m.state m.words m.moment;
-    }
 
 -- rows that were read up to some page, with at most one more
 pub record IsSomeRead (before : CallerView) (span : Span) (list : List Area) (after : CallerView) : Type 0 where

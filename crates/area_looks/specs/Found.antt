@@ -1,5 +1,5 @@
--- What one look at a page comes to, while pages round it are held. Only private functions speak of this; what callers
--- see is `IsAreaAt` of `Shown`.
+-- What one look at a page comes to, while pages round it are held, and what the last of several does. Of these
+-- `IsFound` is what a caller that waits by itself sees of a round.
 use Rattle.std.specs.Prelude.{ℕ, ◌<◌, ◌≤◌, Some, None}
 use Rattle.page_types.specs.declared.pages.Span.{Span}
 use Rattle.lock_core.specs.declared.range.Mode.TheVariants.{Reader}

@@ -5,9 +5,13 @@
 #![tactic(auto)]
 
 mod at;
+mod counted;
 mod held;
+mod told;
 mod waiting;
 
-pub use at::area_at;
+pub use at::{Found, area_at, area_round};
+pub use counted::{counts, fill_held, fill_round};
 pub use held::areas_held;
+pub use told::{Counts, Told};
 pub use waiting::{areas, hold_areas};

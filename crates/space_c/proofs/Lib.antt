@@ -1,5 +1,5 @@
-mod AsBox
 mod Crossing
+mod Filling
+mod Looking
 mod Making
 mod News
-mod Refusals

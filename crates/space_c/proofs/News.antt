@@ -15,7 +15,8 @@ use Rattle.area_guard.specs.Rows.{blocks_by, keeps_by}
 use Rattle.area_rows.specs.Callers.{CallerView, AreNewCallersIn, new_pass}
 use Rattle.space_c.specs.declared.answers.Answer.{Answer}
 use Rattle.space_c.specs.declared.answers.Answer.TheVariants.{BadCut, Callers, Memory}
-use Rattle.space_c.specs.Behind.{AreNewCallers, Behind, IsNewBehind, IsNewOf, IsNotCounted, IsNotOpened, IsShared, cut_into, new_caller}
+use Rattle.c_handles.specs.Asked.{cut_into}
+use Rattle.space_c.specs.Behind.{AreNewCallers, Behind, IsNewBehind, IsNewOf, IsNotCounted, IsNotOpened, IsShared, new_caller}
 
 -- the caller of a number, by the calls that it may make and whether its space keeps its history
 abbrev pub caller_with : ℕ → TableId → ℕ → ℕ → Bool → CallerView
@@ -25,7 +26,6 @@ caller_with lists table k calls keeps = record {
   count = 0;
   cut = record { at = record { block = 0; place = 0 }; gone = 0 };
   more = [];
-  gap = 0;
   change = None;
 }
 

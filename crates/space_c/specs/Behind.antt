@@ -8,8 +8,6 @@ use Rattle.atomic_table.specs.Seated.{TableId}
 use Rattle.list_cuts.specs.Cut.{Regions, IsCut, TakesTwo, list_count}
 use Rattle.word_rows.specs.declared.backoff.TheConstants.{REFUSED_ROUNDS, KEPT_LOOKS}
 use Rattle.lock_core.specs.declared.range.Held.{Held}
-use Rattle.lock_core.specs.declared.range.Mode.{Mode}
-use Rattle.lock_core.specs.declared.range.Mode.TheVariants.{Reader, Writer}
 use Rattle.page_types.specs.declared.calls.Call.{Call}
 use Rattle.page_types.specs.declared.calls.Reply.{Reply}
 use Rattle.page_types.specs.PlainReply.{plain_reply}
@@ -33,15 +31,6 @@ pub record Behind : Type 0 where
   pub callers : ℕ
   pub cut : Regions
 
--- a handle is open
-abbrev pub IsOpen : Option Behind → Type 0
-IsOpen h = (b : Behind) × (h ≡ Some b)
-
--- the flag of a handle
-abbrev pub flag_of : Option Behind → ℕ
-flag_of None = 0
-flag_of (Some b) = 1
-
 -- the caller of a number when an empty space that keeps no history is opened, over so many lists: it has made no call,
 -- and may make 2^56
 abbrev pub new_caller : ℕ → TableId → ℕ → CallerView
@@ -51,7 +40,6 @@ new_caller lists table k = record {
   count = 0;
   cut = record { at = record { block = 0; place = 0 }; gone = 0 };
   more = [];
-  gap = 0;
   change = None;
 }
 
@@ -66,10 +54,6 @@ pub record IsNewBehind (cut : Regions) (callers : ℕ) (b : Behind) : Type 0 whe
   pub caller : b.caller ≡ new_caller (list_count cut) b.caller.seat.table b.spare
   pub all : b.callers ≡ callers
   pub regions : b.cut ≡ cut
-
--- the cut into so many regions, in blocks of 2^bits pages
-abbrev pub cut_into : ℕ → ℕ → Regions
-cut_into regions bits = record { count = regions; bits = bits }
 
 -- why no space was opened: the two numbers make no cut, or they do and the callers are too few or many, or memory was
 -- short
@@ -187,11 +171,6 @@ IsTried asked wanted keep refused shown Later before after = (before.caller.seat
 IsTried asked wanted keep refused shown AtOnce before after = (before.caller.seat.held ≡ None) × (call : Call) × (asked ≡ Some call)
     × (shown ≡ nothing_shown) × IsRefusedRound before.cut wanted call refused before.caller after.caller × WithCaller before after
 IsTried asked wanted keep refused shown _ before after = ⊥
-
--- the mode that a flag means: true is a writer's
-abbrev pub mode_for : Bool → Mode
-mode_for false = Reader
-mode_for true = Writer
 
 -- what a giving back answers and leaves
 abbrev pub IsGiven : Answer → Behind → Behind → Type 0

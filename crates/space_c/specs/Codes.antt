@@ -1,8 +1,9 @@
 -- The numbers by which answers go to C, and how many rounds of a call were refused before its next one. They are this
 -- project's own, and `gz_space.h` has the same numbers as an enum. No two answers have one code. Those after which a
 -- call is made again come first.
-use Rattle.std.specs.Prelude.{◌≡◌, ◌+◌, ℕ, nat_lt, if◌then◌else◌}
+use Rattle.std.specs.Prelude.{◌+◌, ℕ, nat_lt, if◌then◌else◌}
 use Rattle.word_rows.specs.declared.backoff.TheConstants.{REFUSED_ROUNDS}
+use Rattle.c_handles.specs.Handles.{SaysBy}
 use Rattle.space_c.specs.declared.answers.Answer.{Answer}
 use Rattle.space_c.specs.declared.answers.Answer.TheVariants.{Done, Later, AtOnce, Holds, HasNone, Closed, Open, Memory, Callers, BadCut, NoneLeft}
 use Rattle.space_c.specs.declared.answers.Answer.TheVariants.{BadCall, Spent}
@@ -25,7 +26,7 @@ code_of Spent = 12
 
 -- a code is that of an answer of which this holds
 abbrev pub Says : (Answer → Type 0) → ℕ → Type 0
-Says Of code = (answer : Answer) × (code ≡ code_of answer) × Of answer
+Says Of code = SaysBy code_of Of code
 
 -- how many rounds of a call were refused since its last one with further looks, once it was answered, by how many were
 -- before; none once it is done. Where it isn't made again the number stays

@@ -30,7 +30,7 @@ pub enum Answer {
     BadCut,
     /// All callers of the handle's space that it could share have been shared.
     NoneLeft,
-    /// There is no such call, or a bit of it has no name.
+    /// There is no such call, a bit of it has no name, or there is no such page.
     BadCall,
     /// The handle's caller has made 2^56 calls.
     Spent,

@@ -5,8 +5,9 @@ ghost use Rattle.page_types.specs.Classes.{IsFault};
 ghost use Rattle.page_types.specs.Named.{IsNamedCall};
 ghost use Rattle.area_guard.specs.Reads.{everything};
 ghost use Rattle.page_fault.specs.Faults.{page_held_as};
-ghost use Rattle.space_c.specs.Behind.{IsGiven, IsNotShared, IsOpen, IsShared, IsTried};
-ghost use Rattle.space_c.specs.Calls.{Between, OnHandle, OnLook, OnTry};
+ghost use Rattle.c_handles.specs.Handles.{Between, IsOpen};
+ghost use Rattle.space_c.specs.Behind.{IsGiven, IsNotShared, IsShared, IsTried};
+ghost use Rattle.space_c.specs.Calls.{OnHandle, OnLook, OnTry};
 ghost use Rattle.space_c.specs.Shown.{fault_from};
 
 use crate::answers::Answer;

@@ -5,21 +5,26 @@ ghost use Rattle.std.specs.Prelude.{◌≡◌, ◌<◌, ◌*◌, ◌==◌, None,
 ghost use Rattle.word_rows.specs.declared.backoff.TheConstants.{LONGEST_WAIT};
 ghost use Rattle.area_guard.specs.Reads.{everything};
 ghost use Rattle.page_fault.specs.Faults.{page_held_as};
-ghost use Rattle.space_c.specs.Behind.{IsGiven, mode_for};
+ghost use Rattle.c_handles.specs.Asked.{mode_for, wait_of};
+ghost use Rattle.space_c.specs.Behind.{IsGiven};
 ghost use Rattle.space_c.specs.Codes.{Says, round_after};
-ghost use Rattle.space_c.specs.Calls.{HandleShared, IsEnd, IsFresh, IsOpenRefusal, IsShareRefusal, OnHandle, OnLook, OnTry, wait_of};
+ghost use Rattle.space_c.specs.Calls.{HandleShared, IsEnd, IsFresh, IsOpenRefusal, IsShareRefusal, OnHandle, OnLook, OnTry};
+ghost use Rattle.space_c.specs.Looks.{OnArea};
 ghost use Rattle.space_c.specs.Shown.{access_from, call_from, fault_from};
+ghost use Rattle.space_c.specs.Spans.{OnAreas};
 
 use crate::answers::Answer;
+use crate::areas::{GzCounts, SpanAsked, areas_by};
 use crate::asked::{GzCall, access_of, call_of};
 use crate::calls::{CallAsked, FaultAsked, call_by, fault_by, give_by, look_by, share_by};
 use crate::handle::GzSpace;
+use crate::looks::{AreaAsked, GzArea, GzSpan, area_by};
 use crate::opening::{end, open_space};
 use crate::shown::{GzHeld, GzReply};
-use crate::state::{State, mode_of};
+use crate::state::State;
+use c_handles::{mode_of, pause};
 use core::mem::{forget, replace};
 use std::alloc::Global;
-use word_rows::Backoff;
 
 /// Puts an open handle over a box in the place of a closed one.
 fn open_over(handle: &mut GzSpace, b: Box<State, Global>)
@@ -130,6 +135,66 @@ pub extern "C" fn gz_space_try_fault(
     answer.code()
 }
 
+/// Looks once for the area at a page, with its exact ends, at a moment of the look. It asks once, as a reader, for the
+/// pages `around` where the page is one of them, and else for the page alone; `around` becomes what the next look is to
+/// be given, and so does `round`, which is 0 before a page's first look. `area` is all 0 after each answer but DONE,
+/// and after that too where the page isn't mapped. Nothing is held afterwards.
+#[unsafe(no_mangle)]
+pub extern "C" fn gz_space_try_area(
+    handle: &mut GzSpace,
+    page: u64,
+    round: &mut u32,
+    around: &mut GzSpan,
+    area: &mut GzArea,
+) -> u32
+    ensures looked { Says (λ answer. (round.new ≡ round_after answer round.old)
+        × OnArea page around.old round.old around.new area.new answer handle.old.pointer.behind handle.new.pointer.behind) result }
+{
+    let refused = *round;
+    let asked = AreaAsked {
+        page,
+        named: *around,
+        refused,
+    };
+    let (answer, (next, shown)) = area_by(handle, asked);
+    *around = next;
+    *area = shown;
+    *round = answer.round_after(refused);
+    answer.code()
+}
+
+/// Looks once for the areas of the pages from `lo` on and below `hi`, each clipped to them, at a moment of the look. It
+/// asks once for all these pages as a reader, and then gives them back, or with `keep` goes on holding them. `areas`
+/// are places for the first of the areas; those that it doesn't need stay, and so do all after each answer but DONE.
+/// `counts` has how many areas there are, with their pages, whatever the places; all 0 after each answer but DONE.
+/// `round` is 0 before a span's first look, and becomes what the next one is to be given.
+#[unsafe(no_mangle)]
+pub extern "C" fn gz_space_try_areas(
+    handle: &mut GzSpace,
+    lo: u64,
+    hi: u64,
+    round: &mut u32,
+    keep: bool,
+    areas: &mut [GzArea],
+    counts: &mut GzCounts,
+) -> u32
+    ensures looked { Says (λ answer. (round.new ≡ round_after answer round.old)
+        × OnAreas (record { lo = lo; hi = hi; refused = round.old; keep = keep }) areas.old areas.new counts.new answer
+        handle.old.pointer.behind handle.new.pointer.behind) result }
+{
+    let refused = *round;
+    let asked = SpanAsked {
+        lo,
+        hi,
+        refused,
+        keep,
+    };
+    let (answer, shown) = areas_by(handle, asked, areas);
+    *counts = shown;
+    *round = answer.round_after(refused);
+    answer.code()
+}
+
 /// Gives the pages back that the handle holds.
 #[unsafe(no_mangle)]
 pub extern "C" fn gz_space_done(handle: &mut GzSpace) -> u32
@@ -157,10 +222,7 @@ pub extern "C" fn gz_space_pause(turns: &mut u32) -> bool
     ensures longer { turns.new ≡ min (2 * wait_of turns.old) LONGEST_WAIT }
     ensures longest { result ≡ (wait_of turns.old == LONGEST_WAIT) }
 {
-    let mut backoff = Backoff::of(*turns);
-    let longest = backoff.pause();
-    *turns = backoff.turns();
-    longest
+    pause(turns)
 }
 
 /// Puts a closed handle in the place of a handle, and ends what that was: gives back what it held, and lets its caller

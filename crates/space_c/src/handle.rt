@@ -2,11 +2,12 @@
 //! anything. Only C makes a closed handle, by writing zeros; a call opens it and puts back what it took out. A reader
 //! may rely on the flag: a handle whose flag is set owns the box of an owner of a space with one caller.
 ghost use Rattle.std.specs.Prelude.{◌≡◌, Some, None, Option, true, false};
-ghost use Rattle.space_c.specs.Behind.{Behind, IsOpen, flag_of};
-ghost use Rattle.space_c.specs.Handles.{handle_owns, behind_coded};
+ghost use Rattle.c_handles.specs.Handles.{IsOpen, behind_coded, flag_of, handle_owns};
+ghost use Rattle.space_c.specs.Behind.{Behind};
+ghost use Rattle.space_c.specs.contracts.state.State.{the_row};
 
-use crate::parts::Parts;
 use crate::state::State;
+use c_handles::Parts;
 use std::alloc::Global;
 use std::marker::Model;
 
@@ -15,11 +16,11 @@ use std::marker::Model;
 pub struct Pointer {
     at: *mut u8,
     alloc: Global,
-    pub ghost behind: { Option Behind } by { behind_coded },
+    pub ghost behind: { Option Behind } by { behind_coded the_row },
 }
 
 impl Model for Pointer {
-    ghost also_owns = { λ h. handle_owns h.alloc h.at h.behind };
+    ghost also_owns = { λ h. handle_owns the_row h.alloc h.at h.behind };
 }
 
 impl Pointer {
@@ -34,7 +35,7 @@ impl Pointer {
     }
 
     fn into_parts(self) -> Parts<State, Global>
-        requires { (s : Behind) × (self.behind ≡ Some s) }
+        requires { IsOpen self.behind }
         ensures { self.behind ≡ Some result.value }
     {
         let Pointer { at, alloc } = self;

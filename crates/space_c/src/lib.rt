@@ -5,12 +5,13 @@
 #![tactic(auto)]
 
 mod answers;
+mod areas;
 mod asked;
 mod calls;
 mod exports;
 mod handle;
+mod looks;
 mod opening;
-mod parts;
 mod rounds;
 mod shown;
 mod state;

@@ -5,7 +5,8 @@ ghost use Rattle.list_cuts.specs.Cut.{IsCut, list_count};
 ghost use Rattle.range_rw.specs.Contract.{IsSeatCount};
 ghost use Rattle.area_guard.specs.Rows.{keeps_by};
 ghost use Rattle.area_rows.specs.Callers.{AreNewCallersIn};
-ghost use Rattle.space_c.specs.Behind.{IsNewBehind, IsNotCounted, IsNotOpened, IsNotShared, IsShared, IsNewOf, cut_into};
+ghost use Rattle.c_handles.specs.Asked.{cut_into};
+ghost use Rattle.space_c.specs.Behind.{IsNewBehind, IsNotCounted, IsNotOpened, IsNotShared, IsShared, IsNewOf};
 ghost use Rattle.space_c.specs.declared.answers.Answer.TheVariants.{Memory};
 
 use crate::answers::Answer;

@@ -52,7 +52,7 @@ pub(crate) const NOTHING: GzReply = GzReply {
     at: 0,
 };
 
-fn bit_for(flag: bool) -> u32
+pub(crate) fn bit_for(flag: bool) -> u32
     ensures { result ≡ bit_of flag }
 {
     if flag { 1 } else { 0 }

@@ -7,7 +7,7 @@ ghost use Rattle.page_types.specs.Named.{IsNamedCall};
 ghost use Rattle.page_types.specs.declared.calls.Call.TheVariants.{Fault};
 ghost use Rattle.area_guard.specs.Reads.{everything};
 ghost use Rattle.page_fault.specs.Faults.{page_held_as};
-ghost use Rattle.space_c.specs.Behind.{IsBarred, IsGiven, IsLooked, IsMade, IsRefusedRound, IsTried, WithCaller, answer_of, mode_for, shown_of};
+ghost use Rattle.space_c.specs.Behind.{IsBarred, IsGiven, IsLooked, IsMade, IsRefusedRound, IsTried, WithCaller, answer_of, shown_of};
 ghost use Rattle.space_c.specs.Shown.{fault_from};
 
 use crate::answers::Answer;
@@ -44,13 +44,6 @@ impl Model for State {
 
     ghost invariant = { λ s. (s.caller.seat.table ≡ (arc_value s.space).table) × (keeps_by s.caller.seat.table ≡ false) × IsAtRest s.caller.seat.pass
         × AreNewCallers (list_count (arc_value s.space).cut) (arc_value s.space).table s.spare.items };
-}
-
-/// The mode that C's flag means.
-pub(crate) fn mode_of(writer: bool) -> Mode
-    ensures { result ≡ mode_for writer }
-{
-    if writer { Mode::Writer } else { Mode::Reader }
 }
 
 /// What a round came to, as an answer and as C is shown it.

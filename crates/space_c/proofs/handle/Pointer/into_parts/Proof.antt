@@ -20,18 +20,26 @@ use Rattle.std.specs.Prelude.{◌≡◌, Option, Some}
 use Rattle.space_c.specs.Behind.{Behind}
 use Rattle.space_c.specs.contracts.handle.Pointer as Handle
 use denote.Exit.{yes}
-use denote.Signature.{type_at}
+use denote.Signature.{Slot, plain, type_at}
 use denote.Steps.{heard, nothing}
 use denote.Triple.Spec.{triple_of}
 use denote.Triple.Table.{entered}
 use denote.Triple.Walked.{says, Stays, stay_dropped, walk_of, ends_at, Goes-dropped, walk_Meets}
-use Rattle.std_alloc.proofs.BoxSteps.Form.{D, word, box_typed}
+use Rattle.std_alloc.proofs.BoxSteps.Form.{Bx, D, word, box_typed}
 use Rattle.std_alloc.proofs.BoxSteps.Steps.{box_out, box_in}
-use Rattle.space_c.proofs.AsBox.{E, FromSeal as From}
+use Rattle.c_handles.proofs.AsBox.{boxed}
+use Rattle.space_c.specs.contracts.state.State as State
+use Rattle.space_c.proofs.state.State.TheLaws as state
 use Rattle.space_c.specs.contracts.handle.Pointer.into_parts as F
 use Rattle.space_c.specs.contracts.handle.Pointer.into_parts.Key.{name as #self}
 use Rattle.space_c.proofs.handle.Pointer.into_parts.Statement as stated
 use Rattle.space_c.proofs.handle.Pointer.into_parts.Code as code
+
+abbrev E : Bx
+E = boxed State.the_row state.the_row_laws
+
+abbrev From : Slot 0
+From = plain (λ _. Handle.the_row)
 
 abbrev stayed : Stays (F.ended).signature.params (F.ended).kept
 stayed = (stay_dropped From yes, tt)

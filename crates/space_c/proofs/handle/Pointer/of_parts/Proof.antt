@@ -18,18 +18,26 @@ use types.Run.{stop, fld, no_more, and_then, of_opd, returns, enter}
 use types.ByLocal.{alloc_all, pass_all, free_all, look_at, get, get_in, sets}
 use Rattle.std.specs.Prelude.{Some}
 use denote.Exit.{yes}
-use denote.Signature.{type_at}
+use denote.Signature.{Slot, type_at}
 use denote.Steps.{nothing}
 use denote.Triple.Spec.{triple_of}
 use denote.Triple.Table.{entered}
 use denote.Triple.Walked.{says, Stays, stay_dropped, walk_of, ends_at, Goes-dropped, walk_Meets}
-use Rattle.std_alloc.proofs.BoxSteps.Form.{D, B, word, box_typed}
+use Rattle.std_alloc.proofs.BoxSteps.Form.{Bx, D, B, word, box_typed}
 use Rattle.std_alloc.proofs.BoxSteps.Steps.{box_out, box_in}
-use Rattle.space_c.proofs.AsBox.{E, FromParts as From}
+use Rattle.c_handles.proofs.AsBox.{boxed, FromParts}
+use Rattle.space_c.specs.contracts.state.State as State
+use Rattle.space_c.proofs.state.State.TheLaws as state
 use Rattle.space_c.specs.contracts.handle.Pointer.of_parts as F
 use Rattle.space_c.specs.contracts.handle.Pointer.of_parts.Key.{name as #self}
 use Rattle.space_c.proofs.handle.Pointer.of_parts.Statement as stated
 use Rattle.space_c.proofs.handle.Pointer.of_parts.Code as code
+
+abbrev E : Bx
+E = boxed State.the_row state.the_row_laws
+
+abbrev From : Slot 0
+From = FromParts State.the_row
 
 abbrev stayed : Stays (F.ended).signature.params (F.ended).kept
 stayed = (stay_dropped From yes, tt)

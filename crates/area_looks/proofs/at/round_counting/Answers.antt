@@ -1,0 +1,7 @@
+use Rattle.area_looks.proofs.Ends.{found_on}
+use Rattle.area_looks.proofs.Showing.{lock_same}
+use Rattle.area_looks.proofs.at.round_counting.Goals as goal
+
+-- what the held pages show is told from before they were held
+pub returns-in-Ok-clause-found : goal.returns-in-Ok-clause-found
+returns-in-Ok-clause-found g c = found_on c.args.wide c.args.page c.look_under.result (lock_same c.acquire_round.ensures.call) c.look_under.ensures.found
