@@ -3,6 +3,7 @@ use Rattle.std.proofs.Common.{◌≡◌, ◌≤◌, Bool, [], ◌∷◌, ◌++�
 use Rattle.raw_trace.specs.declared.fault.Trouble.{Trouble}
 use Rattle.raw_trace.specs.declared.fault.Fault.TheVariants.{Unreadable, LongLine, NoProcess, Memory}
 use Rattle.raw_trace.specs.declared.writing.Written.{Written}
+use Rattle.raw_trace.specs.Heaps.{shown}
 use Rattle.raw_trace.specs.Order.{Entry}
 use Rattle.raw_trace.specs.Rewriting.{text_of, counted_entry, calls_after}
 use Rattle.raw_trace.specs.Stages.{MayBeWritten, WroteLines}
@@ -16,6 +17,6 @@ may_read strict e l n NoProcess h = h
 may_read strict e l n Memory h = h
 
 -- one entry was written
-pub wrote_entry : (strict : Bool) (e : Entry) (old new : Written) → new.out.items ≡ old.out.items ++ text_of (e.line ∷ [])
+pub wrote_entry : (strict : Bool) (e : Entry) (old new : Written) → new.out.items ≡ old.out.items ++ text_of ((shown old.calls e).line ∷ [])
     → new.counts ≡ counted_entry e old.counts → new.calls ≡ calls_after old.calls (e ∷ []) → MayBeWritten strict e → WroteLines strict old (e ∷ []) new
 wrote_entry strict e old new o c n m = record { out = o; counts = c; calls = n; may = (m, tt) }

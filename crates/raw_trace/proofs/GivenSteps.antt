@@ -10,11 +10,11 @@ use Rattle.raw_trace.specs.Faults.{IsFirstFault}
 use Rattle.raw_trace.specs.Order.{Entry, Step, frees_for, does, order}
 use Rattle.raw_trace.specs.Places.{ReadText, IsReadText, IsStep, AreSteps}
 use Rattle.raw_trace.specs.declared.tally.Tally.{Tally}
-use Rattle.raw_trace.specs.Rewriting.{text_of, lines_as, counted_all, no_calls, calls_after}
+use Rattle.raw_trace.specs.Rewriting.{text_of, lines_as, counted_all, no_calls, calls_after, shown_all}
 use Rattle.raw_trace.specs.Stages.{fed_by, EachEntry, MayBeWritten, WroteDue, EndsDue, WroteAll, EndsAll, DidSome, StandsAt, AreRoles}
 use Rattle.raw_trace.proofs.EachEntries.{each_both}
 use Rattle.raw_trace.proofs.OneFault.{first_more, first_behind}
-use Rattle.raw_trace.proofs.Turns.{text_both, counted_both, calls_both}
+use Rattle.raw_trace.proofs.Turns.{text_behind, counted_both, calls_both}
 use Rattle.raw_trace.proofs.TextPlaces.{RoleAt, reads_count}
 
 -- ---- a step more
@@ -78,7 +78,7 @@ did_more strict lines place counts old new d role x step is did =
           ap (λ (z : List Step). order frees_for [] z) (append_assoc d.steps (step ∷ []) more) ∙ d.follows (step ∷ more)
           ∙ ap (λ (z : List Entry). d.written ++ (found.lines ++ order frees_for z more)) (sym did.waits)
           ∙ sym (append_assoc d.written found.lines (order frees_for new.waiting more));
-      out = did.wrote.out ∙ ap (λ (z : List ℕ). z ++ text_of (lines_as found.lines)) d.out ∙ sym (text_both d.written found.lines);
+      out = text_behind no_calls old.written.calls d.written found.lines [] old.written.out.items new.written.out.items d.out d.calls did.wrote.out;
       sum = did.wrote.counts ∙ ap (λ (z : Counts). counted_all z found.lines) d.sum ∙ sym (counted_both counts d.written found.lines);
       calls = did.wrote.calls ∙ ap (λ (z : Tally). calls_after z found.lines) d.calls ∙ sym (calls_both no_calls d.written found.lines);
       may = each_both (MayBeWritten strict) d.written found.lines d.may did.wrote.may;
@@ -122,7 +122,7 @@ did_all strict lines place counts now w l = by w.later refl
           reads = subst (λ (x : List ReadText). Each IsReadText lines x) texts w.reads;
           steps = w.steps;
           are = subst (λ (x : List ReadText). AreSteps [] w.fed x w.steps) e w.are;
-          out = w.out ∙ ap (λ (x : List Entry). text_of (lines_as x)) (sym o);
+          out = w.out ∙ ap (λ (x : List Entry). text_of (lines_as (shown_all no_calls x))) (sym o);
           sum = w.sum ∙ ap (λ (x : List Entry). counted_all counts x) (sym o);
           calls = w.calls ∙ ap (λ (x : List Entry). calls_after no_calls x) (sym o);
           may = subst (EachEntry (MayBeWritten strict)) (sym o) w.may;

@@ -5,6 +5,7 @@ mod FoundHalves
 mod GivenSteps
 mod GoodLines
 mod GoodTexts
+mod HeapLines
 mod JoinedLines
 mod LineCalls
 mod OneFault

@@ -1,5 +1,5 @@
 -- What is written is read as the calls of its entries, and no line of it is refused or half of a call.
-use Rattle.std.proofs.Common.{◌≡◌, ℕ, List, [], ◌∷◌, ◌++◌, codes, Bool, Option, Some, None, refl, sym, ap, subst, ◌∙◌, inl, inr, arith}
+use Rattle.std.proofs.Common.{◌≡◌, ℕ, List, [], ◌∷◌, ◌++◌, ◌^◌, ◌<◌, codes, Bool, Option, Some, None, refl, sym, ap, subst, ◌∙◌, inl, inr, arith}
 use Rattle.std.specs.Prelude.{option_to_list}
 use Rattle.page_types.specs.declared.calls.Call.{Call}
 use Rattle.line_parts.specs.Lines.{lines_of}
@@ -22,11 +22,13 @@ use Rattle.raw_trace.specs.Order.{Entry, Step, frees_for, order}
 use Rattle.raw_trace.specs.Places.{Becomes, becomes_itself, becomes_mended, becomes_unreturned, becomes_undone, becomes_unread, IsReadAs, IsEntry, ReadText, part, AreSteps}
 use Rattle.raw_logs.specs.declared.counts.Counts.{Counts}
 use Rattle.raw_trace.specs.declared.tally.Tally.{Tally}
-use Rattle.raw_trace.specs.Rewriting.{lines_as, calls_of, IsRewriting}
+use Rattle.raw_trace.specs.Heaps.{shown}
+use Rattle.raw_trace.specs.Rewriting.{lines_as, calls_of, no_calls, counted_call, shown_all, IsRewriting}
 use Rattle.raw_trace.specs.Stages.{EachEntry}
 use Rattle.raw_trace.specs.Laws.{ReadsAs, all_read, reads_text, KeepsCalls}
 use Rattle.raw_trace.proofs.CleanLines.{lines_back, becomes_clean, clean_texts, part_clean, AreCleanTexts}
 use Rattle.raw_trace.proofs.EachEntries.{EachStep, line_in, done_each, order_each}
+use Rattle.raw_trace.proofs.HeapLines.{IsInstead, line_spells, line_clean, IsShown, stays, turns_into, shows}
 use Rattle.raw_trace.proofs.OneWay.{read_one}
 use Rattle.raw_trace.proofs.ReadTexts.{parts_of}
 
@@ -146,18 +148,54 @@ reads heard (e ∷ entries) w h =
     read_line heard e (lines_as entries) (calls_of entries) w h.0.read
     (reads (e.line ∷ heard) entries ((h.0.item, h.0.spelled, h.0.whole), w) h.1) h.0.item h.0.spelled h.0.whole
 
--- the lines of what is written are those of its entries
+-- the number of a line has 32 bits
+cut_small : (text : List ℕ) (pid : ℕ) (body : List ℕ) → IsCut text pid body → pid < 2 ^ 32
+cut_small text pid body (inl (rest, inl p, behind)) = p.1.1
+cut_small text pid body (inl (rest, inr p, behind)) = p.4.1.1
+cut_small text pid body (inr h) = omega (arith, h.0)
+
+call_small : (line : List ℕ) (read : ReadCall) → IsReadAs line (Some read) → read.pid < 2 ^ 32
+unfolding Spells
+call_small line read h = cut_small line read.pid h.0 h.1
+
+-- so is what is written instead
+pub instead_small : (e : Entry) (read : ReadCall) → IsWritten e → IsInstead e.call read → read.pid < 2 ^ 32
+instead_small e read w k =
+    let small = call_small e.line k.old (subst (IsReadAs e.line) k.is w.read) in omega (arith, small, k.pid)
+
+shown_written : (t : Tally) (e : Entry) → IsWritten e → IsWritten (shown t e)
+shown_written t e w = by (shows t e)
+  where
+    by : IsShown t e → IsWritten (shown t e)
+    by (stays k) = subst IsWritten (sym k) w
+    by (turns_into read k is) =
+        let small = instead_small e read w k in
+        let spelled = line_spells read small k.plain k.recorded in
+        subst IsWritten (sym is) (record {
+          item = Played read.pid read.call read.recorded;
+          spelled = spelled;
+          whole = tt;
+          read = spelled;
+          clean = line_clean read small k.plain;
+        })
+
+pub all_shown : (t : Tally) (entries : List Entry) → EachEntry IsWritten entries → EachEntry IsWritten (shown_all t entries)
+all_shown t [] h = tt
+all_shown t (e ∷ entries) h = (shown_written t e h.0, all_shown (counted_call e.call t) entries h.1)
+
+-- the lines of what is written are those of its entries, with what is written instead
 pub lines_written : (process : Option ℕ) (bytes out : List ℕ) (counts : Counts) (number : Tally) → (is : IsRewriting process bytes out counts number)
-    → EachEntry IsWritten (order frees_for [] is.steps) × (lines_of out ≡ lines_as (order frees_for [] is.steps))
+    → EachEntry IsWritten (order frees_for [] is.steps) × (lines_of out ≡ lines_as (shown_all no_calls (order frees_for [] is.steps)))
 lines_written process bytes out counts number is =
     let clean = clean_texts is.chosen is.read is.reads (texts_clean process bytes is.chosen is.before is.texts) in
     let each = order_each IsWritten frees_for [] is.steps tt (steps_written [] is.read is.steps clean is.are) in
-    let entries = order frees_for [] is.steps in
-    (each, ap lines_of is.bytes_of ∙ lines_back (lines_as entries) (entries_clean entries each))
+    let entries = shown_all no_calls (order frees_for [] is.steps) in
+    (each, ap lines_of is.bytes_of ∙ lines_back (lines_as entries) (entries_clean entries (all_shown no_calls (order frees_for [] is.steps) each)))
 
 -- what is written is read as just the calls of the log
 pub calls_kept : KeepsCalls
 calls_kept process bytes out counts number is =
     let written = lines_written process bytes out counts number is in
-    let entries = order frees_for [] is.steps in
-    subst (λ (x : List (List ℕ)). ReadsAs [] x (calls_of entries)) (sym written.1) (reads [] entries tt written.0)
+    let entries = shown_all no_calls (order frees_for [] is.steps) in
+    subst (λ (x : List (List ℕ)). ReadsAs [] x (calls_of entries)) (sym written.1)
+    (reads [] entries tt (all_shown no_calls (order frees_for [] is.steps) written.0))

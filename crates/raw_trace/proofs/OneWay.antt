@@ -18,7 +18,7 @@ use Rattle.raw_trace.specs.declared.settling.Ending.{Ending}
 use Rattle.raw_trace.specs.Order.{Entry, Step, Begins, Ends, Comes, frees_for, order}
 use Rattle.raw_trace.specs.Places.{Becomes, IsUndone, becomes_itself, becomes_mended, becomes_unreturned, becomes_undone, becomes_unread}
 use Rattle.raw_trace.specs.Places.{ReadText, IsReadText, Part, Whole, Front, Back, part, IsReadAs, IsCauseAt, IsTrouble, IsEntry, IsDone, AreSteps}
-use Rattle.raw_trace.specs.Rewriting.{text_of, lines_as, counted_all, no_calls, calls_after}
+use Rattle.raw_trace.specs.Rewriting.{text_of, lines_as, counted_all, no_calls, calls_after, shown_all}
 use Rattle.raw_trace.specs.Laws.{HasOneRewriting}
 use Rattle.raw_trace.proofs.ReadTexts.{reads_one}
 use Rattle.raw_trace.proofs.GoodLines.{half_not_good, refused_not_good, refused_no_half, good_stays, refused_stays, half_stays, shown_one, undone_one}
@@ -157,7 +157,7 @@ rewriting_one process bytes out other m n c d h g =
     let t = reads_one g.chosen h.read g.read (subst (λ (x : List Numbered). Each IsReadText x h.read) s.0 h.reads) g.reads in
     let r = steps_one [] g.read [] h.steps g.steps (subst (λ (x : List ReadText). AreSteps [] x [] h.steps) t h.are) g.are in
     let o = ap (λ (x : List Step). order frees_for [] x) r in (
-      h.bytes_of ∙ ap (λ (x : List Entry). text_of (lines_as x)) o ∙ sym g.bytes_of,
+      h.bytes_of ∙ ap (λ (x : List Entry). text_of (lines_as (shown_all no_calls x))) o ∙ sym g.bytes_of,
       h.sum ∙ ap (λ (x : Counts). counted_all x (order frees_for [] h.steps)) s.1 ∙ ap (λ (x : List Entry). counted_all g.before x) o ∙ sym g.sum,
       h.number ∙ ap (λ (x : List Entry). calls_after no_calls x) o ∙ sym g.number,
     )

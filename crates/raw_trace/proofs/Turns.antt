@@ -1,9 +1,7 @@
 -- What a turn of an entry that is due comes to.
-use Rattle.std.proofs.Common.{◌≡◌, ℕ, zero, suc, ◌+◌, ◌*◌, ◌<◌, ◌≤◌, Bool, true, false, List, [], ◌∷◌, ◌++◌, length, take, get_or, Option, Some, None, refl, sym, ap, subst, ◌∙◌, append_assoc, inl, inr, arith}
-use Rattle.std.specs.Prelude.{reverse, remove}
-use Rattle.std.proofs.Common.{drop, take-append-drop}
-use Rattle.std.proofs.Math.Seq.{get_or-append_seam}
-use Rattle.std.proofs.lemmas.List.{append-nil, take_more, take_all, drop_more, length-take-le, length-append, length-map, length-reverse, reverse-append}
+use Rattle.std.proofs.Common.{◌≡◌, ℕ, zero, suc, ◌+◌, ◌*◌, ◌<◌, Bool, List, [], ◌∷◌, ◌++◌, length, Option, Some, None, refl, sym, ap, subst, ◌∙◌, append_assoc, inl, inr, arith}
+use Rattle.std.specs.Prelude.{reverse}
+use Rattle.std.proofs.lemmas.List.{append-nil, length-append, length-map, length-reverse, reverse-append}
 use Rattle.raw_logs.specs.declared.counts.Counts.{Counts}
 use Rattle.raw_logs.proofs.TextLists.{item_of}
 use Rattle.raw_trace.specs.declared.fault.Fault.{Fault}
@@ -13,12 +11,13 @@ use Rattle.raw_trace.specs.declared.writing.Written.{Written}
 use Rattle.raw_trace.specs.Order.{Entry, Picked, Written as WrittenOf, frees_for, pick, turns, write_due, write_entry}
 use Rattle.raw_trace.specs.Faults.{IsFirstFault}
 use Rattle.raw_trace.specs.declared.tally.Tally.{Tally}
-use Rattle.raw_trace.specs.Rewriting.{text_of, lines_as, counted_entry, counted_call, counted_all, calls_after}
+use Rattle.raw_trace.specs.Rewriting.{text_of, lines_as, counted_entry, counted_call, counted_all, calls_after, shown_all}
+use Rattle.raw_trace.specs.Heaps.{shown}
 use Rattle.raw_trace.specs.Waiting.{entry, entries}
 use Rattle.raw_trace.specs.Stages.{due_of, MayBeWritten, WroteLines, WroteDue, EndsDue, TookTurn, wrote_one, made_due, EndsTurn, DueSome}
 use Rattle.raw_trace.proofs.EachEntries.{each_both}
 use Rattle.raw_trace.proofs.OneFault.{first_behind}
-use Rattle.raw_trace.proofs.OwnCalls.{NoneIn, none_both, none_picked, one_picked, Picks, picks_one, picks_none, picks}
+use Rattle.raw_trace.proofs.OwnCalls.{Picks, picks_one, picks_none, picks}
 
 -- ---- what is due
 
@@ -44,7 +43,7 @@ due_less old new piece e = ap due_of e ∙ due_more new piece
 pub wrote_none : (strict : Bool) (w : Written) → WroteLines strict w [] w
 wrote_none strict w = record { out = sym (append-nil w.out.items); counts = refl; calls = refl; may = tt }
 
-pub text_both : (a b : List Entry) → text_of (lines_as (a ++ b)) ≡ text_of (lines_as a) ++ text_of (lines_as b)
+text_both : (a b : List Entry) → text_of (lines_as (a ++ b)) ≡ text_of (lines_as a) ++ text_of (lines_as b)
 text_both [] b = refl
 text_both (x ∷ a) b =
     ap (λ (y : List ℕ). x.line ++ (10 ∷ y)) (text_both a b) ∙ sym (append_assoc x.line (10 ∷ text_of (lines_as a)) (text_of (lines_as b)))
@@ -57,11 +56,28 @@ pub calls_both : (n : Tally) (a b : List Entry) → calls_after n (a ++ b) ≡ c
 calls_both n [] b = refl
 calls_both n (x ∷ a) b = calls_both (counted_call x.call n) a b
 
+shown_both : (n : Tally) (a b : List Entry) → shown_all n (a ++ b) ≡ shown_all n a ++ shown_all (calls_after n a) b
+shown_both n [] b = refl
+shown_both n (x ∷ a) b = ap (λ (y : List Entry). shown n x ∷ y) (shown_both (counted_call x.call n) a b)
+
+-- what is written of two lists
+pub text_shown : (n : Tally) (a b : List Entry)
+    → text_of (lines_as (shown_all n (a ++ b))) ≡ text_of (lines_as (shown_all n a)) ++ text_of (lines_as (shown_all (calls_after n a) b))
+text_shown n a b = ap (λ (x : List Entry). text_of (lines_as x)) (shown_both n a b) ∙ text_both (shown_all n a) (shown_all (calls_after n a) b)
+
+-- and of lines behind lines that were written, behind these calls
+pub text_behind : (n m : Tally) (a b : List Entry) (out mid new : List ℕ) → mid ≡ out ++ text_of (lines_as (shown_all n a)) → m ≡ calls_after n a
+    → new ≡ mid ++ text_of (lines_as (shown_all m b)) → new ≡ out ++ text_of (lines_as (shown_all n (a ++ b)))
+text_behind n m a b out mid new h e g =
+    let one = text_of (lines_as (shown_all n a)) in
+    let two = text_of (lines_as (shown_all (calls_after n a) b)) in
+    g ∙ ap (λ (x : Tally). mid ++ text_of (lines_as (shown_all x b))) e ∙ ap (λ (x : List ℕ). x ++ two) h ∙ append_assoc out one two
+    ∙ ap (λ (x : List ℕ). out ++ x) (sym (text_shown n a b))
+
 pub wrote_both : (strict : Bool) (x y z : Written) (a b : List Entry) → WroteLines strict x a y → WroteLines strict y b z → WroteLines strict x (a ++ b) z
 wrote_both strict x y z a b h g =
     record {
-      out = g.out ∙ ap (λ (w : List ℕ). w ++ text_of (lines_as b)) h.out ∙ append_assoc x.out.items (text_of (lines_as a)) (text_of (lines_as b))
-          ∙ ap (λ (w : List ℕ). x.out.items ++ w) (sym (text_both a b));
+      out = text_behind x.calls y.calls a b x.out.items y.out.items z.out.items h.out h.calls g.out;
       counts = g.counts ∙ ap (λ (w : Counts). counted_all w b) h.counts ∙ sym (counted_both x.counts a b);
       calls = g.calls ∙ ap (λ (w : Tally). calls_after w b) h.calls ∙ sym (calls_both x.calls a b);
       may = each_both (MayBeWritten strict) a b h.may g.may;

@@ -15,7 +15,6 @@ use Rattle.raw_logs.proofs.OneLog.{texts_one, unknown_one, texts_no_fault}
 use Rattle.raw_logs.proofs.UnreadLogs.{texts_unread}
 use Rattle.raw_trace.specs.declared.fault.Fault.{Fault}
 use Rattle.raw_trace.specs.declared.fault.Fault.TheVariants.{Unreadable, LongLine, Memory}
-use Rattle.raw_trace.specs.declared.fault.Cause.TheVariants.{Unknown}
 use Rattle.raw_trace.specs.declared.fault.Trouble.{Trouble}
 use Rattle.raw_trace.specs.declared.rewriting.Rewriting.{Rewriting}
 use Rattle.raw_trace.specs.declared.settling.Ending.{Ending}
@@ -24,11 +23,13 @@ use Rattle.raw_trace.specs.declared.writing.Written.{Written}
 use Rattle.raw_trace.specs.Order.{Entry, Step, frees_for, order}
 use Rattle.raw_trace.specs.Places.{Becomes, becomes_undone, becomes_unread, IsTrouble, IsEntry, ReadText, part, AreSteps}
 use Rattle.raw_trace.specs.declared.tally.Tally.{Tally}
-use Rattle.raw_trace.specs.Rewriting.{lines_as, is_form, is_unanswered, counted, counted_entry, counted_all, IsRewriting}
+use Rattle.raw_trace.specs.Heaps.{shown}
+use Rattle.raw_trace.specs.Rewriting.{lines_as, is_form, is_unanswered, counted, counted_entry, counted_all, no_calls, counted_call, shown_all, IsRewriting}
 use Rattle.raw_trace.specs.Faults.{of_log, Stops, asked_unknown, earlier_of, unknown_at, IsTextsFault, IsCausedFault, IsFault}
 use Rattle.raw_trace.specs.Laws.{HasShortLines, HasOneRewriting, HasOneFault}
 use Rattle.raw_trace.specs.Stages.{EachEntry, MayBeWritten, WroteAll, EndsAll}
-use Rattle.raw_trace.proofs.LineCalls.{lines_written}
+use Rattle.raw_trace.proofs.HeapLines.{line_short, IsShown, stays, turns_into, shows}
+use Rattle.raw_trace.proofs.LineCalls.{IsWritten, instead_small, lines_written}
 use Rattle.raw_trace.proofs.EachEntries.{EachStep, line_in, done_each, order_each}
 use Rattle.raw_trace.proofs.OneFault.{never_stops}
 
@@ -57,19 +58,28 @@ rewriting_is process strict bytes chosen before found are w =
 may_short : (strict : Bool) (e : Entry) → MayBeWritten strict e → length e.line ≤ 65535
 may_short strict e may = let never : 65535 < length e.line → ⊥ = λ l. may (LongLine e.number) (l, refl) in omega (arith, never)
 
-entries_short : (strict : Bool) (entries : List Entry) → EachEntry (MayBeWritten strict) entries → All (λ line. length line ≤ 65535) (lines_as entries)
-entries_short strict [] h = All-nil (λ (y : List ℕ). length y ≤ 65535)
-entries_short strict (e ∷ entries) h =
-    All-cons (λ (y : List ℕ). length y ≤ 65535) e.line (lines_as entries) (may_short strict e h.0) (entries_short strict entries h.1)
+shown_short : (strict : Bool) (t : Tally) (e : Entry) → MayBeWritten strict e → IsWritten e → length (shown t e).line ≤ 65535
+shown_short strict t e may w = by (shows t e)
+  where
+    by : IsShown t e → length (shown t e).line ≤ 65535
+    by (stays k) = subst (λ (x : Entry). length x.line ≤ 65535) (sym k) (may_short strict e may)
+    by (turns_into read k is) = subst (λ (x : Entry). length x.line ≤ 65535) (sym is) (line_short read (instead_small e read w k) k.plain)
+
+entries_short : (strict : Bool) (t : Tally) (entries : List Entry) → EachEntry (MayBeWritten strict) entries → EachEntry IsWritten entries
+    → All (λ line. length line ≤ 65535) (lines_as (shown_all t entries))
+entries_short strict t [] h w = All-nil (λ (y : List ℕ). length y ≤ 65535)
+entries_short strict t (e ∷ entries) h w =
+    let more = shown_all (counted_call e.call t) entries in
+    All-cons (λ (y : List ℕ). length y ≤ 65535) (shown t e).line (lines_as more) (shown_short strict t e h.0 w.0)
+    (entries_short strict (counted_call e.call t) entries h.1 w.1)
 
 -- so are the lines that are written, which are the lines of what is written
 pub written_short : (process : Option ℕ) (strict : Bool) (bytes : List ℕ) (texts : List Numbered) (before : Counts) (found : Written)
     → AreTexts process bytes texts before → WroteAll strict texts before found → HasShortLines found.out.items
 unfolding rewriting_is
 written_short process strict bytes texts before found are w =
-    subst (All (λ (line : List ℕ). length line ≤ 65535))
-    (sym (lines_written process bytes found.out.items found.counts found.calls (rewriting_is process strict bytes texts before found are w)).1)
-    (entries_short strict (order frees_for [] w.steps) w.may)
+    let lines = lines_written process bytes found.out.items found.counts found.calls (rewriting_is process strict bytes texts before found are w) in
+    subst (All (λ (line : List ℕ). length line ≤ 65535)) (sym lines.1) (entries_short strict no_calls (order frees_for [] w.steps) w.may lines.0)
 
 -- ---- lines that are left unread
 

@@ -16,7 +16,7 @@ use Rattle.raw_trace.specs.declared.tally.Tally.{Tally}
 use Rattle.raw_trace.specs.Faults.{IsCausedFault}
 use Rattle.raw_trace.specs.Order.{Entry, Step, Comes, frees_for, order}
 use Rattle.raw_trace.specs.Places.{ReadText, IsReadText, IsGood, IsStep, AreSteps}
-use Rattle.raw_trace.specs.Rewriting.{IsRewriting, calls_of, text_of}
+use Rattle.raw_trace.specs.Rewriting.{IsRewriting, calls_of, no_calls, shown_all, text_of}
 
 -- ---- the calls that the reader finds in lines
 
@@ -37,10 +37,10 @@ pub data ReadsAs : List (List ℕ) → List (List ℕ) → List ReadCall → Typ
 
 -- What is written is read by the reader, no line of it is refused, and the calls that are found are just those of the
 -- log, in the order of the rule: each that was cut in two at its second half, or before the first that takes what it
--- frees.
+-- frees; and where the heap is mapped over each brk as what it did.
 abbrev pub KeepsCalls : Type 0
 KeepsCalls = (process : Option ℕ) (bytes out : List ℕ) (counts : Counts) (number : Tally) → (is : IsRewriting process bytes out counts number)
-    → ReadsAs [] (lines_of out) (calls_of (order frees_for [] is.steps))
+    → ReadsAs [] (lines_of out) (calls_of (shown_all no_calls (order frees_for [] is.steps)))
 
 -- the calls of the lines of one process
 abbrev pub of_process : ℕ → List Entry → List ReadCall
@@ -58,10 +58,11 @@ abbrev pub KeepsGoodLines : Type 0
 KeepsGoodLines = (fed later : List ReadText) (line : Numbered) (text : ReadText) (step : Step) → IsGood line.text → IsReadText line text
     → IsStep fed text later step → (entry : Entry) × (step ≡ Comes entry) × (entry.line ≡ line.text) × (entry.ending ≡ AsItIs) × (entry.joined ≡ false)
 
--- A log whose texts are all good lines is written as these, byte for byte.
+-- A log whose texts are all good lines, and whose heap isn't mapped over, is written as these, byte for byte.
 abbrev pub KeepsGoodTexts : Type 0
 KeepsGoodTexts = (process : Option ℕ) (bytes out : List ℕ) (texts : List Numbered) (before counts : Counts) (number : Tally)
-    → AreTexts process bytes texts before → All IsGood (texts_of texts) → IsRewriting process bytes out counts number → out ≡ text_of (texts_of texts)
+    → AreTexts process bytes texts before → All IsGood (texts_of texts) → IsRewriting process bytes out counts number → number.over ≡ false
+    → out ≡ text_of (texts_of texts)
 
 -- each line of a text is no longer than a line may be
 abbrev pub HasShortLines : List ℕ → Type 0

@@ -1,5 +1,6 @@
 pub mod Order
 pub mod Places
+pub mod Heaps
 pub mod Rewriting
 pub mod Laws
 pub mod Faults

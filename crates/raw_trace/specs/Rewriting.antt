@@ -1,15 +1,16 @@
 -- The whole: from the bytes of a raw log to the bytes that are written. `AreTexts` of `raw_logs` has its texts; each
--- does a step (Places.antt), and the steps give the lines in their order (Order.antt). A log has one rewriting.
-use Rattle.std.specs.Prelude.{◌≡◌, ℕ, ◌+◌, ◌-◌, List, [], ◌∷◌, ◌++◌, map, Bool, true, false, not, ◌==◌, if◌then◌else◌, Option, Some, None, option_to_list, is_none, option_map, unwrap_or}
+-- does a step (Places.antt), the steps give the lines in their order (Order.antt), and where the heap is mapped over
+-- those of brk are written as what they did (Heaps.antt). A log has one rewriting.
+use Rattle.std.specs.Prelude.{◌≡◌, ℕ, ◌+◌, List, [], ◌∷◌, ◌++◌, map, Bool, true, false, if◌then◌else◌, Option, Some, None, option_to_list, is_none, is_some}
 use Rattle.raw_logs.specs.declared.counts.Counts.{Counts}
 use Rattle.raw_logs.specs.declared.counts.Sort.TheVariants.{Joined, Mended, Unreturned, Unread, Forms, Injected, Outside, Unanswered}
 use Rattle.raw_logs.specs.Counting.{one_more_of, within_32_bits}
 use Rattle.raw_logs.specs.Log.{Numbered, Each}
 use Rattle.raw_logs.specs.Reading.{AreTexts}
 use Rattle.page_types.specs.declared.calls.Call.{Call}
-use Rattle.page_types.specs.declared.calls.Call.TheVariants.{Map, Protect, Brk}
+use Rattle.page_types.specs.declared.calls.Call.TheVariants.{Protect}
 use Rattle.strace_reader.specs.declared.item.Recorded.{Recorded}
-use Rattle.strace_reader.specs.declared.item.Recorded.TheVariants.{Value, Failed}
+use Rattle.strace_reader.specs.declared.item.Recorded.TheVariants.{Failed}
 use Rattle.strace_reader.specs.declared.item.Errno.TheVariants.{Einval}
 use Rattle.raw_trace.specs.declared.calls.ReadCall.{ReadCall}
 use Rattle.raw_trace.specs.declared.tally.Tally.{Tally}
@@ -18,8 +19,8 @@ use Rattle.raw_trace.specs.declared.fault.Cause.TheVariants.{Form, Alone, Unclea
 use Rattle.raw_trace.specs.declared.fault.Trouble.{Trouble}
 use Rattle.raw_trace.specs.declared.settling.Ending.{Ending}
 use Rattle.raw_trace.specs.declared.settling.Ending.TheVariants.{AsItIs, ByMends, AsUnreturned, AsUnread, AsInjected, AsOutside}
-use Rattle.raw_trace.specs.declared.calls.Pages.{Pages}
-use Rattle.raw_trace.specs.Order.{Entry, Step, no_pages, pages_at, freed_by, meet, frees_for, order}
+use Rattle.raw_trace.specs.Heaps.{heap_end, is_moved, heap_start, heap_pages, changed_pages, instead, shown}
+use Rattle.raw_trace.specs.Order.{Entry, Step, meet, frees_for, order}
 use Rattle.raw_trace.specs.Places.{ReadText, IsReadText, AreSteps}
 
 -- lines as a text: each with its newline
@@ -76,33 +77,7 @@ counted_all counts (entry ∷ entries) = counted_all (counted_entry entry counts
 
 -- no call
 abbrev pub no_calls : Tally
-no_calls = record { calls = 0; start = None; heap = None; programs = 0; remapped = 0; protects = 0 }
-
--- where the heap ends behind a call, as it was recorded
-abbrev pub heap_end : Call → Option Recorded → Option ℕ → Option ℕ
-heap_end (Brk base addr) (Some (Value at)) heap = Some at
-heap_end call recorded heap = heap
-
--- the call only asks where the heap ends, and is told another end than the last one
-abbrev pub is_moved : Call → Option Recorded → Option ℕ → Bool
-is_moved (Brk base addr) (Some (Value at)) (Some end) = if addr == 0 then not (at == end) else false
-is_moved call recorded heap = false
-
--- where the heap begins: where it ended as it was first told, by each program
-abbrev pub heap_start : Bool → Call → Option Recorded → Option ℕ → Option ℕ
-heap_start moved (Brk base addr) (Some (Value at)) None = Some at
-heap_start moved (Brk base addr) (Some (Value at)) (Some start) = if moved then Some at else Some start
-heap_start moved call recorded start = start
-
--- the pages of the heap, as far as they were told
-abbrev pub heap_pages : Option ℕ → Option ℕ → Pages
-heap_pages (Some start) (Some end) = pages_at start (end - start)
-heap_pages start end = no_pages
-
--- the pages that a call maps, or frees
-abbrev pub changed_pages : Call → Option Recorded → Pages
-changed_pages (Map addr len prot flags) (Some (Value at)) = pages_at at len
-changed_pages call recorded = unwrap_or (option_map (freed_by call) recorded) no_pages
+no_calls = record { calls = 0; start = None; heap = None; over = false; programs = 0; brks = 0; protects = 0 }
 
 -- the call is an mprotect that failed, and may have changed the pages before the fault
 abbrev pub is_part_done : Call → Option Recorded → Bool
@@ -110,8 +85,8 @@ is_part_done (Protect addr len prot) (Some (Failed Einval)) = false
 is_part_done (Protect addr len prot) (Some (Failed errno)) = true
 is_part_done call recorded = false
 
--- one call more, where it is one: one that is told another end of the heap shows that another program began, and one
--- that maps or frees pages of the heap may leave it otherwise than brk says
+-- one call more, where it is one: one that is told another end of the heap shows that another program began, and from
+-- one that changes pages of the heap on, those of brk are written as what they did
 abbrev pub counted_call : Option ReadCall → Tally → Tally
 counted_call None t = t
 counted_call (Some read) t =
@@ -119,8 +94,9 @@ counted_call (Some read) t =
       calls = within_32_bits (t.calls + 1);
       start = heap_start moved read.call read.recorded t.start;
       heap = heap_end read.call read.recorded t.heap;
+      over = if t.over then true else meet (changed_pages read.call read.recorded) (heap_pages t.start t.heap);
       programs = if moved then within_32_bits (t.programs + 1) else t.programs;
-      remapped = if meet (changed_pages read.call read.recorded) (heap_pages t.start t.heap) then within_32_bits (t.remapped + 1) else t.remapped;
+      brks = if is_some (instead t (Some read)) then within_32_bits (t.brks + 1) else t.brks;
       protects = if is_part_done read.call read.recorded then within_32_bits (t.protects + 1) else t.protects;
     }
 
@@ -128,6 +104,11 @@ counted_call (Some read) t =
 abbrev pub calls_after : Tally → List Entry → Tally
 calls_after t [] = t
 calls_after t (entry ∷ entries) = calls_after (counted_call entry.call t) entries
+
+-- these lines, behind such calls, with what is written instead
+abbrev pub shown_all : Tally → List Entry → List Entry
+shown_all t [] = []
+shown_all t (entry ∷ entries) = shown t entry ∷ shown_all (counted_call entry.call t) entries
 
 -- the log is rewritten so
 pub record IsRewriting (process : Option ℕ) (bytes out : List ℕ) (counts : Counts) (calls : Tally) : Type 0 where
@@ -138,6 +119,6 @@ pub record IsRewriting (process : Option ℕ) (bytes out : List ℕ) (counts : C
   pub reads : Each IsReadText chosen read
   pub steps : List Step
   pub are : AreSteps [] read [] steps
-  pub bytes_of : out ≡ text_of (lines_as (order frees_for [] steps))
+  pub bytes_of : out ≡ text_of (lines_as (shown_all no_calls (order frees_for [] steps)))
   pub sum : counts ≡ counted_all before (order frees_for [] steps)
   pub number : calls ≡ calls_after no_calls (order frees_for [] steps)

@@ -1,6 +1,6 @@
 -- What the private functions of this crate say of what they hold: what is found of halves, lines in their order, and
 -- what was written. It ties the code to the other definitions, which speak of texts and of entries.
-use Rattle.std.specs.Prelude.{◌≡◌, ◌⊎◌, ℕ, ◌<◌, ◌≤◌, List, [], ◌∷◌, ◌++◌, length, map, take, drop, reverse, Option, Some, None, Result, Ok, Bool, if◌then◌else◌, slice_get}
+use Rattle.std.specs.Prelude.{◌≡◌, ◌⊎◌, ℕ, ◌<◌, ◌≤◌, List, [], ◌∷◌, ◌++◌, length, take, drop, reverse, Option, Some, None, Result, Ok, Bool, if◌then◌else◌, slice_get}
 use Rattle.std.specs.BTreeMap.{get}
 use Rattle.std.specs.Ordering.{nat_cmp}
 use Rattle.strace_reader.specs.declared.item.Item.{Item}
@@ -20,8 +20,8 @@ use Rattle.raw_trace.specs.declared.writing.Written.{Written}
 use Rattle.raw_trace.specs.Faults.{IsEntryFault, IsFirstFault, Stops}
 use Rattle.raw_trace.specs.Order.{Entry, Step, Picked, Written as WrittenOf, frees_for, pick, turns, write_due, order}
 use Rattle.raw_trace.specs.Places.{ReadText, IsReadText, is_of, Whole, Front, Back, part, AreSteps}
-use Rattle.raw_trace.specs.Waiting.{entry, entries}
-use Rattle.raw_trace.specs.Rewriting.{text_of, lines_as, counted_all, no_calls, calls_after}
+use Rattle.raw_trace.specs.Waiting.{entries}
+use Rattle.raw_trace.specs.Rewriting.{text_of, lines_as, counted_all, no_calls, calls_after, shown_all}
 
 -- ---- halves
 
@@ -85,7 +85,7 @@ MayBeWritten strict one = (fault : Fault) → ¬ IsEntryFault strict one fault
 
 -- these lines were written and counted behind what was there, and each may be written
 pub record WroteLines (strict : Bool) (old : Written) (lines : List Entry) (new : Written) : Type 0 where
-  pub out : new.out.items ≡ old.out.items ++ text_of (lines_as lines)
+  pub out : new.out.items ≡ old.out.items ++ text_of (lines_as (shown_all old.calls lines))
   pub counts : new.counts ≡ counted_all old.counts lines
   pub calls : new.calls ≡ calls_after old.calls lines
   pub may : EachEntry (MayBeWritten strict) lines
@@ -129,7 +129,7 @@ pub record WroteAll (strict : Bool) (lines : List Numbered) (counts : Counts) (f
   pub reads : Each IsReadText lines texts
   pub steps : List Step
   pub are : AreSteps [] texts [] steps
-  pub out : found.out.items ≡ text_of (lines_as (order frees_for [] steps))
+  pub out : found.out.items ≡ text_of (lines_as (shown_all no_calls (order frees_for [] steps)))
   pub sum : found.counts ≡ counted_all counts (order frees_for [] steps)
   pub calls : found.calls ≡ calls_after no_calls (order frees_for [] steps)
   pub may : EachEntry (MayBeWritten strict) (order frees_for [] steps)
@@ -149,7 +149,7 @@ pub record DidSome (strict : Bool) (lines : List Numbered) (place : ℕ) (counts
   pub are : AreSteps [] fed later steps
   pub written : List Entry
   pub follows : (more : List Step) → order frees_for [] (steps ++ more) ≡ written ++ order frees_for now.waiting more
-  pub out : now.written.out.items ≡ text_of (lines_as written)
+  pub out : now.written.out.items ≡ text_of (lines_as (shown_all no_calls written))
   pub sum : now.written.counts ≡ counted_all counts written
   pub calls : now.written.calls ≡ calls_after no_calls written
   pub may : EachEntry (MayBeWritten strict) written

@@ -5,7 +5,6 @@ ghost use Rattle.std.specs.Prelude.{◌≡◌, ◌≤◌, length};
 ghost use Rattle.raw_trace.specs.Order.{no_pages, pages_at, pages_between, freed_by, taken_by, freed, taken, meet};
 ghost use Rattle.strace_reader.specs.declared.item.Recorded.TheVariants.{Value};
 ghost use Rattle.raw_trace.specs.Places.{IsReadAs};
-ghost use Rattle.raw_trace.specs.Rewriting.{heap_pages, changed_pages};
 
 use bitflags::Flags;
 use page_types::{Call, MapFlags, PAGE, end_page};
@@ -32,7 +31,7 @@ pub struct Pages {
 }
 
 /// No pages.
-const NONE: Pages = Pages { from: 0, to: 0 };
+pub(crate) const NONE: Pages = Pages { from: 0, to: 0 };
 
 /// The call that a line is read as.
 pub(crate) fn call_of(line: &[u8]) -> Option<ReadCall>
@@ -56,7 +55,7 @@ pub(crate) fn call_of(line: &[u8]) -> Option<ReadCall>
 }
 
 /// So many bytes from an address on, in whole pages.
-fn pages_at(addr: u64, len: u64) -> Pages
+pub(crate) fn pages_at(addr: u64, len: u64) -> Pages
     ensures { result ≡ pages_at addr len }
 {
     Pages {
@@ -76,7 +75,7 @@ fn pages_between(addr: u64, len: u64, longer: u64) -> Pages
 }
 
 /// The pages that a call frees which gave this number.
-fn freed_by(call: Call, value: u64) -> Pages
+pub(crate) fn freed_by(call: Call, value: u64) -> Pages
     ensures { result ≡ freed_by call (Value value) }
 {
     match call {
@@ -156,35 +155,4 @@ pub(crate) fn meet(a: Pages, b: Pages) -> bool
     ensures { result ≡ meet a b }
 {
     a.from.max(b.from) < a.to.min(b.to)
-}
-
-/// The pages of the heap, as far as they were told.
-fn heap_pages(start: Option<u64>, end: Option<u64>) -> Pages
-    ensures { result ≡ heap_pages start end }
-{
-    match (start, end) {
-        (Some(start), Some(end)) => pages_at(start, end.saturating_sub(start)),
-        _ => NONE,
-    }
-}
-
-/// The pages that a call maps, or frees.
-fn changed_pages(call: Call, recorded: Option<Recorded>) -> Pages
-    ensures { result ≡ changed_pages call recorded }
-{
-    match (call, recorded) {
-        (Call::Map { len, .. }, Some(Recorded::Value(at))) => pages_at(at, len),
-        (_, Some(Recorded::Value(value))) => freed_by(call, value),
-        _ => NONE,
-    }
-}
-
-/// Whether a call maps or frees pages of a heap with this start and end.
-pub(crate) fn changes_heap(read: ReadCall, start: Option<u64>, end: Option<u64>) -> bool
-    ensures { result ≡ meet (changed_pages read.call read.recorded) (heap_pages start end) }
-{
-    meet(
-        changed_pages(read.call, read.recorded),
-        heap_pages(start, end),
-    )
 }

@@ -3,7 +3,8 @@
 
 ghost use Rattle.raw_trace.specs.Laws.{KeepsCalls, KeepsOrders, KeepsGoodLines, KeepsGoodTexts, HasOneRewriting, HasOneFault};
 
-/// What is written is read as just the calls of the log, in the order of the rule. No line that is written is refused.
+/// What is written is read as just the calls of the log, in the order of the rule; where the heap is mapped over, each
+/// brk as what it did. No line that is written is refused.
 pub fn rewriting_keeps_calls()
     ensures { KeepsCalls }
 {}
@@ -18,7 +19,7 @@ pub fn good_lines_stay()
     ensures { KeepsGoodLines }
 {}
 
-/// Texts that are all good lines are written byte for byte.
+/// Texts that are all good lines are written byte for byte, where the heap isn't mapped over.
 pub fn good_texts_stay()
     ensures { KeepsGoodTexts }
 {}

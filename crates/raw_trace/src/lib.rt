@@ -6,6 +6,7 @@
 mod calls;
 mod fault;
 mod halves;
+mod heaps;
 mod laws;
 mod order;
 mod piece;

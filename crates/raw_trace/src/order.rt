@@ -35,7 +35,13 @@ pub(crate) struct Ordering {
 
 impl Ordering {
     /// Writes an entry, or makes what it needs due before it.
-    fn turn(&mut self, due: &mut Vec<Piece>, piece: Piece, strict: bool) -> Result<(), Fault>
+    fn turn(
+        &mut self,
+        alloc: Global,
+        due: &mut Vec<Piece>,
+        piece: Piece,
+        strict: bool,
+    ) -> Result<(), Fault>
         ensures took { OnOk result (TookTurn strict (entry piece) self.old due.old.items self.new due.new.items) }
         ensures fault { IfErr result (EndsTurn strict (entry piece) self.old.waiting) }
     {
@@ -45,7 +51,7 @@ impl Ordering {
                 push(due, other)?;
                 Ok(())
             }
-            None => self.written.write(&piece, strict),
+            None => self.written.write(alloc, &piece, strict),
         }
     }
 
@@ -57,7 +63,7 @@ impl Ordering {
         let mut due = Vec::new(alloc);
         push(&mut due, piece)?;
         'due: while let Some(next) = due.pop() {
-            self.turn(&mut due, next, strict)?;
+            self.turn(alloc, &mut due, next, strict)?;
         }
         Ok(())
     }

@@ -4,9 +4,10 @@
 
 ghost use Rattle.std.specs.Prelude.{◌≡◌, ◌+◌, if◌then◌else◌};
 ghost use Rattle.raw_logs.specs.Counting.{within_32_bits};
-ghost use Rattle.raw_trace.specs.Rewriting.{no_calls, heap_end, heap_start, is_moved, is_part_done, counted_call};
+ghost use Rattle.raw_trace.specs.Rewriting.{no_calls, is_part_done, counted_call};
 
-use crate::calls::{ReadCall, changes_heap};
+use crate::calls::ReadCall;
+use crate::heaps::{changes_heap, heap_end, heap_start, instead, is_moved};
 use page_types::Call;
 use strace_reader::{Errno, Recorded};
 
@@ -19,10 +20,12 @@ pub struct Tally {
     pub start: Option<u64>,
     /// Where the heap ends, in bytes, as it was last told.
     pub heap: Option<u64>,
+    /// Whether one of them changed pages of the heap, which the next brk(2) doesn't find any more.
+    pub over: bool,
     /// How many of them show that another program began: they ask where the heap ends, and it isn't where it was.
     pub programs: u32,
-    /// How many of them map or free pages of the heap, so that it may not be what brk(2) told.
-    pub remapped: u32,
+    /// How many calls of brk(2) were written as what they did.
+    pub brks: u32,
     /// How many of them are mprotects that failed, and may have changed pages before the fault.
     pub protects: u32,
 }
@@ -32,46 +35,6 @@ fn one_more_if(is: bool, count: u32) -> u32
     ensures { result ≡ (if is then within_32_bits (count + 1) else count) }
 {
     if is { count.saturating_add(1) } else { count }
-}
-
-/// Where the heap begins behind a call, which shows another program or not.
-fn heap_start(
-    moved: bool,
-    call: Call,
-    recorded: Option<Recorded>,
-    start: Option<u64>,
-) -> Option<u64>
-    ensures { result ≡ heap_start moved call recorded start }
-{
-    match (call, recorded) {
-        (Call::Brk { .. }, Some(Recorded::Value(at))) => {
-            if moved {
-                return Some(at);
-            }
-            Some(start.unwrap_or(at))
-        }
-        _ => start,
-    }
-}
-
-/// Where the heap ends behind a call.
-fn heap_end(call: Call, recorded: Option<Recorded>, heap: Option<u64>) -> Option<u64>
-    ensures { result ≡ heap_end call recorded heap }
-{
-    match (call, recorded) {
-        (Call::Brk { .. }, Some(Recorded::Value(at))) => Some(at),
-        _ => heap,
-    }
-}
-
-/// Whether a call only asks where the heap ends, and is told another end than the last one.
-fn is_moved(call: Call, recorded: Option<Recorded>, heap: Option<u64>) -> bool
-    ensures { result ≡ is_moved call recorded heap }
-{
-    match (call, recorded, heap) {
-        (Call::Brk { addr, .. }, Some(Recorded::Value(at)), Some(end)) => addr == 0 && at != end,
-        _ => false,
-    }
 }
 
 /// Whether a call is an mprotect that failed, and may have changed pages before the fault.
@@ -93,8 +56,9 @@ impl Tally {
             calls: 0,
             start: None,
             heap: None,
+            over: false,
             programs: 0,
-            remapped: 0,
+            brks: 0,
             protects: 0,
         }
     }
@@ -107,14 +71,16 @@ impl Tally {
             return self;
         };
         let moved = is_moved(read.call, read.recorded, self.heap);
-        let remaps = changes_heap(read, self.start, self.heap);
+        let changes = changes_heap(read, self.start, self.heap);
+        let replaced = instead(self, call).is_some();
         let fails = is_part_done(read.call, read.recorded);
         Tally {
             calls: self.calls.saturating_add(1),
             start: heap_start(moved, read.call, read.recorded, self.start),
             heap: heap_end(read.call, read.recorded, self.heap),
+            over: self.over || changes,
             programs: one_more_if(moved, self.programs),
-            remapped: one_more_if(remaps, self.remapped),
+            brks: one_more_if(replaced, self.brks),
             protects: one_more_if(fails, self.protects),
         }
     }

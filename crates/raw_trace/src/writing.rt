@@ -17,6 +17,7 @@ ghost use Rattle.raw_trace.specs.Stages.{AreRoles, MayBeWritten, WroteLines, Did
 use crate::calls::{ReadCall, call_of};
 use crate::fault::{Cause, Fault, Trouble};
 use crate::halves::Role;
+use crate::heaps::{call_line, instead};
 use crate::order::Ordering;
 use crate::piece::Piece;
 use crate::roles::Roles;
@@ -97,16 +98,23 @@ impl Written {
         Ok(())
     }
 
-    /// Writes a line and counts it, unless it is too long, or isn't read where every line has to be.
-    pub(crate) fn write(&mut self, piece: &Piece, strict: bool) -> Result<(), Fault>
+    /// Writes a line, or what is written instead, and counts it, unless it is too long, or isn't read where every line
+    /// has to be.
+    pub(crate) fn write(&mut self, alloc: Global, piece: &Piece, strict: bool) -> Result<(), Fault>
         ensures wrote { OnOk result (WroteLines strict self.old (entry piece.now ∷ []) self.new) }
         ensures fault { IfErr result (λ fault. (fault ≡ Memory) ⊎ IsEntryFault strict (entry piece.now) fault) }
     {
         if let Some(fault) = fault_of(piece, strict) {
             return Err(fault);
         }
+        let read = instead(self.calls, piece.call);
         self.count(piece);
-        self.push(piece.line.as_slice())?;
+        let Some(read) = read else {
+            self.push(piece.line.as_slice())?;
+            return Ok(());
+        };
+        let line = call_line(alloc, read)?;
+        self.push(line.as_slice())?;
         Ok(())
     }
 }

@@ -47,7 +47,7 @@ named_counts t c =
     (codes "numbers that have lines and weren't made", c.foreign) ∷
     (codes "numbers that were made twice", c.twice) ∷
     (codes "calls that show another program", t.programs) ∷
-    (codes "calls that map or free pages of the heap", t.remapped) ∷
+    (codes "calls of brk written as what they did", t.brks) ∷
     (codes "calls joined", c.joined) ∷
     (codes "calls mended", c.mended) ∷
     (codes "calls that never returned", c.unreturned) ∷

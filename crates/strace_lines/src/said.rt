@@ -79,7 +79,7 @@ fn named_counts(calls: Tally, counts: &Counts) -> [(&'static [u8], u32); 23]
         (b"numbers that have lines and weren't made", counts.foreign),
         (b"numbers that were made twice", counts.twice),
         (b"calls that show another program", calls.programs),
-        (b"calls that map or free pages of the heap", calls.remapped),
+        (b"calls of brk written as what they did", calls.brks),
         (b"calls joined", counts.joined),
         (b"calls mended", counts.mended),
         (b"calls that never returned", counts.unreturned),
