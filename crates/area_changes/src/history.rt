@@ -12,7 +12,7 @@ use crate::changes::{AreaChange, EntryChange};
 use crate::runs::{Run, compare_runs, note_runs};
 use crate::touched::pages_of_call;
 use page_types::{Call, Reply};
-use space_model::{Entry, PlainSpace};
+use space_model::{Entry, PlainSpace, ReservedSpace};
 use std::alloc::{AllocError, Global};
 
 /// Room for what is noted of one call; what is in it between calls doesn't count.
@@ -29,7 +29,8 @@ struct Notes {
 /// The changes that the entries make from this space on, in the order of the entries.
 ///
 /// A call costs two searches for each area and each gap in the pages that its arguments and its reply name, and what
-/// the call itself costs on a `PlainSpace`. `AllocError`: there was no room for the space or for the changes.
+/// the call itself costs on a `ReservedSpace`, which doesn't grow with the space. `AllocError`: there was no room for
+/// the space or for the changes.
 pub fn changes_of(
     alloc: Global,
     start: &PlainSpace,
@@ -39,7 +40,7 @@ pub fn changes_of(
     requires named { HasNamedCalls entries.now }
     ensures { IfOk result (λ list. Make start.now entries.now list.items) }
 {
-    let mut space = start.copied(alloc)?;
+    let mut space = start.reserved()?;
     let mut notes = Notes {
         first: Vec::new(alloc),
         second: Vec::new(alloc),
@@ -55,7 +56,7 @@ pub fn changes_of(
 
 /// Makes a call that has this reply, and puts into the notes what it changes.
 fn change(
-    space: &mut PlainSpace,
+    space: &mut ReservedSpace,
     notes: &mut Notes,
     call: &Call,
     reply: Reply,
@@ -68,8 +69,7 @@ fn change(
     let pages = pages_of_call(space, call, reply);
     note_runs(&mut notes.first, space, pages.lo, pages.hi)?;
     note_runs(&mut notes.second, space, pages.next, pages.end)?;
-    space.step(call)?;
-    let _areas = space.areas();
+    let _ = space.step_under(call);
     notes.changes.clear();
     compare_runs(&mut notes.changes, notes.first.as_slice(), space)?;
     compare_runs(&mut notes.changes, notes.second.as_slice(), space)?;

@@ -9,7 +9,7 @@ ghost use Rattle.area_changes.specs.Touching.{AreBelow, AreRuns, HasKind};
 
 use crate::changes::{AreaChange, add};
 use page_types::{Kind, Span};
-use space_model::{Pages, PlainSpace, Sort};
+use space_model::{Pages, ReservedSpace, Sort};
 use std::alloc::AllocError;
 
 /// Neighbouring pages of one kind, or that aren't mapped.
@@ -22,7 +22,7 @@ pub struct Run {
 }
 
 /// The run of one kind from page `lo` on, as far as it goes below `hi`.
-fn run_from(space: &PlainSpace, lo: u64, hi: u64) -> Run
+fn run_from(space: &ReservedSpace, lo: u64, hi: u64) -> Run
     requires some { lo < hi }
     requires limit { hi ≤ LIMIT }
     ensures from { result.pages.lo ≡ lo }
@@ -44,7 +44,7 @@ fn run_from(space: &PlainSpace, lo: u64, hi: u64) -> Run
 /// Puts into `runs` those of the pages from `lo` up to `hi`.
 pub(crate) fn note_runs(
     runs: &mut Vec<Run>,
-    space: &PlainSpace,
+    space: &ReservedSpace,
     lo: u64,
     hi: u64,
 ) -> Result<(), AllocError>
@@ -63,7 +63,11 @@ pub(crate) fn note_runs(
 }
 
 /// Goes on with the changes over the pages of a run that was noted before a call; `space` is that after it.
-fn compare_run(list: &mut Vec<AreaChange>, run: &Run, space: &PlainSpace) -> Result<(), AllocError>
+fn compare_run(
+    list: &mut Vec<AreaChange>,
+    run: &Run,
+    space: &ReservedSpace,
+) -> Result<(), AllocError>
     ensures { (before : ℕ → Option KindOf) → HasKind before run.now.pages.lo run.now.pages.hi run.now.kind
         → AreBelow before (kind_at space.now) run.now.pages.lo list.old.items
         → OnOk result (AreBelow before (kind_at space.now) run.now.pages.hi list.new.items) }
@@ -91,7 +95,7 @@ fn compare_run(list: &mut Vec<AreaChange>, run: &Run, space: &PlainSpace) -> Res
 pub(crate) fn compare_runs(
     list: &mut Vec<AreaChange>,
     runs: &[Run],
-    space: &PlainSpace,
+    space: &ReservedSpace,
 ) -> Result<(), AllocError>
     ensures { (before : ℕ → Option KindOf) (lo hi : ℕ) → AreRuns before lo runs.now hi
         → AreBelow before (kind_at space.now) lo list.old.items

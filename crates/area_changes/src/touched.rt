@@ -14,7 +14,7 @@ ghost use Rattle.area_changes.specs.Touching.{IsApart, IsUntouched};
 use crate::stretches::Touched;
 use bitflags::Flags;
 use page_types::{Call, Kind, LIMIT, PAGE, Prot, Reply, end_page, page_count};
-use space_model::{Pages, PlainSpace, Sort};
+use space_model::{Pages, ReservedSpace, Sort};
 
 /// No page.
 fn nothing() -> Touched
@@ -95,7 +95,7 @@ fn touched_by_done(call: &Call) -> Touched
 }
 
 /// The page after the last one of a heap, whose base is that of a page below `LIMIT`.
-fn heap_end(space: &PlainSpace, base: u64) -> u64
+fn heap_end(space: &ReservedSpace, base: u64) -> u64
     requires { base / 4096 ≤ LIMIT }
     ensures { IsHeapEnd (kind_at space.now) base result }
 {
@@ -108,7 +108,7 @@ fn heap_end(space: &PlainSpace, base: u64) -> u64
 }
 
 /// The pages of a heap, up to the end that a Brk asked for where that is higher.
-fn touched_heap(space: &PlainSpace, base: u64, addr: u64) -> Touched
+fn touched_heap(space: &ReservedSpace, base: u64, addr: u64) -> Touched
     ensures { (B : List AreaOf) (page : ℕ) → Answers space.now (CallOf.Brk base addr) (At addr) B → page < LIMIT
         → IsUntouched result page → kind_at space.now page ≡ kind_at B page }
 {
@@ -120,7 +120,7 @@ fn touched_heap(space: &PlainSpace, base: u64, addr: u64) -> Touched
 }
 
 /// The pages that a call may have changed whose reply is an address.
-fn touched_at(space: &PlainSpace, call: &Call, at: u64) -> Touched
+fn touched_at(space: &ReservedSpace, call: &Call, at: u64) -> Touched
     ensures { (B : List AreaOf) (page : ℕ) → Answers space.now call.now (At at) B → page < LIMIT
         → IsUntouched result page → kind_at space.now page ≡ kind_at B page }
 {
@@ -143,11 +143,10 @@ fn touched_at(space: &PlainSpace, call: &Call, at: u64) -> Touched
 }
 
 /// The pages that a call with this reply may have changed on `space`.
-pub(crate) fn pages_of_call(space: &PlainSpace, call: &Call, reply: Reply) -> Touched
-    ensures { (B : List AreaOf) (page : ℕ) → Answers space.now call.now reply B → IsAreaList B → IsUntouched result page
-        → kind_at space.now page ≡ kind_at B page }
+pub(crate) fn pages_of_call(space: &ReservedSpace, call: &Call, reply: Reply) -> Touched
+    ensures { (B : List AreaOf) (page : ℕ) → Answers space.now call.now reply B → IsAreaList space.now → IsAreaList B
+        → IsUntouched result page → kind_at space.now page ≡ kind_at B page }
 {
-    let _areas = space.areas();
     match reply {
         Reply::At(at) => touched_at(space, call, at),
         Reply::Zero => touched_by_done(call),

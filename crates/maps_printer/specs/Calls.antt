@@ -1,6 +1,6 @@
--- A call and its reply as text, as strace(1) prints a system call and its result: addresses in hexadecimal, lengths in
--- decimal, sets as words. What a refusal says after the error's name is this project's own profile. A text is a
--- function of what it shows, so equal calls have equal texts.
+-- A call, its reply and what was recorded of it as text, as strace(1) prints a system call and its result: addresses in
+-- hexadecimal, lengths in decimal, sets as words. What a refusal says after the error's name is this project's own
+-- profile. A text is a function of what it shows, so equal calls have equal texts.
 use Rattle.std.specs.Prelude.{ℕ, ◌==◌, if◌then◌else◌, List, [], ◌++◌, codes, decimal}
 use Rattle.page_types.specs.declared.pages.Field.{Field}
 use Rattle.page_types.specs.declared.pages.Field.TheVariants.{Addr, Len, Flags, End}
@@ -12,6 +12,12 @@ use Rattle.page_types.specs.declared.calls.Why.{Why}
 use Rattle.page_types.specs.declared.calls.Why.TheVariants.{Einval, Enomem, Eexist, Eperm, Efault, MapErr, AccErr}
 use Rattle.page_types.specs.declared.calls.Short.{Short}
 use Rattle.page_types.specs.declared.calls.Short.TheVariants.{Missing, PastEnd, NoGap, Rows}
+use Rattle.strace_reader.specs.declared.item.Errno.{Errno}
+use Rattle.strace_reader.specs.declared.item.Errno.TheVariants.{Einval as EinvalName, Enomem as EnomemName, Eexist as EexistName}
+use Rattle.strace_reader.specs.declared.item.Errno.TheVariants.{Eperm as EpermName, Efault as EfaultName, MapErr as MapErrName}
+use Rattle.strace_reader.specs.declared.item.Errno.TheVariants.{AccErr as AccErrName, Other}
+use Rattle.strace_reader.specs.declared.item.Recorded.{Recorded}
+use Rattle.strace_reader.specs.declared.item.Recorded.TheVariants.{Value, Failed}
 use Rattle.maps_printer.specs.Numbers.{address_text, prefixed_hex}
 use Rattle.maps_printer.specs.Words.{access_text, flags_text, log_kind, move_text, prot_text}
 
@@ -62,3 +68,19 @@ reply_text (At addr) = prefixed_hex addr
 reply_text Zero = codes "0"
 reply_text (Granted kind) = codes "granted " ++ log_kind kind
 reply_text (Refused why) = why_text why
+
+-- a recorded error, by its name where it is one of those that a reply may have
+abbrev pub errno_text : Errno → List ℕ
+errno_text EinvalName = codes "-1 EINVAL"
+errno_text EnomemName = codes "-1 ENOMEM"
+errno_text EexistName = codes "-1 EEXIST"
+errno_text EpermName = codes "-1 EPERM"
+errno_text EfaultName = codes "-1 EFAULT"
+errno_text MapErrName = codes "-1 SEGV_MAPERR"
+errno_text AccErrName = codes "-1 SEGV_ACCERR"
+errno_text Other = codes "-1 other"
+
+-- what a trace recorded as a call's result: an address, 0, or an error
+abbrev pub recorded_text : Recorded → List ℕ
+recorded_text (Value value) = if value == 0 then codes "0" else prefixed_hex value
+recorded_text (Failed name) = errno_text name

@@ -10,8 +10,9 @@ use Rattle.area_changes.specs.declared.changes.EntryChange.{EntryChange}
 use Rattle.space_model.specs.declared.entries.Entry.{Entry}
 use Rattle.space_model.specs.declared.entries.Under.{Under}
 use Rattle.space_model.specs.declared.entries.Under.TheVariants.{Nothing, Reader, Area as UnderArea, Whole}
+use Rattle.maps_printer.specs.declared.differing.DifferingReply.{DifferingReply}
 use Rattle.maps_printer.specs.Numbers.{page_address, prefixed_hex}
-use Rattle.maps_printer.specs.Calls.{call_text, reply_text}
+use Rattle.maps_printer.specs.Calls.{call_text, recorded_text, reply_text}
 use Rattle.maps_printer.specs.Words.{kind_text, log_kind}
 
 -- proc_pid_maps(5): addresses, permissions, and the offset, device and inode of memory that no file backs
@@ -42,14 +43,26 @@ under_text (Reader span) = codes "reader " ++ span_text span
 under_text (UnderArea span) = codes "area " ++ span_text span
 under_text Whole = codes "whole"
 
--- number, worker and line, the call, its reply, and what was held
+-- number, worker and line, the call, its reply, what was held, and an ending
+abbrev pub entry_ended : Entry → List ℕ → List ℕ
+entry_ended e ending = decimal e.number ++ codes " " ++ decimal e.worker ++ codes " " ++ decimal e.line ++ codes " "
+    ++ call_text e.call ++ codes " = " ++ reply_text e.reply ++ codes " under " ++ under_text e.under ++ ending
+
+-- the line of an entry ends there
 abbrev pub entry_line : Entry → List ℕ
-entry_line e = decimal e.number ++ codes " " ++ decimal e.worker ++ codes " " ++ decimal e.line ++ codes " "
-    ++ call_text e.call ++ codes " = " ++ reply_text e.reply ++ codes " under " ++ under_text e.under ++ codes "\n"
+entry_line e = entry_ended e (codes "\n")
 
 -- a line for each entry
 abbrev pub log_text : List Entry → List ℕ
 log_text entries = flat_map entry_line entries
+
+-- the line of an entry, with what was recorded of its call before its end
+abbrev pub differing_line : DifferingReply → List ℕ
+differing_line d = entry_ended d.entry (codes " recorded ") ++ recorded_text d.recorded ++ codes "\n"
+
+-- a line for each reply that isn't the recorded one
+abbrev pub differing_text : List DifferingReply → List ℕ
+differing_text replies = flat_map differing_line replies
 
 -- the kind of a page as a log has it, or that it isn't mapped; this project's own profile
 abbrev pub kind_or_none : Option Kind → List ℕ

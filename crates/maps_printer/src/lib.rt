@@ -7,6 +7,7 @@
 mod buffer;
 mod calls;
 mod changes;
+mod differing;
 mod log;
 mod maps;
 mod numbers;
@@ -14,5 +15,6 @@ mod words;
 
 pub use calls::write_call;
 pub use changes::write_changes;
+pub use differing::{DifferingReply, write_differing};
 pub use log::{is_line_of, write_log};
 pub use maps::{is_line_of_area, write_maps, write_summary, write_touched};

@@ -7,7 +7,7 @@ ghost use Rattle.std.specs.Io.KnownBytes.{Appends};
 ghost use Rattle.byte_ports.specs.Bytes.{AppendsPrefix};
 ghost use Rattle.byte_ports.specs.Counts.{Rose};
 ghost use Rattle.maps_printer.specs.Calls.{field_text, reply_text, short_text, why_text};
-ghost use Rattle.maps_printer.specs.Lines.{entry_line, log_text, span_text, under_text};
+ghost use Rattle.maps_printer.specs.Lines.{entry_ended, entry_line, log_text, span_text, under_text};
 ghost use Rattle.maps_printer.specs.Numbers.{prefixed_hex};
 
 use crate::buffer::{Buffer, LINE, SIZE};
@@ -51,6 +51,16 @@ fn push_entry(buffer: &mut Buffer, entry: &Entry)
     ensures text { buffer.new ≡ buffer.old ++ entry_line entry.now }
     ensures room { length buffer.new ≤ length buffer.old + LINE }
 {
+    push_ended(buffer, entry, b"\n");
+}
+
+/// Adds the line of an entry up to what was held, and an ending: at most 321 bytes.
+pub(crate) fn push_ended(buffer: &mut Buffer, entry: &Entry, ending: &[u8])
+    requires short { length ending.now ≤ 10 }
+    requires room { length buffer.old + 321 ≤ SIZE }
+    ensures text { buffer.new ≡ buffer.old ++ entry_ended entry.now ending.now }
+    ensures room { length buffer.new ≤ length buffer.old + 321 }
+{
     push_decimal(buffer, entry.number);
     buffer.push(b" ");
     push_decimal(buffer, u64::from(entry.worker));
@@ -62,7 +72,7 @@ fn push_entry(buffer: &mut Buffer, entry: &Entry)
     push_reply(buffer, entry.reply);
     buffer.push(b" under ");
     push_under(buffer, entry.under);
-    buffer.push(b"\n");
+    buffer.push(ending);
 }
 
 /// Adds a reply: at most 51 bytes.

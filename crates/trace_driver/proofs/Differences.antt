@@ -1,8 +1,8 @@
 -- Replies are compared one by one, each with what its line recorded. The lines' numbers rise, so a number is that of
 -- one line at most, which is found by halving.
 use Rattle.std.proofs.Common.{◌≡◌, ◌↔◌, Bool, true, false, ℕ, zero, suc, ◌+◌, ◌<◌, ◌≤◌, inl, inr, List, [], ◌∷◌, ◌++◌, length, get_or, drop, drop-cons, Result}
-use Rattle.std.proofs.Common.{Ok, Err, IfOk, IfErr, refl, sym, ap, subst, ◌∙◌, arith, add-one, add-zero, append_assoc, append-nil}
-use Rattle.std.specs.Prelude.{All}
+use Rattle.std.proofs.Common.{Ok, Err, IfOk, IfErr, Option, None, Some, refl, sym, ap, subst, ◌∙◌, arith, add-one, add-zero, append_assoc, append-nil}
+use Rattle.std.specs.Prelude.{All, IfSome, IsNone, is_some}
 use Rattle.std.proofs.Math.ListN.{drop_of_length-le}
 use Rattle.std.specs.Bool.{IsTrue}
 use Rattle.std.specs.List.Sorted.{IsSearchInRange, IsBinarySearchResult, IsNonDecreasingBy}
@@ -13,11 +13,15 @@ use Rattle.std.proofs.lemmas.Cmp.{ranked}
 use Rattle.std.proofs.lemmas.List.{get_or_default}
 use Rattle.std.proofs.lemmas.List.Kept.{AllPairs-cons}
 use Rattle.space_model.specs.declared.entries.Entry.{Entry}
+use Rattle.maps_printer.specs.declared.differing.DifferingReply.{DifferingReply}
+use Rattle.page_types.specs.declared.calls.Reply.{Reply}
+use Rattle.strace_reader.specs.declared.item.Recorded.{Recorded}
 use Rattle.strace_reader.specs.declared.joiner.Fed.{Fed}
 use Rattle.strace_reader.specs.declared.joiner.Fed.TheVariants.{Played}
-use Rattle.strace_reader.specs.Playing.{Differs}
+use Rattle.strace_reader.specs.Playing.{Agrees, Differs}
 use Rattle.trace_driver.specs.declared.trace.Line.{Line}
-use Rattle.trace_driver.specs.Report.{AreDiffering, with_kept, Differing, DiffersFromLine, LinesRise, IsPlaceOf, HasNoLine}
+use Rattle.std.specs.List.{Contains}
+use Rattle.trace_driver.specs.Report.{AreDiffering, with_other, Differing, DiffersFrom, DiffersFromLine, LinesRise, IsPlaceOf, HasNoLine}
 use Rattle.trace_driver.specs.Script.{TracePosition, Reads, lines_by, taken}
 use Rattle.trace_driver.specs.TraceReader.{index_among}
 use Rattle.trace_driver.specs.Script.Reads.{nothing, line}
@@ -58,40 +62,33 @@ agrees false claim h tells holds = absurd (let e : false ≡ true = tells holds 
 -- ---- the list
 
 -- with those that are left from a place on, the list is that of all
-abbrev pub ListsSoFar : List Line → List Entry → ℕ → List Entry → Type 0
-ListsSoFar lines entries i list = (more : List Entry) → AreDiffering lines (drop i entries) more → AreDiffering lines entries (list ++ more)
+abbrev pub ListsSoFar : List Line → List Entry → ℕ → List DifferingReply → Type 0
+ListsSoFar lines entries i list = (more : List DifferingReply) → AreDiffering lines (drop i entries) more → AreDiffering lines entries (list ++ more)
 
-opened_list : (lines : List Line) (entries more : List Entry) (i : ℕ) (e : Entry) → i < length entries
+opened_list : (lines : List Line) (entries : List Entry) (more : List DifferingReply) (i : ℕ) (e : Entry) → i < length entries
     → AreDiffering lines (get_or entries i e ∷ drop (i + 1) entries) more → AreDiffering lines (drop i entries) more
 opened_list lines entries more i e among h =
     let b : drop i entries ≡ get_or entries i e ∷ drop (i + 1) entries = rw (drop-cons entries i e, add-one) refl in rw b h
 
--- an entry that differs from its line is listed, and the list is as before
-pub lists_yes : (lines : List Line) (entries list : List Entry) (i : ℕ) (e : Entry) → i < length entries → ListsSoFar lines entries i list
-    → DiffersFromLine lines (get_or entries i e) → ListsSoFar lines entries (i + 1) (list ++ get_or entries i e ∷ [])
-lists_yes lines entries list i e among so_far differs more h =
-    let first = get_or entries i e in
-    subst (AreDiffering lines entries) (sym (append_assoc list (first ∷ []) more))
-    (so_far (first ∷ more) (opened_list lines entries (first ∷ more) i e among (inl (differs, (more, h, refl)))))
-
--- an entry that doesn't is passed over, and the list is as before
-pub lists_no : (lines : List Line) (entries list : List Entry) (i : ℕ) (e : Entry) → i < length entries → ListsSoFar lines entries i list
-    → ¬ DiffersFromLine lines (get_or entries i e) → ListsSoFar lines entries (i + 1) list
-lists_no lines entries list i e among so_far agrees more h = so_far more (opened_list lines entries more i e among (inr (agrees, h)))
-
--- so with one entry more, whether it differs or not
-pub lists_next : (kept : Bool) (lines : List Line) (entries list new : List Entry) (i : ℕ) (e : Entry) → i < length entries → e ≡ get_or entries i e
-    → IsTrue kept ↔ DiffersFromLine lines e → new ≡ with_kept kept list e → ListsSoFar lines entries i list → ListsSoFar lines entries (i + 1) new
-lists_next true lines entries list new i e among is tells made so_far =
-    let differs = subst (λ (x : Entry). DiffersFromLine lines x) is (tells.0 refl) in
-    let more = lists_yes lines entries list i e among so_far differs in
-    subst (ListsSoFar lines entries (i + 1)) (sym made) (subst (λ (x : Entry). ListsSoFar lines entries (i + 1) (list ++ x ∷ [])) (sym is) more)
-lists_next false lines entries list new i e among is tells made so_far =
-    let same = subst (λ (x : Entry). ¬ DiffersFromLine lines x) is (agrees false (DiffersFromLine lines e) refl tells.1) in
-    subst (ListsSoFar lines entries (i + 1)) (sym made) (lists_no lines entries list i e among so_far same)
+-- so with one entry more: where there is a result that it differs from, it is listed with that
+pub lists_next : (other : Option Recorded) (lines : List Line) (entries : List Entry) (list new : List DifferingReply) (i : ℕ) (e : Entry)
+    → i < length entries → e ≡ get_or entries i e → IfSome other (DiffersFrom lines e) → (IsNone other → ¬ DiffersFromLine lines e)
+    → new ≡ with_other other list e → ListsSoFar lines entries i list → ListsSoFar lines entries (i + 1) new
+lists_next (Some r) lines entries list new i e among is some none made so_far more h =
+    let first : DifferingReply = record { entry = get_or entries i e; recorded = r } in
+    let differs = subst (λ (x : Entry). DiffersFrom lines x r) is some in
+    let all = so_far (first ∷ more) (opened_list lines entries (first ∷ more) i e among (inl (r, differs, (more, h, refl)))) in
+    let listed : AreDiffering lines entries ((list ++ first ∷ []) ++ more) =
+    subst (AreDiffering lines entries) (sym (append_assoc list (first ∷ []) more)) all in
+    let new_is : new ≡ list ++ first ∷ [] = made ∙ ap (λ (x : Entry). list ++ (record { entry = x; recorded = r }) ∷ []) is in
+    subst (λ l. AreDiffering lines entries (l ++ more)) (sym new_is) listed
+lists_next None lines entries list new i e among is some none made so_far more h =
+    let same = subst (λ (x : Entry). ¬ DiffersFromLine lines x) is (none refl) in
+    subst (λ l. AreDiffering lines entries (l ++ more)) (sym made) (so_far more (opened_list lines entries more i e among (inr (same, h))))
 
 -- when none is left the list is that of all
-pub listed : (lines : List Line) (entries list : List Entry) (i : ℕ) → length entries ≤ i → ListsSoFar lines entries i list → AreDiffering lines entries list
+pub listed : (lines : List Line) (entries : List Entry) (list : List DifferingReply) (i : ℕ) → length entries ≤ i → ListsSoFar lines entries i list
+    → AreDiffering lines entries list
 listed lines entries list i above so_far =
     let b : drop i entries ≡ [] = drop_of_length-le entries above in
     let none : AreDiffering lines (drop i entries) [] = rw b refl in subst (AreDiffering lines entries) (append-nil list) (so_far [] none)
@@ -106,21 +103,58 @@ one_place lines i j d rise low high same = elim (cases_lt i j) [
   | inr above ↦ elim (cases_lt j i) [ inl below ↦ absurd (omega (arith, rise j i d below low, same)) | inr up ↦ omega arith ]
 ]
 
--- the line at the entry's place is the only one of its number, so it tells whether the entry differs
-pub tells_at : (is : Bool) (lines : List Line) (entry : Entry) (place : ℕ) (d : Line) → LinesRise lines → place < length lines
-    → (get_or lines place d).number ≡ entry.line → IsTrue is ↔ Differs entry.reply (get_or lines place d).recorded → IsTrue is ↔ DiffersFromLine lines entry
-tells_at is lines entry place d rise low number tells = (
-  (λ yes. (get_or lines place d, (place, low, get_or_default lines place (get_or lines place d) d low), number, tells.0 yes)),
-  (λ differs.
-      let k = differs.1.0 in
-      let other_is : get_or lines k d ≡ differs.0 = get_or_default lines k d differs.0 differs.1.1 ∙ differs.1.2 in
-      let same : place ≡ k = one_place lines place k d rise low differs.1.1 (number ∙ sym differs.2 ∙ ap (λ (l : Line). l.number) (sym other_is)) in
-      tells.1 (subst (λ (l : Line). Differs entry.reply l.recorded) (sym (ap (λ i. get_or lines i d) same ∙ other_is)) differs.3)),
-)
+-- the line at the entry's place is the only one of its number
+line_at : (lines : List Line) (entry : Entry) (place : ℕ) (d : Line) → LinesRise lines → place < length lines → (get_or lines place d).number ≡ entry.line
+    → (other : Line) → Contains lines other → other.number ≡ entry.line → get_or lines place d ≡ other
+line_at lines entry place d rise low number other there other_number =
+    let k = there.0 in
+    let other_is : get_or lines k d ≡ other = get_or_default lines k d other there.1 ∙ there.2 in
+    let same : place ≡ k = one_place lines place k d rise low there.1 (number ∙ sym other_number ∙ ap (λ (l : Line). l.number) (sym other_is)) in
+    ap (λ i. get_or lines i d) same ∙ other_is
+
+-- so one result at most was recorded that an entry differs from
+pub one_other : (lines : List Line) (entry : Entry) (r s : Recorded) → LinesRise lines → DiffersFrom lines entry r → DiffersFrom lines entry s → r ≡ s
+one_other lines entry r s rise one other =
+    let at = one.1 in let here : get_or lines at.0 one.0 ≡ one.0 = at.2 in
+    let line_is = line_at lines entry at.0 one.0 rise at.1 (ap (λ (l : Line). l.number) here ∙ one.2) other.0 other.1 other.2 in
+    let told : Some r ≡ Some s = sym one.3 ∙ ap (λ (l : Line). l.recorded) (sym here ∙ line_is) ∙ other.3 in cc
+
+-- what the line at the entry's place tells is what the entry differs from
+pub tells_other : (other : Option Recorded) (lines : List Line) (entry : Entry) (place : ℕ) (d : Line) → LinesRise lines → place < length lines
+    → (get_or lines place d).number ≡ entry.line → IfSome other (λ r. ((get_or lines place d).recorded ≡ Some r) × (¬ Agrees entry.reply r))
+    → IfSome other (DiffersFrom lines entry)
+tells_other (Some r) lines entry place d rise low number tells =
+    (get_or lines place d, (place, low, get_or_default lines place (get_or lines place d) d low), number, tells.0, tells.1)
+tells_other None lines entry place d rise low number tells = tt
+
+-- and if it tells nothing the entry doesn't differ
+pub tells_none : (lines : List Line) (entry : Entry) (place : ℕ) (d : Line) → LinesRise lines → place < length lines
+    → (get_or lines place d).number ≡ entry.line → ¬ Differs entry.reply (get_or lines place d).recorded → ¬ DiffersFromLine lines entry
+tells_none lines entry place d rise low number same differs =
+    let from = differs.1 in
+    let line_is = line_at lines entry place d rise low number from.0 from.1 from.2 in
+    let told : (get_or lines place d).recorded ≡ Some differs.0 = ap (λ (l : Line). l.recorded) line_is ∙ from.3 in
+    same (subst (Differs entry.reply) (sym told) from.4)
 
 -- an entry without a line doesn't
-pub tells_nowhere : (lines : List Line) (entry : Entry) → HasNoLine lines entry.line → IsTrue false ↔ DiffersFromLine lines entry
-tells_nowhere lines entry none = ((λ yes. absurd cc), (λ differs. absurd (none differs.0 differs.1 differs.2)))
+pub tells_nowhere : (lines : List Line) (entry : Entry) → HasNoLine lines entry.line → ¬ DiffersFromLine lines entry
+tells_nowhere lines entry none differs = let from = differs.1 in none from.0 from.1 from.2
+
+-- so what it differs from tells whether it does
+pub tells_some : (other : Option Recorded) (lines : List Line) (entry : Entry) → IfSome other (DiffersFrom lines entry)
+    → (IsNone other → ¬ DiffersFromLine lines entry) → IsTrue (is_some other) ↔ DiffersFromLine lines entry
+tells_some (Some r) lines entry some none = ((λ yes. (r, some)), (λ differs. refl))
+tells_some None lines entry some none = ((λ yes. absurd cc), (λ differs. absurd (none refl differs)))
+
+-- a reply differs from what was recorded exactly if it doesn't agree with that
+pub apart : (reply : Reply) (recorded : Option Recorded) → Differs reply recorded → IfSome recorded (λ r. (recorded ≡ Some r) × (¬ Agrees reply r))
+apart reply (Some r) differs = (refl, differs)
+apart reply None differs = absurd differs
+
+-- where nothing was recorded it doesn't differ
+pub none_apart : (reply : Reply) (recorded : Option Recorded) → IsNone recorded → ¬ Differs reply recorded
+none_apart reply (Some r) none differs = absurd (let e : true ≡ false = none in cc)
+none_apart reply None none differs = differs
 
 -- ---- the search
 

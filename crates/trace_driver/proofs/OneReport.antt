@@ -24,7 +24,8 @@ use Rattle.history_check.proofs.Fitting.{fits_tells}
 use Rattle.area_changes.specs.declared.changes.EntryChange.{EntryChange}
 use Rattle.area_changes.specs.Changes.{Make}
 use Rattle.area_changes.proofs.OneList.{make_one}
-use Rattle.maps_printer.specs.Lines.{changes_text, log_text, maps_text, summary_text, touched_text}
+use Rattle.maps_printer.specs.declared.differing.DifferingReply.{DifferingReply}
+use Rattle.maps_printer.specs.Lines.{changes_text, differing_text, log_text, maps_text, summary_text, touched_text}
 use Rattle.area_rows.specs.Callers.{ClosedView}
 use Rattle.trace_threads.specs.declared.worker.Line.{Line as Turn}
 use Rattle.trace_threads.specs.Workers.{AreEntriesOf}
@@ -39,11 +40,13 @@ use Rattle.load_lines.specs.Calls.{drawn_lines}
 use Rattle.trace_driver.specs.Dealt.{worker_lines}
 use Rattle.trace_driver.specs.Play.{line_of, IsHistoryOf}
 use Rattle.trace_driver.specs.Laws.{AreOneReport, AskForOneWorker, OneWorkerHasOneReport}
-use Rattle.trace_driver.specs.Report.{AreDiffering, CountsTouched, Differing, asked_changes, asked_log, asked_touched, refused_count, report_text}
+use Rattle.trace_driver.specs.Report.{AreDiffering, CountsTouched, Differing, LinesRise, asked_changes, asked_log, asked_touched, refused_count}
+use Rattle.trace_driver.specs.Report.{report_text}
 use Rattle.trace_driver.specs.Run.{Heard, IsReport, Loaded, Reports}
 use Rattle.strace_reader.specs.Playing.{skipped_by}
 use Rattle.trace_driver.specs.Script.{IsScript, Reads, TracePosition, after, lines_by, start_at, taken}
 use Rattle.trace_driver.specs.Script.Reads.{nothing, line}
+use Rattle.trace_driver.proofs.Differences.{one_other, reads_rise}
 use Rattle.trace_driver.proofs.JudgeLemmas.{lines_few, opens_few}
 use Rattle.trace_driver.proofs.OneWorker.{of_lines}
 use Rattle.trace_driver.proofs.Outcomes.{asks_same, same_opens, start_one}
@@ -184,12 +187,15 @@ differing_one lines (e ∷ es) n m (inr a) (inl b) = absurd (a.0 b.0)
 differing_one lines (e ∷ es) n m (inr a) (inr b) = differing_one lines es n m a.1 b.1
 
 -- and they are one list
-differing_list : (lines : List Line) (entries xs ys : List Entry) → AreDiffering lines entries xs → AreDiffering lines entries ys → xs ≡ ys
-differing_list lines [] xs ys a b = a ∙ sym b
-differing_list lines (e ∷ es) xs ys (inl a) (inl b) = a.1.2 ∙ ap (λ l. e ∷ l) (differing_list lines es a.1.0 b.1.0 a.1.1 b.1.1) ∙ sym b.1.2
-differing_list lines (e ∷ es) xs ys (inl a) (inr b) = absurd (b.0 a.0)
-differing_list lines (e ∷ es) xs ys (inr a) (inl b) = absurd (a.0 b.0)
-differing_list lines (e ∷ es) xs ys (inr a) (inr b) = differing_list lines es xs ys a.1 b.1
+differing_list : (lines : List Line) (entries : List Entry) (xs ys : List DifferingReply) → LinesRise lines → AreDiffering lines entries xs
+    → AreDiffering lines entries ys → xs ≡ ys
+differing_list lines [] xs ys rise a b = a ∙ sym b
+differing_list lines (e ∷ es) xs ys rise (inl a) (inl b) =
+    let told = one_other lines e a.0 b.0 rise a.1 b.1 in let rest = differing_list lines es a.2.0 b.2.0 rise a.2.1 b.2.1 in
+    a.2.2 ∙ (λ i. (record { entry = e; recorded = told i }) ∷ rest i) ∙ sym b.2.2
+differing_list lines (e ∷ es) xs ys rise (inl a) (inr b) = absurd (b.0 (a.0, a.1))
+differing_list lines (e ∷ es) xs ys rise (inr a) (inl b) = absurd (a.0 (b.0, b.1))
+differing_list lines (e ∷ es) xs ys rise (inr a) (inr b) = differing_list lines es xs ys rise a.1 b.1
 
 -- so are the pages that were touched
 touched_one : (entries : List Entry) (n m : ℕ) → CountsTouched entries n → CountsTouched entries m → n ≡ m
@@ -204,7 +210,8 @@ where_asked text other true x y same = ap text (same refl)
 where_asked text other false x y same = refl
 
 -- the same parts make the same text
-text_one : (options : Options) (last end : List Area) (entries others xs ys : List Entry) (some other : List EntryChange) (c d : Counts) → last ≡ end
+text_one : (options : Options) (last end : List Area) (entries others : List Entry) (xs ys : List DifferingReply) (some other : List EntryChange)
+    (c d : Counts) → last ≡ end
     → entries ≡ others → asked_log options entries xs ≡ asked_log options others ys → asked_changes options some ≡ asked_changes options other
     → c.skipped ≡ d.skipped → c.refused ≡ d.refused → c.differ ≡ d.differ → asked_touched options c.touched ≡ asked_touched options d.touched
     → report_text options last entries xs some c ≡ report_text options end others ys other d
@@ -220,10 +227,10 @@ report_one options bytes one other first second few a b =
     let same = played_one a.start a.lines one.entries other.entries one.areas other.areas a.script.kinds.areas a.played played in
     let differs : Differing a.lines one.entries b.differ = rw (script.lines, sym same.0) at b.differs in
     let differ : a.differ ≡ b.differ = differing_one a.lines one.entries a.differ b.differ a.differs differs in
-    let listed = where_asked log_text (if options.log then log_text other.entries else []) options.differ a.differing b.differing
+    let listed = where_asked differing_text (if options.log then log_text other.entries else []) options.differ a.differing b.differing
     (λ is.
     let theirs : AreDiffering a.lines one.entries b.differing = rw (script.lines, sym same.0) at (b.differing_are is) in
-    differing_list a.lines one.entries a.differing b.differing (a.differing_are is) theirs) in
+    differing_list a.lines one.entries a.differing b.differing (reads_rise a.script.reads).0 (a.differing_are is) theirs) in
     let log : asked_log options one.entries a.differing ≡ asked_log options other.entries b.differing =
     ap (λ es. asked_log options es a.differing) same.0 ∙ listed in
     let changed = where_asked changes_text [] options.changes a.changes b.changes

@@ -17,7 +17,7 @@ use Rattle.area_rows.proofs.Storing.{all_legal}
 use Rattle.area_rows.specs.Callers.{ClosedView}
 use Rattle.area_rows.specs.History.{entries_of}
 use Rattle.line_parts.specs.Lines.{lines_of}
-use Rattle.maps_printer.specs.Lines.{changes_text, log_text, maps_text, summary_text, touched_text}
+use Rattle.maps_printer.specs.Lines.{changes_text, differing_text, log_text, maps_text, summary_text, touched_text}
 use Rattle.line_parts.specs.Leaves.{worth}
 use Rattle.round_trip.proofs.LogsRead.{lacks, decimal_lacks}
 use Rattle.history_check.specs.Laws.{PrintedLogIsGood, IsTouchedLine}
@@ -177,7 +177,7 @@ log_first_text : (options : Options) (bytes : List ℕ) (threads : ℕ) (closed 
     ++ (summary_text (length closed.entries) h.skipped (refused_count closed.entries) h.differ ++ asked_touched options h.touched)) ≡ report
 log_first_text options bytes threads closed report log h =
     let asked : asked_log options closed.entries h.differing ≡ log_text closed.entries =
-    (λ i. if (log.all i) then log_text h.differing else if (log.log i) then log_text closed.entries else []) in
+    (λ i. if (log.all i) then differing_text h.differing else if (log.log i) then log_text closed.entries else []) in
     let none : asked_changes options h.changes ≡ [] = ap (λ (b : Bool). if b then changes_text h.changes else []) log.alone in
     let summary = summary_text (length closed.entries) h.skipped (refused_count closed.entries) h.differ in
     (λ i. sym asked i ++ (sym none i ++ (maps_text closed.areas ++ (summary ++ asked_touched options h.touched)))) ∙ sym h.text

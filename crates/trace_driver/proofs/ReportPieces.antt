@@ -9,6 +9,7 @@ use Rattle.byte_ports.proofs.Pieces.{AppendsPrefix-after}
 use Rattle.space_model.specs.declared.areas.Area.{Area}
 use Rattle.space_model.specs.declared.entries.Entry.{Entry}
 use Rattle.area_changes.specs.declared.changes.EntryChange.{EntryChange}
+use Rattle.maps_printer.specs.declared.differing.DifferingReply.{DifferingReply}
 use Rattle.maps_printer.specs.Lines.{maps_text, summary_text}
 use Rattle.trace_driver.specs.declared.report.Counts.{Counts}
 use Rattle.command_words.specs.declared.commands.Options.{Options}
@@ -18,8 +19,8 @@ use Rattle.trace_driver.specs.Report.{asked_changes, asked_log, asked_touched, r
 abbrev pub summary_of : List Entry → Counts → List ℕ
 summary_of entries counts = summary_text (length entries) counts.skipped counts.refused counts.differ
 
-module _ {T E : Type 0} (r : Result T E) (a b c d e f : Option (List ℕ)) (options : Options) (areas : List Area) (entries differing : List Entry)
-    (changes : List EntryChange) (counts : Counts) where
+module _ {T E : Type 0} (r : Result T E) (a b c d e f : Option (List ℕ)) (options : Options) (areas : List Area) (entries : List Entry)
+    (differing : List DifferingReply) (changes : List EntryChange) (counts : Counts) where
   -- a log, the changes, the maps, the summary and the whole count, one behind the other, are the whole report
   pub report_all : Appends a b (asked_log options entries differing) → Appends b c (asked_changes options changes)
       → Appends c d (maps_text areas) → Appends d e (summary_of entries counts)

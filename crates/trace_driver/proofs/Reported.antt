@@ -6,6 +6,7 @@ use Rattle.area_rows.specs.Callers.{ClosedView}
 use Rattle.command_words.specs.Commands.{AskFor}
 use Rattle.command_words.specs.declared.commands.Command.TheVariants.{Play}
 use Rattle.command_words.specs.declared.commands.Options.{Options}
+use Rattle.maps_printer.specs.declared.differing.DifferingReply.{DifferingReply}
 use Rattle.space_model.specs.declared.areas.Area.{Area}
 use Rattle.space_model.specs.declared.entries.Entry.{Entry}
 use Rattle.trace_driver.specs.declared.report.Counts.{Counts}
@@ -18,8 +19,8 @@ use Rattle.trace_driver.specs.Script.{IsReadScript}
 
 -- what was read of the lines and the entries, by each function that looked at them, is what was played
 pub reported : (words : List (List ℕ)) (options : Options) (threads : ℕ) (a b : Option (List ℕ)) (script : Script) (closed : ClosedView)
-    (played lines others : List Line) (one two three four differing listed : List Entry) (changes made : List EntryChange) (areas : List Area)
-    (counts : Counts) → AskFor words (Play options threads) → IsReadScript options a b script
+    (played lines others : List Line) (one two three four : List Entry) (differing listed : List DifferingReply) (changes made : List EntryChange)
+    (areas : List Area) (counts : Counts) → AskFor words (Play options threads) → IsReadScript options a b script
     → played ≡ script.lines.items → IsHistoryOf threads script.opening played closed.entries closed.areas
     → (options.touched ≡ true → CountsTouched closed.entries counts.touched)
     → lines ≡ script.lines.items → one ≡ closed.entries → (options.differ ≡ true → AreDiffering lines one differing)

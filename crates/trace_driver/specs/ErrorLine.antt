@@ -34,7 +34,8 @@ bad_line_text line column what = numbered (codes "line ") line (codes " column "
 -- the line for a status; none for a whole report
 unfoldable pub error_line : Status → List ℕ
 error_line (Done closed) = []
-error_line Usage = codes "usage: play [--threads N] [--opening] [--log] [--touched] [--changes] [--differ] or load --seed N --threads N --calls N or check [--opening]\n"
+error_line Usage = codes "usage: play [--threads N] [--opening] [--log] [--touched] [--changes] [--differ]"
+    ++ codes " or load --seed N --threads N --calls N or check [--opening]\n"
 error_line (BadLine line column what) = bad_line_text line column what
 error_line ReadFault = codes "read fault\n"
 error_line (WriteFault closed) = codes "write fault\n"

@@ -1,8 +1,8 @@
--- The report of a run, as one text: the log where it is asked for, or its lines whose reply differs alone, the changes
--- of each call where they are asked for, the maps of the last areas, the summary, and how many pages were touched where
--- that is asked for. The texts of its parts are the printer's. The order of the parts and
--- what is counted are this project's own profile.
-use Rattle.std.specs.Prelude.{◌≡◌, ◌≢◌, ◌⊎◌, ◌↔◌, ℕ, ◌+◌, ◌^◌, ◌<◌, ◌∷◌, Bool, true, false, List, [], ◌++◌, length, count_by, slice_index_or, if◌then◌else◌}
+-- The report of a run, as one text: the log where it is asked for, or its lines whose reply differs alone, each with
+-- what was recorded, the changes of each call where they are asked for, the maps of the last areas, the summary, and
+-- how many pages were touched where that is asked for. The texts of its parts are the printer's. The order of the parts
+-- and what is counted are this project's own profile.
+use Rattle.std.specs.Prelude.{◌≡◌, ◌≢◌, ◌⊎◌, ◌↔◌, ℕ, ◌+◌, ◌^◌, ◌<◌, ◌∷◌, Bool, true, false, List, [], ◌++◌, Option, None, Some, length, count_by, slice_index_or, if◌then◌else◌}
 use Rattle.std.specs.List.{AllPairs, Contains}
 use Rattle.page_types.specs.declared.calls.Call.TheVariants.{Fault}
 use Rattle.page_types.specs.declared.calls.Kind.{Kind}
@@ -13,8 +13,10 @@ use Rattle.page_types.specs.Pages.{page_of}
 use Rattle.space_model.specs.declared.areas.Area.{Area}
 use Rattle.space_model.specs.declared.entries.Entry.{Entry}
 use Rattle.area_changes.specs.declared.changes.EntryChange.{EntryChange}
-use Rattle.maps_printer.specs.Lines.{changes_text, log_text, maps_text, summary_text, touched_text}
-use Rattle.strace_reader.specs.Playing.{Differs}
+use Rattle.maps_printer.specs.declared.differing.DifferingReply.{DifferingReply}
+use Rattle.maps_printer.specs.Lines.{changes_text, differing_text, log_text, maps_text, summary_text, touched_text}
+use Rattle.strace_reader.specs.declared.item.Recorded.{Recorded}
+use Rattle.strace_reader.specs.Playing.{Agrees}
 use Rattle.trace_driver.specs.declared.report.Counts.{Counts}
 use Rattle.trace_driver.specs.declared.trace.Line.{Line}
 use Rattle.command_words.specs.declared.commands.Options.{Options}
@@ -42,9 +44,14 @@ IsPlaceOf lines number place = (place < length lines) × ((d : Line) → (slice_
 abbrev pub HasNoLine : List Line → ℕ → Type 0
 HasNoLine lines number = (line : Line) → Contains lines line → line.number ≢ number
 
+-- this was recorded in the entry's line, and the entry's reply is not that
+abbrev pub DiffersFrom : List Line → Entry → Recorded → Type 0
+DiffersFrom lines entry recorded = (line : Line) × Contains lines line × (line.number ≡ entry.line)
+    × (line.recorded ≡ Some recorded) × (¬ Agrees entry.reply recorded)
+
 -- the entry's reply differs from the recorded result of its line
 abbrev pub DiffersFromLine : List Line → Entry → Type 0
-DiffersFromLine lines entry = (line : Line) × Contains lines line × (line.number ≡ entry.line) × Differs entry.reply line.recorded
+DiffersFromLine lines entry = (recorded : Recorded) × DiffersFrom lines entry recorded
 
 -- so many entries have a reply that differs from the recorded result of their line
 abbrev pub Differing : List Line → List Entry → ℕ → Type 0
@@ -53,20 +60,22 @@ Differing lines (entry ∷ entries) count =
     (DiffersFromLine lines entry × ((rest : ℕ) × Differing lines entries rest × (count ≡ 1 + rest)))
     ⊎ ((¬ DiffersFromLine lines entry) × Differing lines entries count)
 
--- these are the entries whose reply differs from the recorded result of their line, in their order
-abbrev pub AreDiffering : List Line → List Entry → List Entry → Type 0
+-- these are the entries whose reply differs from the recorded result of their line, in their order, each with that
+abbrev pub AreDiffering : List Line → List Entry → List DifferingReply → Type 0
 AreDiffering lines [] list = list ≡ []
 AreDiffering lines (entry ∷ entries) list =
-    (DiffersFromLine lines entry × ((rest : List Entry) × AreDiffering lines entries rest × (list ≡ entry ∷ rest)))
+    ((recorded : Recorded) × DiffersFrom lines entry recorded × ((rest : List DifferingReply) × AreDiffering lines entries rest
+    × (list ≡ (record { entry = entry; recorded = recorded }) ∷ rest)))
     ⊎ ((¬ DiffersFromLine lines entry) × AreDiffering lines entries list)
 
--- the entries with one more at their end, where it is kept
-abbrev pub with_kept : Bool → List Entry → Entry → List Entry
-with_kept kept list entry = if kept then list ++ entry ∷ [] else list
+-- the replies with one more at their end, where a result is given that it differs from
+abbrev pub with_other : Option Recorded → List DifferingReply → Entry → List DifferingReply
+with_other None list entry = list
+with_other (Some recorded) list entry = list ++ (record { entry = entry; recorded = recorded }) ∷ []
 
--- the log, where it is asked for: of the entries that differ where they are asked for, and otherwise of all
-abbrev pub asked_log : Options → List Entry → List Entry → List ℕ
-asked_log options entries differing = if options.differ then log_text differing else if options.log then log_text entries else []
+-- the log, where it is asked for: of the replies that differ where they are asked for, and otherwise of all entries
+abbrev pub asked_log : Options → List Entry → List DifferingReply → List ℕ
+asked_log options entries differing = if options.differ then differing_text differing else if options.log then log_text entries else []
 
 -- the changes, where they are asked for
 abbrev pub asked_changes : Options → List EntryChange → List ℕ
@@ -86,9 +95,9 @@ abbrev pub asked_touched : Options → ℕ → List ℕ
 asked_touched options count = if options.touched then touched_text count else []
 
 -- the whole report
-abbrev pub report_text : Options → List Area → List Entry → List Entry → List EntryChange → Counts → List ℕ
+abbrev pub report_text : Options → List Area → List Entry → List DifferingReply → List EntryChange → Counts → List ℕ
 report_text options last entries differing changes counts =
-    (if options.differ then log_text differing else if options.log then log_text entries else [])
+    (if options.differ then differing_text differing else if options.log then log_text entries else [])
     ++ ((if options.changes then changes_text changes else []) ++ (maps_text last
     ++ (summary_text (length entries) counts.skipped counts.refused counts.differ
     ++ (if options.touched then touched_text counts.touched else []))))

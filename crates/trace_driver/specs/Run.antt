@@ -6,10 +6,10 @@ use Rattle.std.specs.Io.KnownBytes.{Appends, Keeps}
 use Rattle.byte_ports.specs.Bytes.{AppendsPrefix}
 use Rattle.byte_ports.specs.Counts.{Rose}
 use Rattle.space_model.specs.declared.areas.Area.{Area}
-use Rattle.space_model.specs.declared.entries.Entry.{Entry}
 use Rattle.area_changes.specs.declared.changes.EntryChange.{EntryChange}
 use Rattle.area_changes.specs.Changes.{Make}
 use Rattle.area_rows.specs.Callers.{ClosedView}
+use Rattle.maps_printer.specs.declared.differing.DifferingReply.{DifferingReply}
 use Rattle.maps_printer.specs.Lines.{summary_text}
 use Rattle.load_lines.specs.Calls.{drawn_lines}
 use Rattle.command_words.specs.declared.commands.Command.TheVariants.{Play, Load, Check}
@@ -43,7 +43,7 @@ pub record IsReport (options : Options) (threads : ℕ) (bytes : List ℕ) (clos
   pub differs : Differing lines closed.entries differ
   pub touched : ℕ
   pub touches : options.touched ≡ true → CountsTouched closed.entries touched
-  pub differing : List Entry
+  pub differing : List DifferingReply
   pub differing_are : options.differ ≡ true → AreDiffering lines closed.entries differing
   pub changes : List EntryChange
   pub changes_are : options.changes ≡ true → Make start closed.entries changes

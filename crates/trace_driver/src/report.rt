@@ -2,21 +2,25 @@
 //! summary, and the count of touched pages where that is asked for. The texts of the parts are those of the crate
 //! `maps_printer`. A reader may rely on the output being the whole report, or a first part of it
 //! where the sink failed.
-ghost use Rattle.std.specs.Prelude.{◌≡◌, ◌≤◌, ◌^◌, ◌<◌, ◌↔◌, length, IfSome, IsNone, IsTrue, OnOk, OnErr};
+ghost use Rattle.std.specs.Prelude.{◌≡◌, ◌≤◌, ◌^◌, ◌<◌, ◌↔◌, length, Some, IfSome, IsNone, IsTrue, OnOk, OnErr};
 ghost use Rattle.std.specs.Io.KnownBytes.{Appends};
 ghost use Rattle.byte_ports.specs.Bytes.{AppendsPrefix};
 ghost use Rattle.byte_ports.specs.Counts.{Rose};
 ghost use Rattle.trace_driver.specs.Report.{report_text, asked_changes, asked_log, asked_touched, is_refused, refused_count};
-ghost use Rattle.trace_driver.specs.Report.{Differing, DiffersFromLine, HasNoLine, IsPlaceOf, LinesRise};
+ghost use Rattle.strace_reader.specs.Playing.{Agrees, Differs};
+ghost use Rattle.trace_driver.specs.Report.{Differing, DiffersFrom, DiffersFromLine, HasNoLine, IsPlaceOf, LinesRise};
 
 use crate::trace::Line;
 use area_changes::EntryChange;
 use byte_ports::{Failed, Sink};
 use command_words::Options;
-use maps_printer::{write_changes, write_log, write_maps, write_summary, write_touched};
+use maps_printer::{
+    DifferingReply, write_changes, write_differing, write_log, write_maps, write_summary,
+    write_touched,
+};
 use page_types::Reply;
 use space_model::{Area, Entry};
-use strace_reader::differs;
+use strace_reader::{Recorded, differs};
 
 /// The counts of a report but that of the played calls, which is the number of entries.
 #[derive(Clone, Copy, Debug, PartialEq, Eq)]
@@ -31,8 +35,8 @@ pub struct Counts {
     pub touched: u32,
 }
 
-/// Writes the report of what was played: the log is that of `entries`, at most 2^32 - 1 of them, or of those that are
-/// shown, as the changes are, and the maps are those of `areas`.
+/// Writes the report of what was played: the log is that of `entries`, at most 2^32 - 1 of them, or of the replies that
+/// differ, and the maps are those of `areas`.
 ///
 /// `Failed`: the sink failed in this call; some first part of the report was appended.
 pub fn write_report<K: Sink>(
@@ -40,7 +44,7 @@ pub fn write_report<K: Sink>(
     options: Options,
     entries: &[Entry],
     areas: &[Area],
-    differing: &[Entry],
+    differing: &[DifferingReply],
     changes: &[EntryChange],
     counts: Counts,
 ) -> Result<(), Failed>
@@ -95,12 +99,12 @@ fn write_asked_changes<K: Sink>(
     }
 }
 
-/// Writes the log where the options ask for it, or that of the entries that differ where they ask for these.
+/// Writes the log where the options ask for it, or the replies that differ where they ask for these.
 fn write_asked_log<K: Sink>(
     out: &mut K,
     options: Options,
     entries: &[Entry],
-    differing: &[Entry],
+    differing: &[DifferingReply],
 ) -> Result<(), Failed>
     ensures all { OnOk result
         (Appends (K.contents out.old) (K.contents out.new) (asked_log options entries.now differing.now)) }
@@ -110,7 +114,7 @@ fn write_asked_log<K: Sink>(
     ensures never_falls { K.fault_count out.old ≤ K.fault_count out.new }
 {
     if options.differ {
-        write_log(out, differing)
+        write_differing(out, differing)
     } else if options.log {
         write_log(out, entries)
     } else {
@@ -154,15 +158,38 @@ pub fn differ_count(lines: &[Line], entries: &[Entry]) -> u32
     count
 }
 
-/// Whether an entry's reply differs from the recorded result of its line, which is looked for at one place first; and
-/// where to look first for the line of the next entry.
-pub(crate) fn differs_from_line(lines: &[Line], entry: &Entry, near: usize) -> (bool, usize)
+/// Whether an entry's reply differs from the recorded result of its line, and where to look first for the line of the
+/// next entry.
+fn differs_from_line(lines: &[Line], entry: &Entry, near: usize) -> (bool, usize)
     requires { LinesRise lines.now }
     ensures { IsTrue result.0 ↔ DiffersFromLine lines.now entry.now }
 {
+    let (other, next) = other_result(lines, entry, near);
+    (other.is_some(), next)
+}
+
+/// The recorded result of an entry's line, where the entry's reply differs from it; the line is looked for at one place
+/// first. And where to look first for the line of the next entry.
+pub(crate) fn other_result(lines: &[Line], entry: &Entry, near: usize) -> (Option<Recorded>, usize)
+    requires { LinesRise lines.now }
+    ensures some { IfSome result.0 (DiffersFrom lines.now entry.now) }
+    ensures none { IsNone result.0 → ¬ DiffersFromLine lines.now entry.now }
+{
     match place_of(lines, entry.line, near) {
-        Some(place) => (differs(&entry.reply, lines[place].recorded), place + 1),
-        None => (false, near),
+        Some(place) => (unless_same(&entry.reply, lines[place].recorded), place + 1),
+        None => (None, near),
+    }
+}
+
+/// What was recorded, where the reply is not that.
+fn unless_same(reply: &Reply, recorded: Option<Recorded>) -> Option<Recorded>
+    ensures some { IfSome result (λ other. (recorded ≡ Some other) × (¬ Agrees reply.now other)) }
+    ensures none { IsNone result → ¬ Differs reply.now recorded }
+{
+    if differs(reply, recorded) {
+        recorded
+    } else {
+        None
     }
 }
 

@@ -1,24 +1,26 @@
-//! What a report shows of the entries of a history besides their log, each where it is asked for: the entries whose
-//! reply differs from the recorded result, and the changes that each call made. It is found before anything is written,
-//! so a run without memory for it writes nothing.
+//! What a report shows of the entries of a history besides their log, each where it is asked for: the replies that
+//! differ from the recorded result, with that, and the changes that each call made. It is found before anything is
+//! written, so a run without memory for it writes nothing.
 ghost use Rattle.std.specs.Prelude.{◌≡◌, List, IfOk, OnOk, true};
 ghost use Rattle.space_model.specs.declared.areas.Area.{Area as AreaOf};
 ghost use Rattle.space_model.specs.History.{Chains, HasRightReply, HasNamedCalls};
 ghost use Rattle.area_changes.specs.Changes.{Make};
-ghost use Rattle.trace_driver.specs.Report.{AreDiffering, LinesRise, with_kept};
+ghost use Rattle.trace_driver.specs.Report.{AreDiffering, LinesRise, with_other};
 
-use crate::report::differs_from_line;
+use crate::report::other_result;
 use crate::trace::Line;
 use area_changes::{EntryChange, changes_of};
 use command_words::Options;
+use maps_printer::DifferingReply;
 use space_model::{Entry, PlainSpace};
 use std::alloc::{AllocError, Global};
+use strace_reader::Recorded;
 
 /// What is shown of the entries; a list that isn't asked for is empty.
 #[derive(Drop)]
 pub struct Shown {
-    /// The entries whose reply differs from the recorded result of their line.
-    pub differing: Vec<Entry>,
+    /// The replies that differ from the recorded result of their line, with that.
+    pub differing: Vec<DifferingReply>,
     /// What their calls changed, one call after another.
     pub changes: Vec<EntryChange>,
 }
@@ -60,13 +62,13 @@ fn asked_changes(
     }
 }
 
-/// The entries whose reply differs from the recorded result of their line, where they are asked for.
+/// The replies that differ from the recorded result of their line, where they are asked for.
 fn asked_differing(
     alloc: Global,
     asked: bool,
     lines: &[Line],
     entries: &[Entry],
-) -> Result<Vec<Entry>, AllocError>
+) -> Result<Vec<DifferingReply>, AllocError>
     requires { LinesRise lines.now }
     ensures { IfOk result (λ list. asked ≡ true → AreDiffering lines.now entries.now list.items) }
 {
@@ -77,27 +79,36 @@ fn asked_differing(
     }
 }
 
-/// The entries whose reply differs from the recorded result of their line, in their order.
-fn differing(alloc: Global, lines: &[Line], entries: &[Entry]) -> Result<Vec<Entry>, AllocError>
+/// The replies that differ from the recorded result of their line, in the order of the entries.
+fn differing(
+    alloc: Global,
+    lines: &[Line],
+    entries: &[Entry],
+) -> Result<Vec<DifferingReply>, AllocError>
     requires { LinesRise lines.now }
     ensures { IfOk result (λ list. AreDiffering lines.now entries.now list.items) }
 {
     let mut list = Vec::new(alloc);
     let mut near = 0;
     'entries: for entry in entries {
-        let (differs, next) = differs_from_line(lines, entry, near);
+        let (other, next) = other_result(lines, entry, near);
         near = next;
-        keep(&mut list, entry, differs)?;
+        keep(&mut list, entry, other)?;
     }
     Ok(list)
 }
 
-/// Appends an entry where it is to be kept.
-fn keep(list: &mut Vec<Entry>, entry: &Entry, kept: bool) -> Result<(), AllocError>
-    ensures { OnOk result (list.new.items ≡ with_kept kept list.old.items entry.now) }
+/// Appends an entry where there is a result that its reply differs from.
+fn keep(
+    list: &mut Vec<DifferingReply>,
+    entry: &Entry,
+    other: Option<Recorded>,
+) -> Result<(), AllocError>
+    ensures { OnOk result (list.new.items ≡ with_other other list.old.items entry.now) }
 {
-    if kept {
-        list.push(*entry)?;
+    if let Some(recorded) = other {
+        let entry = *entry;
+        list.push(DifferingReply { entry, recorded })?;
     }
     Ok(())
 }

@@ -7,14 +7,14 @@ use Rattle.area_changes.proofs.touched.pages_of_call.Goals as goal
 
 -- no page behind the addresses of users has a kind
 pub returns-in-At : goal.returns-in-At
-returns-in-At c B page h list out = elim (cases_lt page LIMIT) [
+returns-in-At c B page h old list out = elim (cases_lt page LIMIT) [
   | inl low ↦ c.touched_at.ensures B page (subst (λ r. Answers c.args.space.now c.args.call.now r B) c.in-At.is h) low out
-  | inr high ↦ kept_high c.args.space.now B page c.areas-areas.ensures.in_order list high
+  | inr high ↦ kept_high c.args.space.now B page old list high
 ]
 
 pub returns-in-Zero : goal.returns-in-Zero
-returns-in-Zero c B page h list out = elim (cases_lt page LIMIT) [
+returns-in-Zero c B page h old list out = elim (cases_lt page LIMIT) [
   | inl low ↦
       c.touched_by_done.ensures c.args.space.now B page (subst (λ r. Answers c.args.space.now c.args.call.now r B) c.in-Zero.is h) low out
-  | inr high ↦ kept_high c.args.space.now B page c.areas-areas.ensures.in_order list high
+  | inr high ↦ kept_high c.args.space.now B page old list high
 ]

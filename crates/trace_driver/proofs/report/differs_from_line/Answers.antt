@@ -1,12 +1,12 @@
-use Rattle.std.proofs.Common.{refl}
-use Rattle.trace_driver.proofs.Differences.{tells_at, tells_nowhere}
+use Rattle.std.proofs.Common.{◌↔◌, Bool, subst, sym}
+use Rattle.std.specs.Bool.{IsTrue}
+use Rattle.trace_driver.specs.Report.{DiffersFromLine}
+use Rattle.trace_driver.proofs.Differences.{tells_some}
 use Rattle.trace_driver.proofs.report.differs_from_line.Goals as goal
 
--- the line that was found tells whether the entry differs
-pub returns-in-Some : goal.returns-in-Some
-returns-in-Some c =
-    let place = c.in-Some.ensures.found in tells_at _ c.args.lines.now c.args.entry.now c.in-Some.place _ c.requires place.0 (place.1 _) c.differs.ensures
-
--- an entry whose line isn't there doesn't differ
-pub returns-in-None : goal.returns-in-None
-returns-in-None c = tells_nowhere c.args.lines.now c.args.entry.now (c.in-None.ensures.none refl)
+-- the result that the entry differs from, if there is one, tells whether it does
+pub returns : goal.returns
+returns c =
+    let lines = c.args.lines.now in let entry = c.args.entry.now in
+    let tells = tells_some c.other_result-other.result.0 lines entry c.other_result-other.ensures.some c.other_result-other.ensures.none in
+    subst (λ (b : Bool). IsTrue b ↔ DiffersFromLine lines entry) (sym c.is_some.ensures) tells
