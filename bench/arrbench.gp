@@ -7,7 +7,7 @@ set output to
 set datafile separator "\t"
 set datafile missing NaN
 
-peers = '"range lock, one list" "range lock, regions" "pthread_mutex" "pthread_rwlock" "64 mutexes" "16 rwlocks" "256 rwlocks" "interval tree" "tree, writers only" "fcntl record locks" "no lock"'
+peers = '"range lock, one list" "range lock, regions" "pthread_mutex" "pthread_rwlock" "64 mutexes" "16 rwlocks" "256 rwlocks" "interval tree" "tree, writers only" "FIFO range lock" "fcntl record locks" "no lock"'
 colours = '#0b62b8 #d1350f #111111 #2e8b57 #8a5fbf #c08a00 #c08a00 #00a0a0 #00a0a0 #b05080 #999999'
 widths = '3.5 3.5 1.8 1.8 1.8 1.8 1.8 1.8 1.8 1.8 1.5'
 dashes = '1 1 1 1 1 1 2 1 2 1 3'

@@ -102,19 +102,24 @@ static void draw_range(worker *me, uint64_t *lo, uint64_t *hi) {
         *lo = next_random(me) % (of.slots - of.length + 1);
         *hi = *lo + of.length;
         break;
+    case WIDE:
+        if (me->number == 0) break;
+        *lo = next_random(me) % (of.slots - of.length + 1);
+        *hi = *lo + of.length;
+        break;
     }
 }
 
 /* What a thread does with the slots that it holds. Full and disjoint ranges are always changed as a whole, so that a
    reader that sees two of their slots differ was beside a writer. */
 static void use(worker *me, uint64_t lo, uint64_t hi, bool writer) {
+    uint64_t step = of.step ? of.step : 1;
     if (writer) {
-        for (uint64_t i = lo; i < hi; i++) slots[i].value = slots[i].value + 1;
-        me->additions += hi - lo;
+        for (uint64_t i = lo; i < hi; i += step, me->additions++) slots[i].value = slots[i].value + 1;
         return;
     }
     uint64_t first = slots[lo].value, differences = 0;
-    for (uint64_t i = lo; i < hi; i++) differences |= slots[i].value ^ first;
+    for (uint64_t i = lo; i < hi; i += step) differences |= slots[i].value ^ first;
     if (differences != 0 && (of.draw == FULL || of.draw == DISJOINT)) me->differed = true;
 }
 
@@ -176,8 +181,14 @@ static outcome run_round(long long nanoseconds) {
     double took = (double)(now() - start);
     which->close();
     look_for_losses(differed, additions);
-    return (outcome){ (double)turns * 1e9 / took, 100.0 * (double)fewest * of.threads / (double)(turns ? turns : 1),
-                      (double)waited / (double)(turns ? turns : 1) / ticks_each(), (double)longest / ticks_each() };
+    const worker *wide = &workers[0];
+    return (outcome){ .rate = (double)turns * 1e9 / took,
+                      .least_share = 100.0 * (double)fewest * of.threads / (double)(turns ? turns : 1),
+                      .mean_wait = (double)waited / (double)(turns ? turns : 1) / ticks_each(),
+                      .longest_wait = (double)longest / ticks_each(),
+                      .first_rate = (double)wide->turns * 1e9 / took,
+                      .first_mean = (double)wide->waited / (double)(wide->turns ? wide->turns : 1) / ticks_each(),
+                      .first_longest = (double)wide->longest / ticks_each() };
 }
 
 static int compare(const void *a, const void *b) {
@@ -194,14 +205,21 @@ void measure(const peer *const peers[], unsigned count, const load *load, long l
             outcome one = run_round(nanoseconds);
             rates[p][round] = one.rate;
             if (round == 0) outcomes[p] = one;
-            else outcomes[p].mean_wait += one.mean_wait;
+            else {
+                outcomes[p].mean_wait += one.mean_wait;
+                outcomes[p].first_rate += one.first_rate;
+                outcomes[p].first_mean += one.first_mean;
+            }
             if (one.least_share < outcomes[p].least_share) outcomes[p].least_share = one.least_share;
             if (one.longest_wait > outcomes[p].longest_wait) outcomes[p].longest_wait = one.longest_wait;
+            if (one.first_longest > outcomes[p].first_longest) outcomes[p].first_longest = one.first_longest;
         }
     for (unsigned p = 0; p < count; p++) {
         qsort(rates[p], ROUNDS, sizeof(double), compare);
         outcomes[p].rate = rates[p][ROUNDS / 2];
         outcomes[p].mean_wait /= ROUNDS;
+        outcomes[p].first_rate /= ROUNDS;
+        outcomes[p].first_mean /= ROUNDS;
     }
 }
 

@@ -2,7 +2,10 @@
 #
 #     awk -F '\t' -v of=arrbench -f tables.awk FILE        a table for each kind of range, and one of shares and waits
 #     awk -F '\t' -v of=waits -f tables.awk FILE           the mean and the longest wait of long rounds
+#     awk -F '\t' -v of=wide -f tables.awk FILE            turns of all and of the wide caller, and its waits
+#     awk -F '\t' -v of=crowd -f tables.awk FILE           turns and waits where threads are more than processors
 #     awk -F '\t' -v of=when_it_pays -f tables.awk FILE    from which work on the range lock is ahead of whom
+#     awk -F '\t' -v of=ratios -f tables.awk FILE          of the same lines: the range lock beside the best other lock
 
 function seen(list, name,    i) {
     for (i = 1; i <= count[list]; i++) if (item[list, i] == name) return
@@ -18,12 +21,12 @@ function time_of(ns) { return ns < 1000 ? ns " ns" : ns / 1000 " µs" }
 
 function wait_of(us) { return us < 1000 ? sprintf("%.2f", us / 1000) : us < 10000 ? sprintf("%.1f", us / 1000) : sprintf("%.0f", us / 1000) }
 
-of == "arrbench" || of == "waits" {
+of == "arrbench" || of == "waits" || of == "wide" || of == "crowd" {
     seen("kinds", $1); seen("readers", $2); seen("threads", $3); seen("peers", $4)
     rate[$1, $2, $3, $4] = $5; share[$1, $2, $3, $4] = $6; wait[$1, $2, $3, $4] = $7; mean[$1, $2, $3, $4] = $8
 }
 
-of == "when_it_pays" {
+of == "when_it_pays" || of == "ratios" {
     seen("modes", $1); seen("threads", $2); seen("works", $3); seen("peers", $4)
     rate[$1, $2, $3, $4] = $5
 }
@@ -90,8 +93,8 @@ function ahead(mode, threads, mine, other,    w) {
 }
 
 function print_when_it_pays(    m, t, p, line) {
-    print "| threads | who | ahead of the mutex from | of the rwlock from | of 64 mutexes from | of the interval tree from |"
-    print "|---|---|---|---|---|---|"
+    print "| threads | who | ahead of the mutex from | of the rwlock from | of 64 mutexes from | of the interval tree from | of the FIFO lock from |"
+    print "|---|---|---|---|---|---|---|"
     for (t = 1; t <= count["threads"]; t++)
         for (m = 1; m <= count["modes"]; m++) {
             line = " " item["modes", m] " |"
@@ -102,8 +105,69 @@ function print_when_it_pays(    m, t, p, line) {
         }
 }
 
+function print_wide(    p, name) {
+    print "One caller of 4096 slots beside seven writers of one slot, each for 1 µs: million turns a second of all, thousand of"
+    print "the wide caller, its mean wait in microseconds and its longest in milliseconds:\n"
+    print "| | turns | the wide caller's | its mean wait | longest |"
+    print "|---|---|---|---|---|"
+    for (p = 1; p <= count["peers"]; p++) {
+        name = item["peers", p]
+        row(name, " " number(rate["wide", 0, 8, name]) " | " number(share["wide", 0, 8, name]) " | " sprintf("%.1f", mean["wide", 0, 8, name]) " | " \
+            wait_of(wait["wide", 0, 8, name]) " |")
+    }
+}
+
+function print_crowd(    p, t, name, head, line, cells) {
+    for (t = 1; t <= count["threads"]; t++) {
+        head = head " " item["threads", t] " threads: turns | least share | longest wait |"
+        line = line "---|---|---|"
+    }
+    print "Threads more than processors at random ranges of 256 slots, each for 1 µs, 60 / 0 readers in 100: million turns a"
+    print "second, the least share in hundredths of an even one, the longest wait in milliseconds:\n"
+    row("", head)
+    print "|---|" line
+    for (p = 1; p <= count["peers"]; p++) {
+        name = item["peers", p]
+        cells = ""
+        for (t = 1; t <= count["threads"]; t++)
+            cells = cells " " number(rate["crowd", 60, item["threads", t], name]) " / " number(rate["crowd", 0, item["threads", t], name]) " | " \
+                share["crowd", 60, item["threads", t], name] " / " share["crowd", 0, item["threads", t], name] " | " \
+                wait_of(wait["crowd", 60, item["threads", t], name]) " / " wait_of(wait["crowd", 0, item["threads", t], name]) " |"
+        row(name, cells)
+    }
+}
+
+# The better of two rates of the range lock, over the best rate of the other peers, with that one's name.
+function ratio(mode, threads, work,    p, mine, best, name) {
+    for (p = 1; p <= count["peers"]; p++) {
+        name = item["peers", p]
+        if (p <= 2) { if (rate[mode, threads, work, name] > mine) mine = rate[mode, threads, work, name] }
+        else if (rate[mode, threads, work, name] > best) { best = rate[mode, threads, work, name]; best_name = name }
+    }
+    return sprintf(" %.2f (%s) |", best > 0 ? mine / best : 0, best_name)
+}
+
+function print_ratios(    m, t, w, head, line, cells) {
+    for (w = 2; w <= count["works"]; w++) {
+        head = head " W of " time_of(item["works", w]) " |"
+        line = line "---|"
+    }
+    print "Holds a second of the range lock, with one list or with regions, over those of the best other lock, which is named:\n"
+    print "| threads | who |" head
+    print "|---|---|" line
+    for (t = 2; t <= count["threads"]; t++)
+        for (m = 1; m <= count["modes"]; m++) {
+            cells = " " item["modes", m] " |"
+            for (w = 2; w <= count["works"]; w++) cells = cells ratio(item["modes", m], item["threads", t], item["works", w])
+            row(item["threads", t], cells)
+        }
+}
+
 END {
     if (of == "arrbench") print_arrbench()
     else if (of == "waits") print_waits()
+    else if (of == "wide") print_wide()
+    else if (of == "crowd") print_crowd()
+    else if (of == "ratios") print_ratios()
     else print_when_it_pays()
 }

@@ -11,7 +11,8 @@
 
 #include <string.h>
 
-static const peer *const peers[] = { &range_list, &range_regions, &one_mutex, &one_rwlock, &striped, &tree_shared };
+static const peer *const peers[] = { &range_list, &range_regions, &one_mutex, &one_rwlock, &striped, &tree_shared,
+                                     &fifo };
 enum { PEERS = sizeof peers / sizeof *peers, PAGES = 4096, REGIONS = 16, DISTURBED = 75 };
 
 static const struct mode {

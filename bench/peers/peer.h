@@ -9,6 +9,10 @@
 #include <stdio.h>
 #include <stdlib.h>
 
+#ifdef __cplusplus
+extern "C" {
+#endif
+
 enum { MOST_THREADS = 16 };
 
 typedef struct peer {
@@ -23,7 +27,7 @@ typedef struct peer {
 } peer;
 
 extern const peer range_list, range_regions, one_mutex, one_rwlock, striped, rwlocks_16, rwlocks_256, tree_shared,
-    tree_exclusive, record_locks, no_lock;
+    tree_exclusive, fifo, record_locks, no_lock, absl_btree, interval_map;
 
 /* Ends the program where a call of the system failed. */
 static inline void must(bool well, const char *what) {
@@ -37,5 +41,9 @@ static inline void wait_a_turn(unsigned *turns) {
     if (++*turns < 100) __builtin_ia32_pause();
     else sched_yield();
 }
+
+#ifdef __cplusplus
+}
+#endif
 
 #endif

@@ -3,7 +3,7 @@
 //! It serves both crates, gz-range and gz-space, each for the library of its own name. The folder that gz_range was
 //! installed below is taken from GZ_RANGE_PREFIX. Where that isn't set, the file gz_range.pc is looked for in the folders
 //! of PKG_CONFIG_PATH and in the usual ones, and read by hand: of it the lines prefix=, includedir= and libdir= matter.
-//! So neither pkg-config nor another crate is needed.
+//! So neither pkg-config nor another crate is needed. The version of the installed header has to fit the crate's own.
 
 use std::collections::HashMap;
 use std::env;
@@ -24,16 +24,26 @@ fn main() {
         println!("cargo:rerun-if-env-changed={name}");
     }
     println!("cargo:rerun-if-changed=src/header.c");
+    println!("cargo:rerun-if-env-changed=DOCS_RS");
+    if env::var_os("DOCS_RS").is_some() {
+        return; // the pages need no library
+    }
     let installed = find(&library, &prefix)
         .unwrap_or_else(|| panic!("{library} isn't installed: set {prefix} to the folder that its install was given"));
-    for needed in [installed.include.join(format!("{library}.h")), installed.lib.join(format!("lib{library}.a"))] {
+    let header = installed.include.join(format!("{library}.h"));
+    for needed in [&header, &installed.lib.join(format!("lib{library}.a"))] {
         assert!(needed.is_file(), "{} isn't there", needed.display());
         println!("cargo:rerun-if-changed={}", needed.display());
     }
+    let (there, own) = (version_in(&header, &library), env::var("CARGO_PKG_VERSION").expect("cargo names the version"));
+    assert!(
+        fits(&there, &own),
+        "the installed {library} is {there}, and this crate wants {own} or later, of the same first number"
+    );
     compile_header(&library, &installed.include);
-    // Named by file, so that no shared object of the same name is taken.
     println!("cargo:rustc-link-search=native={}", installed.lib.display());
-    println!("cargo:rustc-link-lib=static={library}");
+    let kind = if env::var_os("CARGO_FEATURE_SHARED").is_some() { "dylib" } else { "static" };
+    println!("cargo:rustc-link-lib={kind}={library}");
 }
 
 fn find(library: &str, prefix: &str) -> Option<Installed> {
@@ -61,6 +71,21 @@ fn read(file: &Path) -> Option<Installed> {
         values.insert(name.trim(), value);
     }
     Some(Installed { include: PathBuf::from(values.get("includedir")?), lib: PathBuf::from(values.get("libdir")?) })
+}
+
+/// The version that an installed header names.
+fn version_in(header: &Path, library: &str) -> String {
+    let line = format!("#define {}_VERSION_TEXT ", library.to_uppercase());
+    let text = fs::read_to_string(header).unwrap_or_else(|error| panic!("{}: {error}", header.display()));
+    let named = text.lines().find_map(|text| text.strip_prefix(&line)).unwrap_or("");
+    named.trim_matches('"').to_string()
+}
+
+/// Whether a library of one version serves a crate of another: the first numbers are the same, and it isn't older.
+fn fits(there: &str, own: &str) -> bool {
+    let numbers = |version: &str| version.split('.').map(|part| part.parse().unwrap_or(0)).collect::<Vec<u64>>();
+    let (there, own) = (numbers(there), numbers(own));
+    there[0] == own[0] && there >= own
 }
 
 /// Compiles the functions that are C in the header itself, into an archive of their own.

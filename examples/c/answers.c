@@ -27,12 +27,13 @@ static const char *name_of(uint32_t answer) {
     case GZ_RANGE_NO_WORD: return "NO_WORD";
     case GZ_RANGE_OTHER: return "OTHER";
     case GZ_RANGE_BAD_CUT: return "BAD_CUT";
+    case GZ_RANGE_FULL: return "FULL";
     default: return "no answer";
     }
 }
 
 static void names(void) {
-    for (uint32_t answer = 0; answer <= GZ_RANGE_BAD_CUT + 1; answer++)
+    for (uint32_t answer = 0; answer <= GZ_RANGE_FULL + 1; answer++)
         printf("%2u %-10s %s\n", answer, name_of(answer), gz_range_text((gz_range_answer)answer));
 }
 
@@ -58,6 +59,15 @@ static void tries(const char *call, gz_range *handle, uint64_t lo, uint64_t hi, 
     printf("    tries made: %u\n", made);
 }
 
+/* What a scan of the table's lists shows that has so many places. */
+static void scans(const char *call, gz_range *handle, size_t places) {
+    gz_busy ranges[8];
+    size_t found = 99;
+    says(call, gz_range_scan(handle, ranges, places, &found));
+    printf("    ranges found: %zu\n", found);
+    for (size_t i = 0; i < found; i++) shows(&ranges[i]);
+}
+
 static void closed_handles(void) {
     gz_range handle = GZ_RANGE_CLOSED, other = GZ_RANGE_CLOSED;
     gz_busy busy;
@@ -68,6 +78,7 @@ static void closed_handles(void) {
     says("acquire by a closed handle", gz_range_acquire(&handle, 0, 1, GZ_RANGE_WRITER));
     says("release by a closed handle", gz_range_release(&handle));
     looks("what a closed handle holds", &handle);
+    scans("scan by a closed handle", &handle, 8);
     says("load by a closed handle", gz_range_load(&handle, 0, &value));
     says("store by a closed handle", gz_range_store(&handle, 0, 1));
     says("add by a closed handle", gz_range_add(&handle, 0, 1, &value));
@@ -168,6 +179,55 @@ static void regions(void) {
     says("close of the other", gz_range_close(&b));
 }
 
+/* Who has what, as a handle shows it that holds nothing. */
+static void who_has_what(void) {
+    const uint64_t words[1] = { 7 };
+    gz_range a = GZ_RANGE_CLOSED, b = GZ_RANGE_CLOSED, c = GZ_RANGE_CLOSED;
+    gz_busy busy, ranges[8];
+    size_t found = 99;
+    says("open of 3 seats over 2 regions", gz_range_open_cut(3, 2, 4, words, 1, &a));
+    says("share", gz_range_share(&a, &b));
+    says("share", gz_range_share(&a, &c));
+    scans("scan where nothing is held", &c, 8);
+    says("try of 5 to 9 as a writer", gz_range_try(&a, 5, 9, GZ_RANGE_WRITER, 1, &busy));
+    says("another's try of 20 to 30 as a reader", gz_range_try(&b, 20, 30, GZ_RANGE_READER, 1, &busy));
+    scans("scan", &c, 8);
+    scans("scan with a place for each", &c, 2);
+    scans("scan with one place", &c, 1);
+    scans("scan with none", &c, 0);
+    scans("scan by a handle that holds a range", &a, 8);
+    says("scan with an open handle to put there", gz_range_scan_into(&c, b, ranges, 8, &found));
+    printf("    ranges found: %zu\n", found);
+    says("release", gz_range_release(&a));
+    scans("scan when one was given back", &c, 8);
+    says("try of 40 to 41 by the handle that scanned", gz_range_try(&c, 40, 41, GZ_RANGE_WRITER, 1, &busy));
+    says("close", gz_range_close(&a));
+    says("close", gz_range_close(&b));
+    says("close", gz_range_close(&c));
+}
+
+/* What two handles meet, the second one for two milliseconds. */
+static void counts_of(gz_range *a, gz_range *b) {
+    gz_range_counts counts = { 0 };
+    struct timespec moment = { 0, 0 };
+    says("counted acquire", gz_range_acquire_counted(a, 0, 10, GZ_RANGE_WRITER, &counts));
+    says("another's, until a moment that has passed",
+         gz_range_acquire_until_counted(b, 3, 4, GZ_RANGE_WRITER, &moment, &counts));
+    says("the same of no range", gz_range_acquire_until_counted(b, 4, 4, GZ_RANGE_WRITER, &moment, &counts));
+    gz_range_count(&counts, GZ_RANGE_HAS_ONE);
+    gz_range_count(NULL, GZ_RANGE_BUSY);
+    printf("    tries %" PRIu64 ", refused as BUSY %" PRIu64 ", waits %" PRIu64 ", sleeps %" PRIu64 "\n", counts.tries,
+           counts.refused[GZ_RANGE_BUSY], counts.waits, counts.sleeps);
+    clock_gettime(CLOCK_MONOTONIC, &moment);
+    moment.tv_sec += moment.tv_nsec >= 998000000;
+    moment.tv_nsec = (moment.tv_nsec + 2000000) % 1000000000;
+    says("another's, for 2 ms", gz_range_acquire_until_counted(b, 3, 4, GZ_RANGE_WRITER, &moment, &counts));
+    printf("    each try but the first refused: %s; a wait or a sleep between two: %s\n",
+           counts.tries == counts.refused[GZ_RANGE_BUSY] + 1 ? "yes" : "no",
+           counts.tries == counts.waits + counts.sleeps + 3 ? "yes" : "no");
+    says("release", gz_range_release(a));
+}
+
 static void words_of(gz_range *a) {
     uint64_t value = 0;
     says("load of word 1", gz_range_load(a, 1, &value));
@@ -215,8 +275,10 @@ int main(void) {
     closed_handles();
     openings();
     regions();
+    who_has_what();
     says("open", gz_range_open(2, words, 2, &a));
     says("share", gz_range_share(&a, &b));
+    counts_of(&a, &b);
     ranges(&a, &b);
     words_of(&a);
     endings(&a, &b);

@@ -13,6 +13,7 @@
 
 static const uint32_t RW = GZ_SPACE_READ | GZ_SPACE_WRITE, AT = GZ_SPACE_PRIVATE | GZ_SPACE_FIXED;
 static gz_space_reply reply;
+static gz_space_counts counts = { 1, 1 };
 
 static const char *name_of(uint32_t answer) {
     switch (answer) {
@@ -76,12 +77,33 @@ static void looks(const char *whose, const gz_space *handle) {
            held.writer ? "writer" : "reader");
 }
 
+/* A look for an area, and what it found. */
+static void finds(const char *look, uint32_t answer, gz_space_mapping area) {
+    says(look, answer);
+    printf("    %s %" PRIu64 " to %" PRIu64 ", prot %u shared %u sealed %u\n", area.mapped ? "area" : "none", area.lo,
+           area.hi, area.prot, area.shared, area.sealed);
+}
+
+/* A look for areas, with what it counted, and what is then in the first of the places that it was given. */
+static void lists(const char *look, uint32_t answer, const gz_space_mapping *areas, size_t shown) {
+    says(look, answer);
+    printf("    areas %" PRIu64 ", pages %" PRIu64 "%s", counts.areas, counts.pages, shown ? ":" : "");
+    for (const gz_space_mapping *at = areas; at < areas + shown; at++)
+        printf(" %" PRIu64 " to %" PRIu64 " prot %u%s", at->lo, at->hi, at->prot, at + 1 < areas + shown ? "," : "");
+    printf("\n");
+}
+
 static void closed_handles(void) {
     gz_space handle = GZ_SPACE_CLOSED, other = GZ_SPACE_CLOSED;
+    gz_space_mapping area = { 1, 1, 1, 1, 1, 1 };
     says("share of a closed handle", gz_space_share(&handle, &other));
     replies("map by a closed handle", gz_space_map(&handle, 0, PAGE, RW, AT, &reply));
     replies("fault by a closed handle", gz_space_fault(&handle, 0, GZ_SPACE_READ, &reply));
     replies("bad fault by a closed handle", gz_space_fault(&handle, 0, 3, &reply));
+    uint32_t answer = gz_space_area(&handle, HIGHEST, &area);
+    finds("area by a closed handle", answer, area);
+    area.prot = 7;
+    lists("areas by a closed handle", gz_space_areas(&handle, 1, 0, &area, 1, &counts), &area, 1);
     says("done by a closed handle", gz_space_done(&handle));
     looks("what a closed handle holds", &handle);
     says("close of a closed handle", gz_space_close(&handle));
@@ -241,6 +263,75 @@ static void seals(gz_space *a) {
     replies("remap of it", gz_space_remap(a, 0x20000, PAGE, PAGE, 0, 0, &reply));
 }
 
+/* Looks for areas: by the call that waits, and by single ones, of which each tells the pages for the next. */
+static void areas(gz_space *a, gz_space *b) {
+    gz_space_mapping area;
+    gz_space_pages around = { 0, 0 };
+    uint32_t round = 0, answer;
+    replies("map of page 98", gz_space_map(a, 98 * PAGE, PAGE, GZ_SPACE_READ, AT, &reply));
+    replies("map of pages 99 to 102", gz_space_map(a, 99 * PAGE, 4 * PAGE, RW, AT, &reply));
+    replies("map of pages 103 and 104", gz_space_map(a, 103 * PAGE, 2 * PAGE, RW, AT, &reply));
+    answer = gz_space_area(a, 100 * PAGE + 1, &area);
+    finds("area of page 100", answer, area);
+    answer = gz_space_area(a, 98 * PAGE, &area);
+    finds("area of page 98", answer, area);
+    answer = gz_space_area(a, 97 * PAGE, &area);
+    finds("area of page 97", answer, area);
+    answer = gz_space_area(a, 0x20000, &area);
+    finds("area of page 32", answer, area);
+    answer = gz_space_area(a, HIGHEST - 1, &area);
+    finds("area of the last page", answer, area);
+    answer = gz_space_area(a, HIGHEST, &area);
+    finds("area past the last page", answer, area);
+    replies("fault that goes on holding", gz_space_fault_held(b, 100 * PAGE, GZ_SPACE_READ, false, &reply));
+    answer = gz_space_area(b, 100 * PAGE, &area);
+    finds("area by a handle that holds", answer, area);
+    for (int look = 1; look <= 3; look++) {
+        answer = gz_space_try_area(a, 100, &round, &around, &area);
+        finds("another's look at page 100", answer, area);
+        printf("    round %u, around %" PRIu64 " to %" PRIu64 "\n", round, around.lo, around.hi);
+    }
+    says("done", gz_space_done(b));
+    replies("fault alone that goes on holding", gz_space_fault_held(b, 104 * PAGE, GZ_SPACE_READ, true, &reply));
+    answer = gz_space_try_area(a, 100, &round, &around, &area);
+    printf("another's look at page 100: %s\n", outcome(answer));
+    says("done", gz_space_done(b));
+    looks("what is held", a);
+}
+
+/* Lists the areas of spans: all at one moment, each clipped, as many as have room. */
+static void spans(gz_space *a, gz_space *b) {
+    static const gz_space_mapping untouched = { 7, 7, 7, 7, 7, 7 };
+    const gz_space_call unmap = { .kind = GZ_SPACE_UNMAP, .addr = 98 * PAGE, .len = PAGE };
+    gz_space_mapping at[3] = { untouched, untouched, untouched };
+    uint32_t round = 0;
+    lists("areas of pages 98 to 103", gz_space_areas(a, 98, 104, at, 3, &counts), at, 3);
+    lists("areas of pages 100 and 101", gz_space_areas(a, 100, 102, at, 3, &counts), at, 1);
+    lists("areas of free pages", gz_space_areas(a, 105, 200, at, 3, &counts), at, 1);
+    at[0] = at[1] = untouched;
+    lists("areas of pages 0 to 199, room for one", gz_space_areas(a, 0, 200, at, 1, &counts), at, 2);
+    lists("count of all pages", gz_space_count(a, 0, GZ_SPACE_LIMIT, &counts), at, 0);
+    lists("areas of no page", gz_space_areas(a, 98, 98, at, 2, &counts), at, 2);
+    lists("areas past the last page", gz_space_areas(a, 98, GZ_SPACE_LIMIT + 1, at, 2, &counts), at, 2);
+    replies("fault that goes on holding", gz_space_fault_held(b, 100 * PAGE, GZ_SPACE_READ, false, &reply));
+    lists("areas by a handle that holds", gz_space_areas(b, 98, 104, at, 2, &counts), at, 2);
+    lists("another's areas, held", gz_space_areas_held(a, 98, 104, at, 2, &counts), at, 2);
+    looks("what it holds", a);
+    says("done", gz_space_done(b));
+    replies("another's fault of a page of them", gz_space_fault(b, 99 * PAGE, GZ_SPACE_READ, &reply));
+    printf("another's try of an unmap of one: %s\n", outcome(gz_space_try(b, &unmap, &round, false, &reply)));
+    says("done", gz_space_done(a));
+    round = 0;
+    replies("fault alone that goes on holding", gz_space_fault_held(b, 104 * PAGE, GZ_SPACE_READ, true, &reply));
+    at[0] = untouched;
+    printf("another's look at pages 98 to 104: %s\n",
+           outcome(gz_space_try_areas(a, 98, 105, &round, true, at, 2, &counts)));
+    printf("    areas %" PRIu64 ", and the first place has prot %u\n", counts.areas, at[0].prot);
+    lists("its areas of pages 98 to 103", gz_space_areas(a, 98, 104, at, 2, &counts), at, 2);
+    says("done", gz_space_done(b));
+    looks("what is held", a);
+}
+
 /* As many areas as there may be rows for, each of one page between two gaps, and then one more. */
 static void rows(void) {
     gz_space handle = GZ_SPACE_CLOSED;
@@ -277,6 +368,8 @@ int main(void) {
     maps(&a);
     changes(&a);
     seals(&a);
+    areas(&a, &b);
+    spans(&a, &b);
     rows();
     pauses();
     says("close of the other", gz_space_close(&b));

@@ -16,12 +16,12 @@
      store and drops it.
    - A handler reads the kernel's messages. It faults in the space at that address, holds the page alone meanwhile, and
      brings it in from the store.
-   - At moments drawn at random the main thread holds all pages, by a call that changes nothing, and compares each page
-     of the region with /proc/self/maps.
+   - At moments drawn at random the main thread asks for the areas of the region, goes on holding its pages, and
+     compares the areas with /proc/self/maps.
 
    `shadow` is what the replies say of each page. It is written by who holds all pages and read by who holds the page,
-   so each fault's reply is compared with it; at the end a fault at each page by each access is compared with it and
-   with the kernel. While a thread holds pages it touches none that may be missing, since a handler would wait for it.
+   so each fault's reply is compared with it; at the end a fault at each page by each access is too, and it with the
+   areas. While a thread holds pages it touches none that may be missing, since a handler would wait for it.
 
        vmm [TURNS] [loose]
 
@@ -76,6 +76,8 @@ static uint64_t turns = 100000; /* of each worker, at least */
 static uint64_t store[PAGES][WORDS]; /* what isn't in the region; for a page under its hold, as places[page] */
 static place places[PAGES];
 static atomic_uint shadow[PAGES];     /* the protection of a page as replies say it, or UNMAPPED */
+static gz_space_mapping listed[PAGES]; /* the areas of the region at the last moment */
+static gz_space_counts counted;        /* how many there were */
 static atomic_int moments;            /* how many moments were looked at */
 static atomic_int ended;              /* how many workers are done */
 static atomic_bool done;              /* all is over */
@@ -336,10 +338,11 @@ static void *handle_faults(void *argument) {
     return NULL;
 }
 
-/* Compares each page of the region with the kernel's maps, for which all pages are held. */
-static void compare_maps(void) {
+/* Compares the space's areas of the region with the kernel's maps. All its pages are held. */
+static void compare_maps(const gz_space_mapping *areas, const gz_space_counts *counts) {
     static char text[1 << 20];
     static uint32_t found[PAGES];
+    uint64_t page = 0, mapped = 0;
     size_t length = 0;
     ssize_t more;
     int maps = open("/proc/self/maps", O_RDONLY | O_CLOEXEC);
@@ -347,7 +350,7 @@ static void compare_maps(void) {
     while ((more = read(maps, text + length, sizeof text - 1 - length)) > 0) length += (size_t)more;
     close(maps);
     text[length] = 0;
-    for (uint64_t page = 0; page < PAGES; page++) found[page] = UNMAPPED;
+    for (page = 0; page < PAGES; page++) found[page] = UNMAPPED;
     for (char *line = text; *line; line = strchr(line, '\n') + 1) {
         unsigned long lo, hi;
         char prot[5];
@@ -355,8 +358,17 @@ static void compare_maps(void) {
         for (uint64_t i = lo; i < hi && hi <= (uint64_t)at(PAGES) && lo >= (uint64_t)region; i += PAGE)
             found[page_of(i)] = (prot[0] == 'r') * 1u + (prot[1] == 'w') * 2u + (prot[2] == 'x') * 4u;
     }
-    for (uint64_t page = 0; page < PAGES; page++)
-        if (found[page] != shadow[page]) fail("the kernel's maps differ", page);
+    page = 0;
+    for (uint64_t i = 0; i < counts->areas; i++) {
+        uint64_t first = page_of(areas[i].lo * PAGE), end = page_of(areas[i].hi * PAGE);
+        for (; page < first; page++)
+            if (found[page] != UNMAPPED) fail("the kernel has a page that the space hasn't", page);
+        for (; page < end; page++, mapped++)
+            if (found[page] != areas[i].prot) fail("the kernel's maps differ", page);
+    }
+    for (; page < PAGES; page++)
+        if (found[page] != UNMAPPED) fail("the kernel has a page that the space hasn't", page);
+    if (mapped != counts->pages) fail("the areas don't have so many pages", mapped);
 }
 
 /* Sleeps until the workers have made so many turns, or are done. */
@@ -370,11 +382,11 @@ static void await(worker *me, uint64_t wanted) {
     } while (turned < wanted && ended < WORKERS);
 }
 
-/* Holds all pages by a seal of what is sealed already, which changes nothing. */
+/* The areas of the region, of which there are at most as many as pages, and the kernel's maps while they are held. */
 static void look_at_moment(worker *me) {
-    gz_space_reply reply = change(me, (gz_space_call){ .kind = GZ_SPACE_SEAL, .addr = 0, .len = (uint64_t)region });
-    if (reply.kind != GZ_SPACE_ZERO) fail("a seal is refused", 0);
-    compare_maps();
+    uint64_t first = (uint64_t)region / PAGE;
+    answered(gz_space_areas_by(&me->space, first, first + PAGES, !loose, listed, PAGES, &counted));
+    compare_maps(listed, &counted);
     give_back(me);
 }
 
@@ -384,7 +396,10 @@ static uint64_t look_at_end(worker *workers) {
     for (int i = 0; i < WORKERS; i++)
         for (int j = 0; j < workers[i].count; j++) check_counts(&workers[i].areas[j], 0);
     for (uint64_t page = 0; page < COMMON; page++) sum += *counter(page);
-    compare_maps();
+    look_at_moment(&workers[0]);
+    for (uint64_t i = 0; i < counted.areas; i++)
+        for (uint64_t page = page_of(listed[i].lo * PAGE); page < page_of(listed[i].hi * PAGE); page++)
+            if (shadow[page] != listed[i].prot) fail("the replies differ", page);
     for (uint64_t page = 0; page < PAGES; page++)
         for (uint32_t access = GZ_SPACE_READ; access <= GZ_SPACE_EXEC; access *= 2) {
             gz_space_reply reply;

@@ -2,7 +2,7 @@
    some 100 microseconds apart; that is quickest where ranges are held shortly, and wrong where a thread may wait long,
    or runs under SCHED_FIFO, where sched_yield gives nothing to threads of lower priority.
 
-   - acquire_until sleeps between its tries, longer each time, and gives up at a deadline.
+   - gz_range_acquire_until sleeps between its tries, longer each time, and gives up at a moment.
    - A `door` is a mutex with a condition variable, beside the table. enter sleeps until another thread gives a range
      back by leave. While threads wait so, each range of the table is taken by enter and given back by leave.
 
@@ -32,19 +32,6 @@ static struct timespec time_of(long long nanoseconds) {
 
 /* How many tries to make before a sleep. They wait some 40 microseconds in all, less than a sleep costs. */
 enum { TRIES = 3 };
-
-/* Tries until the range is held or the deadline, in nanoseconds of CLOCK_MONOTONIC, is over, and at least once. It
-   sleeps between the tries and the next, first for a microsecond, then twice as long each time, at most a millisecond.
-   DONE; IS_CLOSED, HAS_ONE or BAD_RANGE at once; BUSY, AGAIN, LONG or NO_NODE, as the last try was refused. */
-static gz_range_answer acquire_until(gz_range *handle, uint64_t lo, uint64_t hi, bool writer, long long deadline) {
-    for (long long pause = 1000;; pause = pause < MILLI / 2 ? 2 * pause : MILLI) {
-        gz_range_answer answer = gz_range_try_plain(handle, lo, hi, writer, TRIES);
-        long long left = deadline - now(CLOCK_MONOTONIC);
-        if (!gz_range_may_retry(answer) || left <= 0) return answer;
-        struct timespec sleep = time_of(left < pause ? left : pause);
-        clock_nanosleep(CLOCK_MONOTONIC, 0, &sleep, NULL);
-    }
-}
 
 /* What threads sleep at. `waiting` counts those that are in enter with its mutex, or sleep there. */
 typedef struct door {
@@ -128,14 +115,22 @@ static const char *says(bool it_is) { return it_is ? "yes" : "no"; }
 
 static void show_deadline(gz_range *holder, gz_range *other) {
     long long begun = now(CLOCK_MONOTONIC), used = now(CLOCK_THREAD_CPUTIME_ID);
-    gz_range_answer answer = acquire_until(other, 5, 6, GZ_RANGE_WRITER, begun + 200 * MILLI);
+    struct timespec past = time_of(begun), soon = time_of(begun + 200 * MILLI), far = { INT64_MAX, 999999999 };
+    gz_range_answer answer = gz_range_acquire_until(other, 5, 6, GZ_RANGE_WRITER, &past);
+    printf("at a moment that has passed: %s\n", gz_range_text(answer));
+    answer = gz_range_acquire_until(other, 5, 6, GZ_RANGE_WRITER, &soon);
     long long took = now(CLOCK_MONOTONIC) - begun;
     used = now(CLOCK_THREAD_CPUTIME_ID) - used;
     printf("at its deadline: %s\n", gz_range_text(answer));
     printf("it waited until the deadline: %s, asleep: %s\n", says(took >= 200 * MILLI), says(used < 50 * MILLI));
     gz_range_release(holder);
-    answer = acquire_until(other, 5, 6, GZ_RANGE_WRITER, begun);
+    answer = gz_range_acquire_until(other, 5, 6, GZ_RANGE_WRITER, &past);
     printf("when the other one has given it back: %s\n", gz_range_text(answer));
+    gz_range_release(other);
+    answer = gz_range_acquire_until(other, 6, 5, GZ_RANGE_WRITER, &far);
+    printf("a reversed range, for ever: %s\n", gz_range_text(answer));
+    answer = gz_range_acquire_until(other, 5, 6, GZ_RANGE_WRITER, &far);
+    printf("a free one, for ever: %s\n", gz_range_text(answer));
     gz_range_release(other);
 }
 

@@ -1,10 +1,17 @@
 /* What the header for C++ answers where something is wrong: ends that bound no range, too many seats, a table or a seat
-   that is closed or was moved from, a range that outlives its seat; and how many tries a counted call made. None of it
-   throws, but the constructor that is asked to. Each line is a call and its answer. */
+   that is closed or was moved from, a range that outlives its seat; how many tries a counted call made; what a moment
+   and std's locks bring. None of it throws, but the constructor and the lock that are asked to. Each line is a call and
+   its answer. */
 #include "gz_range.hpp"
 
+#include <chrono>
+#include <condition_variable>
 #include <cstdint>
 #include <cstdio>
+#include <mutex>
+#include <sys/wait.h>
+#include <thread>
+#include <unistd.h>
 #include <utility>
 #include <vector>
 
@@ -64,6 +71,58 @@ void ranges(gz::seat &seat, gz::seat &other) {
     show("what the seat holds", seat.held());
 }
 
+void moments(gz::seat &seat, gz::seat &other) {
+    using namespace std::chrono_literals;
+    const auto past = std::chrono::steady_clock::now();
+    show("until a moment that has passed", other.try_read_until(15, 16, past));
+    {
+        const auto held = seat.try_write_for(10, 20, 24h);
+        std::printf("within a day: %s, from %llu on\n", held.text(), static_cast<unsigned long long>(held->lo()));
+        show("15 to 16 until a moment that has passed", other.try_read_until(15, 16, past));
+        const auto begun = std::chrono::steady_clock::now();
+        show("15 to 16 for 20 ms", other.try_write_for(15, 16, 20ms));
+        std::printf("that long it took: %s\n", std::chrono::steady_clock::now() - begun >= 20ms ? "yes" : "no");
+        show("a reversed range for a day", other.try_write_for(6, 5, 24h));
+    }
+    show("15 to 16 by the clock of the day", other.try_write_until(15, 16, std::chrono::system_clock::now()));
+}
+
+void locks_of_std(gz::seat &seat, gz::seat &other) {
+    using namespace std::chrono_literals;
+    const auto says = [](const char *what, bool so) { std::printf("%s: %s\n", what, so ? "yes" : "no"); };
+    gz::lockable_write pages(seat, 10, 20), others(other, 20, 30);
+    gz::lockable_read inside(other, 15, 16);
+    {
+        std::scoped_lock both(pages, others);
+        show("both are held", seat.held());
+    }
+    std::unique_lock lock(pages);
+    says("a lock within it, tried", std::unique_lock(inside, std::try_to_lock).owns_lock());
+    says("a lock within it, for a millisecond", std::unique_lock(inside, 1ms).owns_lock());
+    says("a lock beside it", std::unique_lock(others, std::chrono::steady_clock::now()).owns_lock());
+    bool told = false;
+    std::condition_variable_any door;
+    std::thread teller([&] {
+        std::lock_guard held(inside);
+        told = true;
+        door.notify_one();
+    });
+    door.wait(lock, [&] { return told; });
+    teller.join();
+    says("a condition was waited for", told);
+#ifdef __cpp_exceptions
+    gz::seat none;
+    gz::lockable_write closed(none, 0, 1), again(seat, 40, 50);
+    for (gz::lockable_write *each : { &closed, &again }) {
+        try {
+            each->lock();
+        } catch (const gz::error &error) {
+            std::printf("a lock that throws: %s\n", error.what());
+        }
+    }
+#endif
+}
+
 void client_words(gz::seat &seat) {
     uint64_t expected = 1;
     show("a store", seat.store(0, 7));
@@ -96,6 +155,26 @@ void closed_seats(gz::seat &seat, gz::seat &other) {
     show("a seat that was replaced by a closed one", moved.try_write(0, 10));
 }
 
+void looks(gz::seat &first, gz::seat &second) {
+    gz_busy ranges[4];
+    size_t found = 9;
+    auto held = first.write(10, 20);
+    show("a scan", second.scan(ranges, 4, found));
+    if (found == 1) std::printf("it shows %u to %u\n", unsigned(ranges[0].lo), unsigned(ranges[0].hi));
+    show("a scan without a place", second.scan(ranges, 0, found));
+    show("a scan by a seat that holds a range", first.scan(ranges, 4, found));
+    gz_range_counts counts = {};
+    second.count_in(&counts);
+    show("a try for 2 ms", second.try_write_for(15, 16, std::chrono::milliseconds(2)));
+    held->release();
+    show("a range that is free", second.write(15, 16));
+    second.count_in(nullptr);
+    show("one that isn't counted", second.write(15, 16));
+    std::printf("each try but one was refused: %s, and a wait or a sleep was between two: %s\n",
+                counts.tries == counts.refused[GZ_RANGE_BUSY] + 1 ? "yes" : "no",
+                counts.tries == counts.waits + counts.sleeps + 2 ? "yes" : "no");
+}
+
 void closed_tables() {
     auto table = gz::table::open(2);
     gz::table moved = *std::move(table);
@@ -112,6 +191,18 @@ void closed_tables() {
     show("a table's close", closed->close());
     show("a seat of a closed table", closed->take_seat());
     show("a try by a seat from before", early->try_write(0, 1));
+    std::fflush(stdout);
+    const pid_t child = fork();
+    if (child == 0) {
+        auto kept = early->write(0, 1);
+        early->forget();
+        const bool closed = early->try_write(0, 1).answer() == GZ_RANGE_IS_CLOSED;
+        _exit(closed && kept->release() == GZ_RANGE_IS_CLOSED ? 0 : 1);
+    }
+    int status = 1;
+    std::printf("a seat that a child forgot is closed there: %s\n",
+                waitpid(child, &status, 0) == child && status == 0 ? "yes" : "no");
+    show("a try by that seat in the parent", early->try_write(0, 1));
 }
 
 } // namespace
@@ -123,7 +214,10 @@ int main() {
     auto first = table->take_seat(), second = table->take_seat();
     if (!first || !second) return 1;
     ranges(*first, *second);
+    moments(*first, *second);
+    locks_of_std(*first, *second);
     client_words(*first);
+    looks(*first, *second);
     closed_seats(*first, *second);
     closed_tables();
     return 0;

@@ -4,6 +4,7 @@
 #include "gz_space.hpp"
 
 #include <cstdio>
+#include <vector>
 
 static const uint32_t READ_WRITE = GZ_SPACE_READ | GZ_SPACE_WRITE, AT = GZ_SPACE_PRIVATE | GZ_SPACE_FIXED;
 
@@ -15,6 +16,20 @@ static void says(const char *call, const gz::reply &reply) {
     says(call, reply.answer);
     std::printf("    kind %u error %u cause %u at %#lx, as asked: %s\n", reply.said.kind, reply.said.error,
                 reply.said.cause, (unsigned long)reply.said.at, reply ? "yes" : "no");
+}
+
+static void says(const char *call, const gz::area_reply &area) {
+    says(call, area.answer);
+    std::printf("    pages %#lx to %#lx, prot %u, an area: %s\n", (unsigned long)area.found.lo,
+                (unsigned long)area.found.hi, area.found.prot, area ? "yes" : "no");
+}
+
+static void says(const char *call, const gz::areas_reply &came, const std::vector<gz_space_mapping> &areas) {
+    says(call, came.answer);
+    std::printf("    areas %lu, pages %lu:", (unsigned long)came.counts.areas, (unsigned long)came.counts.pages);
+    for (const gz_space_mapping &area : areas)
+        std::printf(" %#lx to %#lx prot %u", (unsigned long)area.lo, (unsigned long)area.hi, area.prot);
+    std::printf(" as asked: %s\n", came ? "yes" : "no");
 }
 
 static void shows(const char *whose, const gz::caller &caller) {
@@ -36,6 +51,10 @@ static void openings() {
     says("take into an open caller", space.take_caller(first));
     says("take of the last", space.take_caller(second));
     says("take where none is left", space.take_caller(third));
+    says("area by what was never opened", third.area(0x10000));
+    std::vector<gz_space_mapping> areas(3);
+    says("areas by it", third.areas(0, 1, areas), areas);
+    says("count by it", third.count(0, 1), areas);
     says("close of the first", first.close());
     says("take of its caller", space.take_caller(third));
     says("close of the space", space.close());
@@ -51,6 +70,7 @@ static void holding() {
         says("map, held", held);
         shows("what it holds", first);
         says("map by the caller meanwhile", first.map(0x20000, 4096, READ_WRITE, AT));
+        says("area by the caller meanwhile", first.area(0x10000));
         gz::held_reply moved = std::move(held);
         says("done of what was moved from", held.done());
         shows("what it holds", first);
@@ -74,6 +94,18 @@ static void holding() {
     says("brk", second.brk(0x30000, 0x33000));
     says("seal", second.seal(0x10000, 4096));
     says("unmap of what is sealed", second.unmap(0x10000, 4096));
+    says("area", second.area(0x31000));
+    says("area of no page", second.area(0x12000));
+    std::vector<gz_space_mapping> areas;
+    says("areas", second.areas(0, GZ_SPACE_LIMIT, areas), areas);
+    says("areas of page 49", second.areas(0x31, 0x32, areas), areas);
+    says("areas of no page", second.areas(0x31, 0x31, areas), areas);
+    gz_space_mapping only = {};
+    gz::areas_reply came = second.areas(0, GZ_SPACE_LIMIT, &only, 1);
+    areas.assign(1, only);
+    says("areas, room for one", came, areas);
+    areas.clear();
+    says("count", second.count(0, GZ_SPACE_LIMIT), areas);
     gz::held_reply outlives = first.unmap_held(0x40000, 4096);
     gz::caller moved = std::move(first);
     shows("what the moved one holds", moved);
@@ -86,10 +118,12 @@ static void holding() {
 int main() {
     openings();
     holding();
+#ifdef __cpp_exceptions
     try {
         gz::space space(17);
     } catch (const gz::space_error &error) {
         std::printf("thrown: %s\n", error.what());
     }
+#endif
     return 0;
 }

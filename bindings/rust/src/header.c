@@ -2,12 +2,12 @@
    are that src/raw.rs has the header's numbers. */
 #include <gz_range.h>
 
-gz_range_answer gz_rust_acquire(gz_range *handle, uint64_t lo, uint64_t hi, bool writer);
+gz_range_answer gz_rust_acquire(gz_range *handle, uint64_t lo, uint64_t hi, bool writer, gz_range_counts *counts);
 gz_range_answer gz_rust_close(gz_range *handle);
 const char *gz_rust_text(gz_range_answer answer);
 
-gz_range_answer gz_rust_acquire(gz_range *handle, uint64_t lo, uint64_t hi, bool writer) {
-    return gz_range_acquire(handle, lo, hi, writer);
+gz_range_answer gz_rust_acquire(gz_range *handle, uint64_t lo, uint64_t hi, bool writer, gz_range_counts *counts) {
+    return gz_range_acquire_counted(handle, lo, hi, writer, counts);
 }
 
 gz_range_answer gz_rust_close(gz_range *handle) { return gz_range_close(handle); }
@@ -33,3 +33,4 @@ SAME(BAD_CUT, 17);
 SAME(MOST_SEATS, 16);
 SAME(MOST_WORDS, 1 << 20);
 SAME(HIGHEST, 1ull << 62);
+_Static_assert(sizeof(gz_range_counts) == 64, "src/raw.rs has the numbers of gz_range_counts");

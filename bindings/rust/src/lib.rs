@@ -3,8 +3,10 @@
 
 mod guarded;
 mod raw;
+mod shared;
 
-pub use guarded::Guarded;
+pub use guarded::{Guarded, GuardedSlice, Held, Lock, Writes};
+pub use shared::{RangeLock, ReadGuard, WriteGuard};
 
 use raw::{Busy, Handle};
 use std::alloc::{alloc, dealloc, Layout};
@@ -13,8 +15,11 @@ use std::ffi::CStr;
 use std::fmt;
 use std::marker::PhantomData;
 use std::ops::Range;
-use std::ptr::NonNull;
-use std::sync::atomic::{AtomicU64, Ordering};
+use std::ptr::{self, NonNull};
+use std::sync::atomic::{AtomicU64, Ordering::Relaxed};
+use std::sync::Arc;
+use std::thread;
+use std::time::{Duration, Instant};
 
 /// The most seats that a table has.
 pub const MOST_SEATS: u32 = 16;
@@ -134,6 +139,55 @@ impl fmt::Display for Refused {
 
 impl Error for Refused {}
 
+/// What a scan of a table's lists went past.
+#[derive(Clone, Debug, PartialEq, Eq)]
+pub struct Scanned {
+    /// The ranges, held or only asked for. Each stood in a list at a moment of the call.
+    pub ranges: Vec<Holding>,
+    /// Whether the scan came to the end of all lists; else another thread changed the list where it was, or there were
+    /// more than 64 ranges, and a later call may show more.
+    pub whole: bool,
+}
+
+/// What the seats met in their calls that wait, [`Seat::write`] and its like, that have this by [`Seat::count_in`].
+#[derive(Debug, Default)]
+pub struct Counts(raw::Counts);
+
+impl Counts {
+    /// How many tries were made.
+    pub fn tries(&self) -> u64 {
+        self.0.tries.load(Relaxed)
+    }
+
+    /// How many tries were refused so; 0 for a refusal that comes before a try.
+    pub fn refused(&self, why: &Refused) -> u64 {
+        self.0.refused.get(why.number() as usize).map_or(0, |count| count.load(Relaxed))
+    }
+
+    /// How many waits were made between two tries.
+    pub fn waits(&self) -> u64 {
+        self.0.waits.load(Relaxed)
+    }
+
+    /// How many sleeps.
+    pub fn sleeps(&self) -> u64 {
+        self.0.sleeps.load(Relaxed)
+    }
+
+    fn count(&self, tried: &Result<(), Refused>) {
+        let answer = tried.as_ref().map_or_else(Refused::number, |()| raw::DONE);
+        let Some(refused) = self.0.refused.get(answer as usize) else { return };
+        count_one(Some(&self.0.tries));
+        count_one((answer != raw::DONE).then_some(refused));
+    }
+}
+
+fn count_one(count: Option<&AtomicU64>) {
+    if let Some(count) = count {
+        count.fetch_add(1, Relaxed);
+    }
+}
+
 /// What an answer of the library means for a call that gives back nothing.
 fn checked(answer: u32) -> Result<(), Refused> {
     match answer {
@@ -169,6 +223,14 @@ pub struct Table {
     id: u64,
 }
 
+impl Lock for Table {}
+
+impl guarded::Sealed for Table {
+    fn table(&self) -> u64 {
+        self.id
+    }
+}
+
 impl Table {
     /// Opens a table of so many seats, from 1 to [`MOST_SEATS`], without client words.
     pub fn open(seats: u32) -> Result<Table, Refused> {
@@ -193,7 +255,7 @@ impl Table {
 
     fn open_by(open: impl FnOnce(*mut Handle) -> u32) -> Result<Table, Refused> {
         static OPENED: AtomicU64 = AtomicU64::new(0);
-        let id = OPENED.fetch_add(1, Ordering::Relaxed);
+        let id = OPENED.fetch_add(1, Relaxed);
         let last = Seat::open_by(id, open)?;
         Ok(Table { last: Some(last), id })
     }
@@ -251,6 +313,8 @@ pub struct Seat {
     place: NonNull<Handle>,
     /// Which table it is of.
     table: u64,
+    /// Where it counts what it meets.
+    counts: Option<Arc<Counts>>,
     /// A handle is in one call at a time, so no two threads may have it.
     _one_thread: PhantomData<*mut Handle>,
 }
@@ -275,7 +339,7 @@ impl Seat {
         };
         let answer = open(place.as_ptr());
         if answer == raw::DONE {
-            return Ok(Seat { place, table, _one_thread: PhantomData });
+            return Ok(Seat { place, table, counts: None, _one_thread: PhantomData });
         }
         // SAFETY: the handle is closed still, and of this layout.
         unsafe { dealloc(place.as_ptr().cast(), Layout::new::<Handle>()) };
@@ -317,25 +381,50 @@ impl Seat {
     /// granted, `tries` where all were refused, and 0 where the answer came before the first.
     pub fn try_write_counted(&mut self, range: Range<u64>, tries: u32) -> (Result<WriteRange<'_>, Refused>, u32) {
         let (answer, made) = self.try_hold(&range, true, tries);
-        (answer.map(|()| WriteRange { seat: self, range }), made)
+        (answer.map(|()| WriteRange::of(self, range)), made)
     }
 
     /// The same as [`Seat::try_read_times`], with how many tries it made.
     pub fn try_read_counted(&mut self, range: Range<u64>, tries: u32) -> (Result<ReadRange<'_>, Refused>, u32) {
         let (answer, made) = self.try_hold(&range, false, tries);
-        (answer.map(|()| ReadRange { seat: self, range }), made)
+        (answer.map(|()| ReadRange::of(self, range)), made)
+    }
+
+    /// Holds the range as a writer, or is refused as the last try was when so long has passed. It tries at least once.
+    /// Between two tries it waits longer each time, after a few of them asleep for at most a millisecond.
+    pub fn try_write_for(&mut self, range: Range<u64>, time: Duration) -> Result<WriteRange<'_>, Refused> {
+        self.hold_until(&range, true, Instant::now().checked_add(time))?;
+        Ok(WriteRange::of(self, range))
+    }
+
+    /// The same as a reader.
+    pub fn try_read_for(&mut self, range: Range<u64>, time: Duration) -> Result<ReadRange<'_>, Refused> {
+        self.hold_until(&range, false, Instant::now().checked_add(time))?;
+        Ok(ReadRange::of(self, range))
+    }
+
+    /// The same as [`Seat::try_write_for`], until a moment.
+    pub fn try_write_until(&mut self, range: Range<u64>, moment: Instant) -> Result<WriteRange<'_>, Refused> {
+        self.hold_until(&range, true, Some(moment))?;
+        Ok(WriteRange::of(self, range))
+    }
+
+    /// The same as a reader.
+    pub fn try_read_until(&mut self, range: Range<u64>, moment: Instant) -> Result<ReadRange<'_>, Refused> {
+        self.hold_until(&range, false, Some(moment))?;
+        Ok(ReadRange::of(self, range))
     }
 
     /// Holds the range as a writer, however long that takes. Nothing is claimed of when it returns.
     pub fn write(&mut self, range: Range<u64>) -> Result<WriteRange<'_>, Refused> {
         self.hold(&range, true)?;
-        Ok(WriteRange { seat: self, range })
+        Ok(WriteRange::of(self, range))
     }
 
     /// Holds the range as a reader, however long that takes. Nothing is claimed of when it returns.
     pub fn read(&mut self, range: Range<u64>) -> Result<ReadRange<'_>, Refused> {
         self.hold(&range, false)?;
-        Ok(ReadRange { seat: self, range })
+        Ok(ReadRange::of(self, range))
     }
 
     fn try_hold(&mut self, range: &Range<u64>, writer: bool, tries: u32) -> (Result<(), Refused>, u32) {
@@ -350,8 +439,65 @@ impl Seat {
     }
 
     fn hold(&mut self, range: &Range<u64>, writer: bool) -> Result<(), Refused> {
-        // SAFETY: the handle is live and this seat's alone.
-        checked(unsafe { raw::gz_rust_acquire(self.handle(), range.start, range.end, writer) })
+        let counts = self.counts.as_ref().map_or(ptr::null(), |counts| ptr::addr_of!(counts.0));
+        // SAFETY: the handle is live and this seat's alone, and the counts are there as long as it is.
+        checked(unsafe { raw::gz_rust_acquire(self.handle(), range.start, range.end, writer, counts) })
+    }
+
+    /// As `gz_range_acquire_until` of the header waits, so with what was in the way of the last try. None is a moment
+    /// that never comes.
+    fn hold_until(&mut self, range: &Range<u64>, writer: bool, moment: Option<Instant>) -> Result<(), Refused> {
+        const SHORTEST: Duration = Duration::from_micros(50);
+        const LONGEST: Duration = Duration::from_millis(1);
+        let (mut turns, mut sleep) = (0, Duration::ZERO);
+        loop {
+            let tried = self.try_hold(range, writer, 1).0;
+            let counts = self.counts.as_deref();
+            if let Some(counts) = counts {
+                counts.count(&tried);
+            }
+            let Err(why) = tried else { return Ok(()) };
+            let left = moment.map_or(LONGEST, |moment| moment.saturating_duration_since(Instant::now()));
+            if !why.may_retry() || left.is_zero() {
+                return Err(why);
+            }
+            if why == Refused::Again {
+                continue;
+            }
+            if !sleep.is_zero() {
+                count_one(counts.map(|counts| &counts.0.sleeps));
+                thread::sleep(sleep.min(left));
+                sleep = (2 * sleep).min(LONGEST);
+                continue;
+            }
+            count_one(counts.map(|counts| &counts.0.waits));
+            // SAFETY: `turns` is a place of its own.
+            if unsafe { raw::gz_range_pause(&mut turns) } {
+                sleep = SHORTEST;
+            }
+        }
+    }
+
+    /// Shows who has or wants what in the table: the ranges that a scan of its lists goes past. It waits for nobody. Other
+    /// threads go on meanwhile, so a range that came or went may be missing, and one may be shown twice.
+    /// [`Refused::HasOne`] where a forgotten guard left a range held.
+    pub fn scan(&mut self) -> Result<Scanned, Refused> {
+        let (mut places, mut found) = ([Busy::default(); 64], 0);
+        // SAFETY: the handle is live and this seat's alone, the other is closed, and the places are there.
+        let answer = unsafe {
+            raw::gz_range_scan_into(self.handle(), Handle::CLOSED, places.as_mut_ptr(), places.len(), &mut found)
+        };
+        if answer == raw::HAS_ONE {
+            return Err(Refused::HasOne);
+        }
+        let ranges = places[..found].iter().map(|busy| Holding::of(*busy)).collect();
+        Ok(Scanned { ranges, whole: answer == raw::DONE })
+    }
+
+    /// From now on counts there what the seat's calls that wait meet: [`Seat::write`], [`Seat::read`], and those until a
+    /// moment.
+    pub fn count_in(&mut self, counts: &Arc<Counts>) {
+        self.counts = Some(Arc::clone(counts));
     }
 
     /// What the seat holds. Beside a guard that is the guard's range; after a guard was forgotten it is held still.
@@ -429,9 +575,14 @@ macro_rules! guard {
         pub struct $name<'a> {
             seat: &'a mut Seat,
             range: Range<u64>,
+            poison: guarded::Poisons,
         }
 
-        impl $name<'_> {
+        impl<'a> $name<'a> {
+            fn of(seat: &'a mut Seat, range: Range<u64>) -> $name<'a> {
+                $name { seat, range, poison: guarded::Poisons::new() }
+            }
+
             /// The range that is held.
             pub fn range(&self) -> Range<u64> {
                 self.range.clone()
@@ -445,10 +596,29 @@ macro_rules! guard {
 
         impl Drop for $name<'_> {
             fn drop(&mut self) {
+                self.poison.tell();
                 self.seat.release();
             }
         }
+
+        impl guarded::Held for $name<'_> {
+            fn numbers(&self) -> Range<u64> {
+                self.range.clone()
+            }
+        }
+
+        impl guarded::Sealed for $name<'_> {
+            fn table(&self) -> u64 {
+                self.seat.table
+            }
+        }
     };
+}
+
+impl guarded::Writes for WriteRange<'_> {
+    fn poisons(&mut self) -> &mut guarded::Poisons {
+        &mut self.poison
+    }
 }
 
 guard! {

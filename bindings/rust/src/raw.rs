@@ -1,6 +1,7 @@
 //! The calls of the C library, as gz_range.h has them. `src/header.c` compares the numbers with the header's.
 
 use std::os::raw::{c_char, c_void};
+use std::sync::atomic::AtomicU64;
 
 /// A handle. It begins as all 0, which is closed, and only the library's calls write it.
 #[repr(C)]
@@ -11,6 +12,16 @@ pub struct Handle {
 
 impl Handle {
     pub const CLOSED: Handle = Handle { at: std::ptr::null_mut(), opened: 0 };
+}
+
+/// What callers met: `tries`, `refused` by the number of the answer, `waits` and `sleeps` of the header's struct.
+#[repr(C)]
+#[derive(Debug, Default)]
+pub struct Counts {
+    pub tries: AtomicU64,
+    pub refused: [AtomicU64; 5],
+    pub waits: AtomicU64,
+    pub sleeps: AtomicU64,
 }
 
 /// A range with the seat that holds it.
@@ -59,15 +70,23 @@ extern "C" {
         busy: *mut Busy,
         made: *mut u32,
     ) -> u32;
+    pub fn gz_range_pause(turns: *mut u32) -> bool;
     pub fn gz_range_release(handle: *mut Handle) -> u32;
     pub fn gz_range_held(handle: *mut Handle, held: *mut Busy) -> u32;
+    pub fn gz_range_scan_into(
+        handle: *mut Handle,
+        next: Handle,
+        ranges: *mut Busy,
+        count: usize,
+        found: *mut usize,
+    ) -> u32;
     pub fn gz_range_load(handle: *mut Handle, i: u32, value: *mut u64) -> u32;
     pub fn gz_range_store(handle: *mut Handle, i: u32, value: u64) -> u32;
     pub fn gz_range_add(handle: *mut Handle, i: u32, by: u64, before: *mut u64) -> u32;
     pub fn gz_range_exchange(handle: *mut Handle, i: u32, expected: *mut u64, value: u64) -> u32;
 
     // Of src/header.c.
-    pub fn gz_rust_acquire(handle: *mut Handle, lo: u64, hi: u64, writer: bool) -> u32;
+    pub fn gz_rust_acquire(handle: *mut Handle, lo: u64, hi: u64, writer: bool, counts: *const Counts) -> u32;
     pub fn gz_rust_close(handle: *mut Handle) -> u32;
     pub fn gz_rust_text(answer: u32) -> *const c_char;
 }

@@ -1,9 +1,13 @@
 //! What the calls answer, on one thread and on several, with what is wrong.
 
-use gz_range::{Cut, Guarded, Holding, ReadRange, Refused, Seat, Table, WriteRange, HIGHEST, MOST_SEATS, MOST_WORDS};
+use gz_range::{
+    Counts, Cut, Guarded, GuardedSlice, Holding, RangeLock, ReadRange, Refused, Scanned, Seat, Table, WriteGuard,
+    WriteRange, HIGHEST, MOST_SEATS, MOST_WORDS,
+};
 use std::mem::forget;
-use std::sync::mpsc;
+use std::sync::{mpsc, Arc};
 use std::thread;
+use std::time::{Duration, Instant};
 
 fn two_seats() -> (Seat, Seat) {
     let mut seats = Table::open(2).unwrap().into_seats().unwrap();
@@ -136,6 +140,89 @@ fn a_try_tells_how_many_it_made() {
 }
 
 #[test]
+fn a_try_gives_up_at_its_moment() {
+    let (mut first, mut second) = two_seats();
+    let begun = Instant::now();
+    assert!(second.try_write_until(0..1, begun).is_ok());
+    assert!(second.try_read_for(0..1, Duration::MAX).is_ok());
+    let held = first.write(10..20).unwrap();
+    let busy = Refused::Busy(Holding { range: 10..20, seat: 0, writer: true });
+    assert_eq!(second.try_read_until(15..16, begun).unwrap_err(), busy);
+    assert_eq!(second.try_write_for(15..16, Duration::ZERO).unwrap_err(), busy);
+    let (begun, time) = (Instant::now(), Duration::from_millis(20));
+    assert_eq!(second.try_write_for(15..16, time).unwrap_err(), busy);
+    assert!(begun.elapsed() >= time);
+    assert_eq!(second.try_write_for(5..5, Duration::MAX).unwrap_err(), Refused::BadRange);
+    drop(held);
+    thread::scope(|scope| {
+        let held = first.write(10..20).unwrap();
+        let waiting = scope.spawn(move || second.try_read_for(15..16, Duration::MAX).is_ok());
+        thread::sleep(Duration::from_millis(5));
+        drop(held);
+        assert!(waiting.join().unwrap());
+    });
+}
+
+#[test]
+fn a_lock_is_shared_by_reference() {
+    fn is_sync<T: Send + Sync>() {}
+    is_sync::<RangeLock>();
+    let lock = RangeLock::open_cut(2, Cut { regions: 3, bits: 2 }).unwrap();
+    let one = lock.write(0..4).unwrap();
+    assert_eq!(one.range(), 0..4);
+    assert!(matches!(lock.try_read(3..5).unwrap_err(), Refused::Busy(Holding { writer: true, .. })));
+    assert_eq!(lock.try_write(4..4).unwrap_err(), Refused::BadRange);
+    let two = lock.try_read(4..5).unwrap();
+    assert_eq!(lock.try_write(8..9).unwrap_err(), Refused::NoneLeft);
+    assert_eq!(lock.try_write_for(8..9, Duration::from_millis(5)).unwrap_err(), Refused::NoneLeft);
+    drop(two);
+    assert!(lock.try_read_for(8..9, Duration::ZERO).is_ok());
+    assert!(matches!(lock.try_write_for(3..4, Duration::from_millis(5)), Err(Refused::Busy(_))));
+    let kept: WriteGuard = lock.write(8..9).unwrap();
+    thread::scope(|scope| {
+        let waits_for_a_seat = scope.spawn(|| lock.read(20..30).is_ok());
+        thread::sleep(Duration::from_millis(5));
+        drop(kept);
+        assert!(waits_for_a_seat.join().unwrap());
+        let panics = scope.spawn(|| {
+            let _held = lock.write(40..50).unwrap();
+            panic!("as is meant");
+        });
+        assert!(panics.join().is_err());
+    });
+    assert!(lock.try_write(40..50).is_ok());
+    assert_eq!(RangeLock::open(0).unwrap_err(), Refused::BadSeats);
+}
+
+/// More threads than seats, over values that are lent.
+#[test]
+fn threads_count_under_a_shared_lock() {
+    const TURNS: u64 = 2000;
+    let (lock, other) = (RangeLock::open(3).unwrap(), RangeLock::open(1).unwrap());
+    let mut cells = [0u64; 12];
+    let row = GuardedSlice::new(&lock, &mut cells);
+    assert!(row.write(&mut other.write(0..4).unwrap()).is_none());
+    assert_eq!((row.len(), row.is_empty()), (12, false));
+    thread::scope(|scope| {
+        for i in 0..6 {
+            let (lock, row) = (&lock, &row);
+            scope.spawn(move || {
+                for turn in 0..TURNS {
+                    let first = (turn + i) % 11;
+                    let mut held = lock.write(first..first + 2).unwrap();
+                    row.write(&mut held).unwrap().iter_mut().for_each(|cell| *cell += 1);
+                    assert_eq!(row.read(&held).unwrap().len(), 2);
+                    drop(held);
+                    let held = lock.read(0..12).unwrap();
+                    assert_eq!(row.read(&held).unwrap().iter().sum::<u64>() % 2, 0, "a half change was seen");
+                }
+            });
+        }
+    });
+    assert_eq!(cells.iter().sum::<u64>(), 6 * TURNS * 2);
+}
+
+#[test]
 fn a_forgotten_guard_leaves_its_range_held() {
     let (mut first, mut second) = two_seats();
     forget(first.try_write(0..10).unwrap());
@@ -159,6 +246,106 @@ fn a_panic_gives_the_range_back() {
     .join();
     assert!(ended.is_err());
     assert!(second.try_write(0..10).is_ok());
+}
+
+#[test]
+fn a_panic_poisons_what_was_changed() {
+    let lock = RangeLock::open(2).unwrap();
+    let (row, other) = (Guarded::new(&lock, vec![0; 4]), Guarded::new(&lock, vec![0; 4]));
+    let mut lent = [0; 4];
+    let slice = GuardedSlice::new(&lock, &mut lent);
+    thread::scope(|scope| {
+        let ended = scope.spawn(|| {
+            let mut held = lock.write(0..2).unwrap();
+            other.read(&held).unwrap();
+            slice.write(&mut held).unwrap()[0] = 1;
+            row.write_unpoisoned(&mut held).unwrap().unwrap()[0] = 1;
+            panic!("as is meant");
+        });
+        assert!(ended.join().is_err());
+    });
+    assert!(row.is_poisoned() && slice.is_poisoned() && !other.is_poisoned());
+    let mut held = lock.try_write(0..4).unwrap();
+    let values = row.write_unpoisoned(&mut held).unwrap_err().into_inner().unwrap();
+    assert_eq!(values, [1, 0, 0, 0]);
+    values[0] = 0;
+    assert!(row.read_unpoisoned(&held).is_err());
+    row.clear_poison();
+    assert_eq!(row.read_unpoisoned(&held).unwrap(), Some(&[0; 4][..]));
+    drop(held);
+
+    // By a seat's guard too; but not where the thread panicked before it took the range.
+    struct Cleans<'a>(&'a Guarded<u32>, Seat);
+    impl Drop for Cleans<'_> {
+        fn drop(&mut self) {
+            self.0.write(&mut self.1.write(0..1).unwrap()).unwrap()[0] = 7;
+        }
+    }
+    let table = Table::open(2).unwrap();
+    let (row, other) = (Guarded::new(&table, vec![0u32]), Guarded::new(&table, vec![0u32]));
+    let mut seats = table.into_seats().unwrap();
+    let (mut seat, cleaner) = (seats.remove(0), seats.remove(0));
+    thread::scope(|scope| {
+        let ended = scope.spawn(|| {
+            let _cleans = Cleans(&other, cleaner);
+            let mut held = seat.write(0..1).unwrap();
+            row.write(&mut held).unwrap();
+            row.write(&mut held).unwrap();
+            other.write(&mut held).unwrap();
+            other.clear_poison();
+            drop(held);
+            let mut held = seat.write(0..1).unwrap();
+            row.write(&mut held).unwrap();
+            panic!("as is meant");
+        });
+        assert!(ended.join().is_err());
+    });
+    assert!(row.is_poisoned() && !other.is_poisoned());
+    assert_eq!(other.into_inner(), [7]);
+}
+
+#[test]
+fn a_scan_shows_who_has_what() {
+    let mut table = Table::open(3).unwrap();
+    let (mut one, mut two, mut looks) =
+        (table.take_seat().unwrap(), table.take_seat().unwrap(), table.take_seat().unwrap());
+    assert_eq!(looks.scan(), Ok(Scanned { ranges: vec![], whole: true }));
+    let (first, second) = (one.write(10..20).unwrap(), two.read(30..40).unwrap());
+    let (first_is, second_is) = (first.seat().holding().unwrap(), second.seat().holding().unwrap());
+    assert_eq!(looks.scan(), Ok(Scanned { ranges: vec![first_is, second_is.clone()], whole: true }));
+    drop(first);
+    assert_eq!(looks.scan(), Ok(Scanned { ranges: vec![second_is], whole: true }));
+    drop(second);
+    forget(looks.write(50..60).unwrap());
+    assert_eq!(looks.scan(), Err(Refused::HasOne));
+    assert_eq!(one.scan().unwrap().ranges, [looks.holding().unwrap()]);
+
+    let lock = RangeLock::open(2).unwrap();
+    let held = lock.write(1..2).unwrap();
+    assert_eq!(lock.scan().unwrap().ranges.len(), 1);
+    let other = lock.read(3..4).unwrap();
+    assert_eq!(lock.scan(), Err(Refused::NoneLeft));
+    drop((held, other));
+}
+
+#[test]
+fn waiting_calls_count_what_they_meet() {
+    let (mut first, mut second) = two_seats();
+    let counts = Arc::new(Counts::default());
+    first.count_in(&counts);
+    second.count_in(&counts);
+    let held = first.write(10..20).unwrap();
+    assert_eq!((counts.tries(), counts.waits(), counts.sleeps()), (1, 0, 0));
+    let why = second.try_write_for(15..16, Duration::from_millis(5)).unwrap_err();
+    assert_eq!(counts.refused(&why), counts.tries() - 1);
+    assert_eq!(counts.waits() + counts.sleeps(), counts.tries() - 2);
+    assert!(counts.sleeps() > 0);
+    assert_eq!(counts.refused(&Refused::Again) + counts.refused(&Refused::BadRange), 0);
+    let tries = counts.tries();
+    assert!(second.try_write(15..16).is_err());
+    assert!(second.write(5..5).is_err() && second.try_read_for(5..5, Duration::ZERO).is_err());
+    assert_eq!(counts.tries(), tries);
+    drop(held);
 }
 
 #[test]

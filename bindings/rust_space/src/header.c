@@ -5,6 +5,9 @@
 gz_space_answer gz_rust_space_make(gz_space *handle, const gz_space_call *call, bool keep, gz_space_reply *reply);
 gz_space_answer gz_rust_space_fault(gz_space *handle, uint64_t addr, uint32_t access, bool alone, bool keep,
                                     gz_space_reply *reply);
+gz_space_answer gz_rust_space_area(gz_space *handle, uint64_t addr, gz_space_mapping *area);
+gz_space_answer gz_rust_space_areas(gz_space *handle, uint64_t lo, uint64_t hi, bool keep, gz_space_mapping *areas,
+                                    size_t room, gz_space_counts *counts);
 gz_space_answer gz_rust_space_close(gz_space *handle);
 
 gz_space_answer gz_rust_space_make(gz_space *handle, const gz_space_call *call, bool keep, gz_space_reply *reply) {
@@ -16,6 +19,15 @@ gz_space_answer gz_rust_space_fault(gz_space *handle, uint64_t addr, uint32_t ac
     return gz_space_fault_by(handle, addr, access, alone, keep, reply);
 }
 
+gz_space_answer gz_rust_space_area(gz_space *handle, uint64_t addr, gz_space_mapping *area) {
+    return gz_space_area(handle, addr, area);
+}
+
+gz_space_answer gz_rust_space_areas(gz_space *handle, uint64_t lo, uint64_t hi, bool keep, gz_space_mapping *areas,
+                                    size_t room, gz_space_counts *counts) {
+    return gz_space_areas_by(handle, lo, hi, keep, areas, room, counts);
+}
+
 gz_space_answer gz_rust_space_close(gz_space *handle) { return gz_space_close(handle); }
 
 #define SAME(name, number) _Static_assert(GZ_SPACE_##name == (number), "src/raw.rs has the number of " #name)
@@ -25,6 +37,7 @@ SAME(NO_MEMORY, 7);
 SAME(BAD_CALLERS, 8);
 SAME(BAD_CUT, 9);
 SAME(NONE_LEFT, 10);
+SAME(BAD_CALL, 11);
 SAME(SPENT, 12);
 SAME(MAP, 0);
 SAME(UNMAP, 1);

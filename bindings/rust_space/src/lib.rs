@@ -4,9 +4,9 @@
 mod raw;
 mod refused;
 
-pub use refused::{Field, Kind, Refused, Short};
+pub use refused::{Area, Counts, Field, Kind, Refused, Short};
 
-use raw::{Call, Handle, Reply};
+use raw::{Call, Handle, Mapping, Reply};
 use std::alloc::{alloc, dealloc, Layout};
 use std::fmt;
 use std::marker::PhantomData;
@@ -243,6 +243,70 @@ impl Caller {
     pub fn fault_held(&mut self, addr: u64, access: Access, alone: bool) -> Result<Held<'_, Kind>, Refused> {
         let value = self.fault_by(addr, access, alone, true)?;
         Ok(Held { caller: self, value })
+    }
+
+    /// The area of the byte at `addr`, with its exact ends, as it is at one moment of the call, or None where its page
+    /// isn't mapped, as from [`LIMIT`] on. Faults that aren't alone run beside it. Nothing is held afterwards.
+    pub fn area(&mut self, addr: u64) -> Result<Option<Area>, Refused> {
+        let mut found = Mapping::default();
+        // SAFETY: the handle is live and this caller's alone, and `found` is a place of its own.
+        match unsafe { raw::gz_rust_space_area(self.handle(), addr, &mut found) } {
+            raw::DONE => Ok(Area::of(&found)),
+            raw::BAD_CALL => Ok(None), // the page is LIMIT or above it
+            answer => Err(Refused::of_answer(answer)),
+        }
+    }
+
+    /// The areas of these pages, by their numbers, each clipped to them, as they are at one moment of the call; `0` to
+    /// [`LIMIT`] are all pages. Faults that aren't alone run beside it. Nothing is held afterwards. None are told of a
+    /// range that is empty, and pages from [`LIMIT`] on aren't mapped.
+    pub fn areas(&mut self, pages: Range<u64>) -> Result<Vec<Area>, Refused> {
+        self.areas_by(pages, false)
+    }
+
+    /// The same, and goes on holding these pages until the guard goes: so their areas stay what they are.
+    ///
+    /// An empty range holds nothing.
+    pub fn areas_held(&mut self, pages: Range<u64>) -> Result<Held<'_, Vec<Area>>, Refused> {
+        let value = self.areas_by(pages, true)?;
+        Ok(Held { caller: self, value })
+    }
+
+    /// How many areas these pages have, and how many of them are mapped, at one moment of the call.
+    pub fn count(&mut self, pages: Range<u64>) -> Result<Counts, Refused> {
+        let counts = self.look_for(&pages, false, &mut [])?;
+        Ok(Counts { areas: counts.areas, pages: counts.pages })
+    }
+
+    /// Looks with as much room as the areas took at the look before, until there is enough; what a look with too little
+    /// room went on holding is given back.
+    fn areas_by(&mut self, pages: Range<u64>, keep: bool) -> Result<Vec<Area>, Refused> {
+        let mut found = vec![Mapping::default(); 16];
+        loop {
+            let counts = self.look_for(&pages, keep, &mut found)?;
+            let wanted = usize::try_from(counts.areas).map_err(|_| Refused::NoMemory)?;
+            if wanted <= found.len() {
+                return Ok(found[..wanted].iter().filter_map(Area::of).collect());
+            }
+            if keep {
+                self.release();
+            }
+            found.resize(wanted, Mapping::default());
+        }
+    }
+
+    fn look_for(&mut self, pages: &Range<u64>, keep: bool, found: &mut [Mapping]) -> Result<raw::Counts, Refused> {
+        let mut counts = raw::Counts::default();
+        // SAFETY: the handle is live and this caller's alone, and the places are this call's own. An empty slice's
+        // pointer isn't null, and nothing is written there.
+        let answer = unsafe {
+            let (lo, hi) = (pages.start, pages.end.min(LIMIT));
+            raw::gz_rust_space_areas(self.handle(), lo, hi, keep, found.as_mut_ptr(), found.len(), &mut counts)
+        };
+        match answer {
+            raw::DONE | raw::BAD_CALL => Ok(counts), // an empty range is a bad call, with counts of 0
+            answer => Err(Refused::of_answer(answer)),
+        }
     }
 
     fn make(&mut self, call: &Call, keep: bool) -> Result<Reply, Refused> {

@@ -40,6 +40,26 @@ pub struct Reply {
     pub at: u64,
 }
 
+/// The area at a page, all 0 where the page isn't mapped.
+#[repr(C)]
+#[derive(Clone, Default)]
+pub struct Mapping {
+    pub lo: u64,
+    pub hi: u64,
+    pub prot: u32,
+    pub shared: u32,
+    pub sealed: u32,
+    pub mapped: u32,
+}
+
+/// How many areas there are, and how many pages they have.
+#[repr(C)]
+#[derive(Default)]
+pub struct Counts {
+    pub areas: u64,
+    pub pages: u64,
+}
+
 /// Pages that are held, with the caller that holds them.
 #[repr(C)]
 #[derive(Default)]
@@ -56,6 +76,7 @@ pub const NO_MEMORY: u32 = 7;
 pub const BAD_CALLERS: u32 = 8;
 pub const BAD_CUT: u32 = 9;
 pub const NONE_LEFT: u32 = 10;
+pub const BAD_CALL: u32 = 11;
 pub const SPENT: u32 = 12;
 
 pub const MAP: u32 = 0;
@@ -86,6 +107,16 @@ extern "C" {
         alone: bool,
         keep: bool,
         reply: *mut Reply,
+    ) -> u32;
+    pub fn gz_rust_space_area(handle: *mut Handle, addr: u64, area: *mut Mapping) -> u32;
+    pub fn gz_rust_space_areas(
+        handle: *mut Handle,
+        lo: u64,
+        hi: u64,
+        keep: bool,
+        areas: *mut Mapping,
+        room: usize,
+        counts: *mut Counts,
     ) -> u32;
     pub fn gz_rust_space_close(handle: *mut Handle) -> u32;
 }

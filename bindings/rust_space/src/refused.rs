@@ -1,8 +1,9 @@
-//! Why a call is refused, and what a page's kind is.
+//! Why a call is refused, what a page's kind is, and what an area is.
 
-use crate::raw::{self, Reply};
+use crate::raw::{self, Mapping, Reply};
 use std::error::Error;
 use std::fmt;
+use std::ops::Range;
 
 /// How a page is mapped.
 #[derive(Clone, Copy, Debug, PartialEq, Eq)]
@@ -19,6 +20,31 @@ impl Kind {
     pub(crate) fn of(reply: &Reply) -> Kind {
         Kind { prot: crate::Prot(reply.prot), shared: reply.shared == 1, sealed: reply.sealed == 1 }
     }
+}
+
+/// An area: the longest run of pages round one that are mapped alike.
+#[derive(Clone, Debug, PartialEq, Eq)]
+pub struct Area {
+    /// Its pages, by their numbers.
+    pub pages: Range<u64>,
+    /// How each of them is mapped.
+    pub kind: Kind,
+}
+
+impl Area {
+    pub(crate) fn of(found: &Mapping) -> Option<Area> {
+        let kind = Kind { prot: crate::Prot(found.prot), shared: found.shared == 1, sealed: found.sealed == 1 };
+        (found.mapped == 1).then_some(Area { pages: found.lo..found.hi, kind })
+    }
+}
+
+/// How many areas there are, and how many pages they have together.
+#[derive(Clone, Copy, Debug, PartialEq, Eq)]
+pub struct Counts {
+    /// How many areas.
+    pub areas: u64,
+    /// How many pages.
+    pub pages: u64,
 }
 
 /// Which argument is wrong.

@@ -1,6 +1,8 @@
 //! What the calls answer, on one thread and on several, with what is wrong.
 
-use gz_space::{Access, Cut, Field, Kind, MapFlags, Moving, Prot, Refused, Short, Space, LIMIT, MOST_CALLERS, PAGE};
+use gz_space::{
+    Access, Area, Counts, Cut, Field, Kind, MapFlags, Moving, Prot, Refused, Short, Space, LIMIT, MOST_CALLERS, PAGE,
+};
 use std::mem::forget;
 use std::sync::atomic::{AtomicU64, Ordering};
 use std::sync::mpsc;
@@ -86,6 +88,53 @@ fn a_fault_tells_the_page_and_its_kind() {
     assert_eq!(caller.fault(AT + PAGE, Access::Read), Err(Refused::MapErr(17)));
     assert_eq!(caller.fault(u64::MAX, Access::Read), Err(Refused::MapErr(u64::MAX / PAGE)));
     assert!(kind.prot.contains(Prot::READ) && !kind.prot.contains(both()));
+}
+
+#[test]
+fn an_area_has_its_exact_ends() {
+    let space = Space::open(2).unwrap();
+    let (mut one, mut two) = (space.take_caller().unwrap(), space.take_caller().unwrap());
+    one.map(AT, 4 * PAGE, both(), flags()).unwrap();
+    one.map(AT + 4 * PAGE, 2 * PAGE, both(), flags()).unwrap();
+    one.protect(AT + PAGE, PAGE, Prot::READ).unwrap();
+    let area = |pages, prot| Ok(Some(Area { pages, kind: Kind { prot, shared: false, sealed: false } }));
+    assert_eq!(two.area(AT + PAGE - 1), area(16..17, both()));
+    assert_eq!(two.area(AT + PAGE), area(17..18, Prot::READ));
+    assert_eq!(two.area(AT + 3 * PAGE), area(18..22, both()));
+    for addr in [0, AT - 1, AT + 6 * PAGE, (LIMIT - 1) * PAGE, LIMIT * PAGE, u64::MAX] {
+        assert_eq!(two.area(addr), Ok(None));
+    }
+    assert_eq!(two.holding(), None);
+    let held = one.fault_held(AT, Access::Write, false).unwrap(); // a reader, beside which an area is read
+    assert_eq!(two.area(AT), area(16..17, both()));
+    drop(held);
+    forget(two.fault_held(AT, Access::Read, false).unwrap());
+    assert_eq!(two.area(AT), Err(Refused::Holds));
+}
+
+#[test]
+fn areas_are_those_of_one_moment() {
+    let space = Space::open(2).unwrap();
+    let (mut one, mut two) = (space.take_caller().unwrap(), space.take_caller().unwrap());
+    let all = 0..LIMIT;
+    assert_eq!((two.areas(all.clone()), two.count(all.clone())), (Ok(vec![]), Ok(Counts { areas: 0, pages: 0 })));
+    for page in 0..40 {
+        one.map(AT + 2 * page * PAGE, PAGE, both(), flags()).unwrap();
+    }
+    one.map(AT + PAGE, PAGE, both(), flags()).unwrap();
+    one.protect(AT + 4 * PAGE, PAGE, Prot::READ).unwrap();
+    let area = |pages, prot| Area { pages, kind: Kind { prot, shared: false, sealed: false } };
+    let found = two.areas(all.clone()).unwrap();
+    assert_eq!((found.len(), &found[0], &found[38]), (39, &area(16..19, both()), &area(94..95, both())));
+    assert_eq!(two.areas(17..21), Ok(vec![area(17..19, both()), area(20..21, Prot::READ)]));
+    assert_eq!(two.count(0..u64::MAX), Ok(Counts { areas: 39, pages: 41 }));
+    assert_eq!((two.areas(17..17), two.areas(LIMIT..u64::MAX), two.holding()), (Ok(vec![]), Ok(vec![]), None));
+    let held = two.areas_held(all.clone()).unwrap();
+    assert_eq!((held.value().len(), held.pages()), (39, Some(all.clone())));
+    one.fault(AT, Access::Read).unwrap(); // a reader, beside which the areas stay held
+    drop(held);
+    forget(two.fault_held(AT, Access::Read, false).unwrap());
+    assert_eq!(two.areas(all), Err(Refused::Holds));
 }
 
 #[test]
