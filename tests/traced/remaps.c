@@ -1,7 +1,9 @@
 /* Four threads that remap areas of few sizes and give them back, and that grow blocks of memory by realloc: each takes what
-   another has freed, and their calls cut each other's in two under strace. Waits first where a word is given. */
+   another has freed, and their calls cut each other's in two under strace. If a word is given it first waits until it is
+   traced, and a second more. */
 #define _GNU_SOURCE
 #include <pthread.h>
+#include <stdio.h>
 #include <stdlib.h>
 #include <sys/mman.h>
 #include <unistd.h>
@@ -34,13 +36,29 @@ static void *turns(void *seed)
     return NULL;
 }
 
+/* The process that traces this one, or 0. */
+static int tracer(void)
+{
+    char line[256];
+    int found = 0;
+    FILE *status = fopen("/proc/self/status", "r");
+    while (status && fgets(line, sizeof line, status) && sscanf(line, "TracerPid: %d", &found) != 1)
+        continue;
+    if (status)
+        fclose(status);
+    return found;
+}
+
 int main(int words, char **word)
 {
     pthread_t threads[THREADS];
     int failed = 0;
     (void)word;
-    if (words > 1)
+    if (words > 1) {
+        for (int i = 0; i < 600 && !tracer(); i++)
+            usleep(100000);
         sleep(1);
+    }
     for (long i = 0; i < THREADS; i++)
         failed |= pthread_create(&threads[i], NULL, turns, (void *)i);
     for (int i = 0; !failed && i < THREADS; i++)
