@@ -8,10 +8,10 @@ set datafile separator "\t"
 set datafile missing NaN
 
 peers = '"range lock, one list" "range lock, regions" "pthread_mutex" "pthread_rwlock" "64 mutexes" "16 rwlocks" "256 rwlocks" "interval tree" "tree, writers only" "FIFO range lock" "fcntl record locks" "no lock"'
-colours = '#0b62b8 #d1350f #111111 #2e8b57 #8a5fbf #c08a00 #c08a00 #00a0a0 #00a0a0 #b05080 #999999'
-widths = '3.5 3.5 1.8 1.8 1.8 1.8 1.8 1.8 1.8 1.8 1.5'
-dashes = '1 1 1 1 1 1 2 1 2 1 3'
-points = '7 5 9 13 11 1 1 4 4 2 0'
+colours = '#0b62b8 #d1350f #111111 #2e8b57 #8a5fbf #c08a00 #c08a00 #00a0a0 #00a0a0 #e377c2 #b05080 #999999'
+widths = '3.5 3.5 1.8 1.8 1.8 1.8 1.8 1.8 1.8 1.8 1.8 1.5'
+dashes = '1 1 1 1 1 1 2 1 2 1 1 3'
+points = '7 5 9 13 11 1 1 4 4 12 2 0'
 colour(i) = word(colours, i)
 width(i) = real(word(widths, i))
 dash(i) = int(word(dashes, i))
