@@ -3,12 +3,12 @@ use Rattle.std.proofs.Common.{◌≡◌, ℕ, ◌+◌, Bool, ap, ◌∙◌, arit
 use Rattle.epoch_pools.specs.declared.views.SeatPart.{SeatPart}
 use Rattle.epoch_pools.specs.declared.views.Beside.{Beside}
 use Rattle.epoch_pools.specs.declared.views.Standing.{Standing}
-use Rattle.epoch_pools.specs.Passing.{after_look, after_look_at}
+use Rattle.epoch_pools.specs.Passing.{after_look_at}
 use Rattle.epoch_pools.specs.Hands.{HandState, turned}
 use Rattle.marked_list.specs.declared.cursor.Cursor.{Cursor as Traversal}
 use Rattle.range_rw.specs.Calls.{IsCounted, Leaves}
 use Rattle.range_rw.specs.Trying.{IsLaterInTraversal, IsLaterOutside}
-use Rattle.range_rw.specs.Looks.{IsLook, IsLookAt}
+use Rattle.range_rw.specs.Looks.{IsLookAt}
 use Rattle.range_rw.proofs.Later.{later_on, still_on}
 
 module _ {P : Type 0} where
@@ -19,11 +19,6 @@ module _ {P : Type 0} where
   -- a turn, which is no step, and a look, which is one
   pub counted_turn : {h k : HandState (Beside P)} {a at : ℕ} → k.table ≡ h.table → k.part ≡ turned h.part at → IsCounted h k a a
   counted_turn same is = record { table = same; steps = let e = ap (λ (x : SeatPart (Beside P)). x.trace.taken) is in omega arith }
-
-  pub counted_look : {h k : HandState (Beside P)} {a b : ℕ} {s : Standing} → k.table ≡ h.table → k.part ≡ after_look h.part s → b ≡ a + 1
-      → Leaves (IsLook s) h k a b
-  counted_look same is one =
-      record { counted = record { table = same; steps = let e = ap (λ (x : SeatPart (Beside P)). x.trace.taken) is in omega arith }; is = is }
 
   pub counted_look_at : (at : ℕ) (clear : Bool) (s : Standing) {h k : HandState (Beside P)} {a b : ℕ} → k.table ≡ h.table
       → k.part ≡ after_look_at at clear s h.part → b ≡ a + 1 → Leaves (IsLookAt at clear s) h k a b

@@ -3,7 +3,7 @@
 use Rattle.std.proofs.Common.{◌≡◌, ◌≢◌, ◌⊎◌, ◌↔◌, ℕ, zero, suc, ◌+◌, ◌-◌, ◌*◌, ◌<◌, ◌≤◌, ◌%◌, Bool, true, false, inr, inl, refl}
 use Rattle.std.proofs.Common.{sym, ap, ◌∙◌, subst, arith, eq-eqb, eqb-true, ne_eqb, ⊎_elim, []}
 use Rattle.std.proofs.lemmas.Bool.{eqb-false}
-use Rattle.std.specs.Prelude.{map, get_or, Option, Result, Some, None, OnOk, OnErr, ◌&&◌, ◌||◌, ◌==◌, if◌then◌else◌}
+use Rattle.std.specs.Prelude.{map, get_or, is_some, Option, Result, Ok, Err, Some, None, OnOk, OnErr, ◌&&◌, ◌||◌, ◌==◌, if◌then◌else◌}
 use mathlib.Core.Logic.{dite}
 use native.Mathlib.Decide.{ℕ_discrete}
 use Rattle.atomic_table.specs.Seated.{TableId}
@@ -22,23 +22,25 @@ use Rattle.epoch_pools.specs.declared.views.Standing.TheVariants.{Free, Narrow, 
 use Rattle.epoch_pools.specs.Standings.{is_here, is_whole, is_counted}
 use Rattle.epoch_pools.specs.Beside.{shown_core, shown_grant}
 use Rattle.epoch_pools.specs.Hands.{IsResting}
+use Rattle.epoch_pools.specs.Record.{KeepsOccupied}
 use Rattle.marked_list.specs.Order.{MaySweep}
 use Rattle.marked_list.specs.Causes.{nodes_in, IsSpent}
 use Rattle.range_rw.specs.declared.refusals.NotHeld.{NotHeld}
 use Rattle.range_rw.specs.declared.refusals.NotHeld.TheVariants.{Busy, Again, Long as TooLong, NoNode}
 use Rattle.range_rw.specs.Contract.{SeatState, Pools, IsLongRefusal, IsReadyLeft, IsWalkOf, IsSpentIn, IsCause, IsListCause, IsLockCall}
-use Rattle.range_rw.specs.Contract.{AsksOnly, OpenScan, WorksIn, TellsList, KeepsOthers, ClosesOthers, IsRefusedAfter, KeepsClear, MakesFew, StandsIn}
-use Rattle.range_rw.specs.Contract.{closed_pools, closed_at, pools_at, in_list}
-use Rattle.range_rw.specs.Seats.{counted_in, pools_of, scan_of, walk_of, placed_scan, placed_in, seat_state_in, seat_of, seat_state_of}
-use Rattle.range_rw.specs.Looks.{IsRefusedFrom}
+use Rattle.range_rw.specs.Contract.{TableShape, AsksOnly, OpenScan, WorksIn, TellsList, KeepsOthers, ClosesOthers, KeepsClear, StandsIn, TakesMany}
+use Rattle.range_rw.specs.Contract.{MakesFew, Meets, closed_pools, closed_at, pools_at, in_list, try_steps}
+use Rattle.range_rw.specs.Attempts.{IsAttempt}
+use Rattle.range_rw.specs.Seats.{counted_in, pools_of, walk_of, placed_in, is_fast, seat_state_in, seat_of, seat_state_of}
 use Rattle.range_rw.specs.Trying.{IsLaterInTry, IsLaterOutside}
-use Rattle.range_rw.specs.Several.{list_state, HasLeft, IsLaterInLists, IsFreeSeat, HoldsAlone, IsCauseIn, IsGranted, IsHoldCall, IsWorkFor, ShowsOthers}
-use Rattle.range_rw.proofs.Pieces.{err_free, ok_on, own_at, own_each, only_stays, ready_stays, here_state, rests_free}
+use Rattle.range_rw.specs.Several.{list_state, HasLeft, IsLaterInLists, IsFreeSeat, HoldsAlone, IsCauseIn, IsHoldCall, IsOnce, IsTryCall, ShowsOthers}
+use Rattle.range_rw.proofs.Pieces.{err_free, ok_on, own_at, own_each, only_stays, ready_stays, ready_at_home, here_state, rests_free}
 use Rattle.range_rw.proofs.Taking.{cause_within}
-use Rattle.range_rw.proofs.Asking.{asks_from}
-use Rattle.range_rw.proofs.Moves.{lists_on, narrow_counts, wide_counts}
-use Rattle.range_rw.proofs.Seated.{count_numbers, pools_shown, try_lists, lists_call, granted_list}
-use Rattle.range_rw.proofs.Meeting.{IsApart, IsFewBy, found_before, met_before, no_fewer}
+use Rattle.range_rw.proofs.Asking.{asks_from, for_from}
+use Rattle.range_rw.proofs.Moves.{lists_on, narrow_counts, ready_from, wide_counts}
+use Rattle.range_rw.proofs.Seated.{count_numbers, pools_shown, try_lists, lists_call, granted_list, alone_grant, free_grant, none_here, rests_closed}
+use Rattle.range_rw.proofs.Meeting.{found_before, met_before, met_still, no_fewer}
+use Rattle.range_rw.proofs.TakenLists.{alone_steps, some_many, wide_steps}
 
 -- a call of a try in the list to which the hand is turned, of a seat that held nothing
 pub record Here {P : Type 0} (p q : SeatPart (Beside P)) : Type 0 where
@@ -86,7 +88,7 @@ module _ {P : Type 0} where
 
     -- the ready nodes of the list to which the hand is turned afterwards are those of its own
     pub ready_here : (shown_core p q.pass.list).ready ≢ [] → p.core.ready ≢ []
-    ready_here some none = some (ap (λ (v : View). v.ready) (own_at p q.pass.list (sym here_list)) ∙ none)
+    ready_here = ready_at_home p (sym here_list)
 
     here_rests : IsResting q.core
     here_rests = record { outside = h.later.outside.even; cursor = h.later.cursor; hand = h.later.outside.hand }
@@ -150,6 +152,12 @@ module _ {P : Type 0} where
       free = err_free r here_free free;
     }
 
+-- the list that holds a range is one of the lists
+pub stands_there : (c : Regions) {range : Interval} → 0 < c.count → {own : ℕ} → StandsIn c range own → own < list_count c
+stands_there c {range} some {own} stands = ⊎_elim
+    (λ (one : TakesOne c range own). takes_there c range own some one.takes)
+    (λ (two : TakesTwo c range × (own ≡ 0)). let e = two.1 in omega arith) stands
+
 -- with one list that holds each range
 pub one_home : (c : Regions) (range : Interval) → 0 < c.count → list_count c ≡ 1 → {own at : ℕ} → at ≡ 0 → StandsIn c range own → at ≡ own
 one_home c range some one {own} {at} first stands = ⊎_elim
@@ -162,27 +170,15 @@ pub left_ready : {P : Type 0} (p m : SeatPart (Beside P)) → IsLaterInTry p m �
 left_ready p m l ready = ready_stays p m (ap (λ (b : Beside _). b.list) l.pass) (ap (λ (b : Beside _). b.others) l.pass) ready
 
 -- a seat leaves the epoch in which it was, and goes on
-pub record Left {P : Type 0} (was at now : TableId) (p m q : SeatPart (Beside P)) : Type 0 where
-  pub later : IsLaterInTry p m
-  pub ready : (j : ℕ) → (shown_core m j).ready ≡ (shown_core p j).ready
-  pub lists : q.pass.lists ≡ m.pass.lists
-
--- by what leaving it and the call behind it leave
-pub left_by : {P : Type 0} (was at now : TableId) {p m q : SeatPart (Beside P)} {c : Regions} {lists : ℕ} → HasLeft c lists p m → IsLaterInLists m q
-    → Left was at now p m q
-left_by was at now {p} {m} left on = record {
-  later = left.left.later;
-  ready = left_ready p m left.left.later left.left.ready;
-  lists = on.lists;
-}
-
-module _ {P : Type 0} {was at now : TableId} {p m q : SeatPart (Beside P)} (left : Left was at now p m q) where
+module _ {P : Type 0} (was at now : TableId) {p m : SeatPart (Beside P)} (q : SeatPart (Beside P)) (later : IsLaterInTry p m)
+    (same : m.core.ready ≡ p.core.ready)
+    (lists : q.pass.lists ≡ m.pass.lists) where
   walk_on : {b s : SeatState P} (c d : SeatState P) → b.trace.taken ≡ m.trace.taken → (s.trace.looked ≡ q.trace.looked) × (s.trace.taken ≡ q.trace.taken) →
       c.trace.taken ≡ p.trace.taken → (d.trace.looked ≡ q.trace.looked) × (d.trace.taken ≡ q.trace.taken) → IsWalkOf b s → IsWalkOf c d
   walk_on c d before after first last w = record {
     walk = w.walk;
     is = last.0 ∙ (sym after.0 ∙ w.is);
-    from = let n = w.from in let t = left.later.taken in omega arith;
+    from = let n = w.from in let t = later.taken in omega arith;
     below = let n = w.below in let a = after.1 in let b = last.1 in omega arith;
   }
 
@@ -191,8 +187,8 @@ module _ {P : Type 0} {was at now : TableId} {p m q : SeatPart (Beside P)} (left
       → IsCause (seat_state_of (record { table = was; part = p })) (seat_of fast (record { table = now; part = q })) asked why
   seat_cause_in fast c asked why x =
       let i = x.0 in
-      let there : i < p.pass.lists = let a = x.1 in let e = ap (λ (b : Beside P). b.lists) left.later.pass in omega arith in
-      let here : i < q.pass.lists = let e = ap (λ (b : Beside P). b.lists) left.later.pass in let f = left.lists in omega arith in
+      let there : i < p.pass.lists = let a = x.1 in let e = ap (λ (b : Beside P). b.lists) later.pass in omega arith in
+      let here : i < q.pass.lists = let e = ap (λ (b : Beside P). b.lists) later.pass in let f = lists in omega arith in
       let before = in_list i (seat_state_of (record { table = was; part = p })) in
       let after = in_list i (seat_of fast (record { table = now; part = q })) in
       let pools = pools_shown false was p i there in
@@ -200,8 +196,9 @@ module _ {P : Type 0} {was at now : TableId} {p m q : SeatPart (Beside P)} (left
       let n = count_numbers (λ j. pools_of (shown_core p j)) 1 (p.pass.lists - 1) in (
         i,
         omega arith,
-        cause_within before (list_state at m i) (list_state at q i) after left.later.taken left.later.number
-            (λ e. ap (λ (x : Pools). x.ready) pools ∙ (sym (left.ready i) ∙ e)) refl pools_now refl refl refl refl refl (omega arith) i asked why x.3,
+        cause_within before (list_state at m i) (list_state at q i) after later.taken later.number
+            (λ e. ap (λ (x : Pools). x.ready) pools ∙ (sym (left_ready p m later same i) ∙ e)) refl pools_now refl refl refl refl refl (omega arith) i
+            asked why x.3,
       )
 
   -- and the list that it tells is one in which the try works
@@ -222,11 +219,9 @@ module _ {P : Type 0} {was at now : TableId} {p m q : SeatPart (Beside P)} (left
     where
       spent : (w : NotHeld) → IsCauseIn at c m q asked w → IsLongRefusal w → IsSpent q
           → IsSpentIn seats (seat_state_of (record { table = was; part = p })) (seat_of fast (record { table = now; part = q }))
-      spent (Busy owner range mode) x l s = absurd l
-      spent (Again told place expected found) x l s = absurd l
       spent (TooLong visits) x l s = let w = walk_on (seat_state_of (record { table = was; part = p })) (seat_of fast (record { table = now; part = q })) refl
           (refl, refl) refl (refl, refl) x.3.0 in (w, sym (ap nodes_in w.is) ∙ (s.0 ∙ ap (λ n. 16 * n + 1) many), free)
-      spent (NoNode told stuck) x l s = absurd l
+      spent _ x l s = absurd l
 
 -- the ready nodes of each list, as the seats show them
 further_ready : (f g : ℕ → Pools) (a b : Pools) → ((j : ℕ) → IsReadyLeft (f j).ready (g j).ready) → IsReadyLeft a.ready b.ready → (from many j : ℕ)
@@ -245,13 +240,6 @@ ready_at was now fast p q lists each (suc j) = subst (λ n. IsReadyLeft (get_or 
     (pools_of (shown_core p 0))).ready (get_or (map (λ i. pools_of (shown_core q i)) (numbers_from 1 (n - 1))) j (pools_of (shown_core q 0))).ready) (sym lists)
     (further_ready (λ i. pools_of (shown_core p i)) (λ i. pools_of (shown_core q i)) (pools_of (shown_core p 0)) (pools_of (shown_core q 0)) each (each 0) 1
     (p.pass.lists - 1) j)
-
--- what a call of a try leaves of each list in which it doesn't work, as the seats show them
-pub others_kept : {P : Type 0} (was now : TableId) (fast : Bool) (p m q : SeatPart (Beside P)) (c : Regions) (range : Interval) → p.pass.lists ≡ list_count c
-    → q.pass.lists ≡ p.pass.lists → m ≡ p → ShowsOthers c range m q
-    → KeepsOthers c range (seat_state_of (record { table = was; part = p })) (seat_of fast (record { table = now; part = q }))
-others_kept {P} was now fast p m q c range many lists same others j less none = pools_shown fast now q j (omega arith) ∙ (ap pools_of (others j none ∙ ap
-    (λ (x : SeatPart (Beside P)). shown_core x j) same) ∙ sym (pools_shown false was p j (omega arith)))
 
 -- what a seat has in each list once it is outside its epoch, as it shows it: an epoch that a scan left open is left
 pub closed_shown : {P : Type 0} (was : TableId) {p m : SeatPart (Beside P)} {c : Regions} {lists : ℕ} → HasLeft c lists p m → (j : ℕ) → j < p.pass.lists
@@ -294,62 +282,152 @@ module _ {P : Type 0} (was now : TableId) (fast : Bool) (p m q : SeatPart (Besid
   pub list_closed : (j : ℕ) → j < list_count c → shown_core q j ≡ shown_core m j → pools_at last j ≡ closed_at first j
   list_closed j less stays = pools_shown fast now q j (omega arith) ∙ (ap pools_of stays ∙ closed_shown was left j (omega arith))
 
-  -- so do those in which a try doesn't work, and those that it doesn't find occupied
-  pub others_closed : (range : Interval) → ShowsOthers c range m q → ClosesOthers c range first last
-  others_closed range others j less none = list_closed j less (others j none)
+  -- a node that is ready in a list is ready there once the epoch is left
+  some_left : (i : ℕ) → i < p.pass.lists → (pools_at first i).ready ≢ [] → (shown_core m i).ready ≢ []
+  some_left i less some none = some (ap (λ (x : Pools). x.ready) (pools_shown false was p i less)
+      ∙ (sym (left_ready p m left.left.later left.left.ready i) ∙ none))
 
-  pub others_clear : (own : ℕ) → ((j : ℕ) → j ≢ own → IsApart j m q) → KeepsClear c own first last
-  others_clear own apart j less away = ⊎_elim (λ e. inl (list_closed j less e)) (λ f. inr (found_before j q.trace left.left.later.taken f)) (apart j away)
+-- what an attempt has come to with the hand, once that was outside its epoch, it has come to with the seat
+module _ {P : Type 0} {was at now : TableId} {p m q : SeatPart (Beside P)} {lists : ℕ} (t : TableShape) (patient : Bool) (looks : ℕ) (asked : Held)
+    (left : HasLeft t.cut lists p m) (same : at ≡ was) (again : now ≡ at) (there : q.pass.list < q.pass.lists) where
+  module _ {r : Result Bool NotHeld} (fast : Bool) (x : IsTryCall at t.cut t.seats looks patient asked r m q) where
+    abbrev before : SeatState P
+    before = seat_state_of (record { table = was; part = p })
 
-  -- a try with a ready node in the list that holds its range then makes few steps, with the one that left an epoch
-  pub seat_few : (few : ℕ) {total : ℕ} {asked : Held} {quick : Bool} → 1 + few ≤ total → q.pass.list < q.pass.lists → IsGranted c asked q
-      → (quick ≡ true → fast ≡ true) → ((shown_core m q.pass.list).ready ≢ [] → IsFewBy quick few m q)
-      → (pools_at first last.list).ready ≢ [] → MakesFew total first last
-  seat_few few sum there grant holds makes some = ⊎_elim
-      (λ x. inl ((let n = x.0 in let f = left.left.few in omega arith), holds x.1)) (λ x. inr (met_before q.trace left.left.later.taken x))
-      (makes (λ none. some (ap (λ i. (pools_at first i).ready) (granted_list there grant)
-      ∙ (ap (λ (x : Pools). x.ready) (pools_shown false was p q.pass.list (omega arith))
-      ∙ (sym (left_ready p m left.left.later left.left.ready q.pass.list) ∙ none)))))
+    abbrev after : SeatState P
+    after = seat_of fast (record { table = now; part = q })
 
-  -- the same of a round that was refused
-  pub refused_after : (looks : ℕ) → IsRefusedFrom looks m q → IsRefusedAfter c looks first last
-  refused_after looks x = ⊎_elim (λ stays. inl (λ j some less. list_closed j less (stays j (λ e. omega arith))))
-      (λ more. inr (let n = no_fewer p.trace m.trace left.left.later.occupied in omega arith)) x
+    first_lists : IsLaterInLists p m
+    first_lists = try_lists p m left.left.later
+
+    all_lists : IsLaterInLists p q
+    all_lists = lists_on first_lists x.call.work.later
+
+    so_many : p.pass.lists ≡ list_count t.cut
+    so_many = sym first_lists.lists ∙ (sym left.lists.shown ∙ left.lists.many)
+
+    as_closed : (j : ℕ) → j < list_count t.cut → shown_core q j ≡ shown_core m j → pools_at after j ≡ closed_at before j
+    as_closed = list_closed was now fast p m q left so_many all_lists.lists
+
+    -- what it leaves, however it ends
+    pub left_call : IsLockCall before after
+    left_call = lists_call was now fast p q (again ∙ same) all_lists
+
+    pub left_asks : AsksOnly asked before.trace.asked after.trace.asked
+    left_asks = asks_from left.left.asked x.call.work.asks
+
+    pub left_closes : ClosesOthers t.cut asked.range before after
+    left_closes j less none = as_closed j less (x.call.work.only j none)
+
+    pub left_clear : (own : ℕ) → StandsIn t.cut asked.range own → KeepsClear t.cut own before after
+    left_clear own stands j less away = ⊎_elim (λ e. inl (as_closed j less e)) (λ f. inr (found_before j q.trace left.left.later.taken f))
+        (x.apart own stands j away)
+
+    pub left_further : looks ≡ 0 → (j : ℕ) → IsReadyLeft (pools_at before j).ready (pools_at after j).ready
+    left_further none = ready_at was now fast p q all_lists.lists (λ i. ready_from (left_ready p m left.left.later left.left.ready i) (x.ready none i))
+
+    pub left_each : ((k : ℕ) → TakesMany t.cut asked.range k → q.trace.taken + 1 ≤ m.trace.taken + try_steps m.seats k)
+        → (k : ℕ) → TakesMany t.cut asked.range k → after.trace.taken ≤ before.trace.taken + try_steps t.seats k
+    left_each each k many = let b = each k many in let e = ap (λ n. try_steps n k) x.seats in let l = left.left.few in omega arith
+
+  -- the range is held, and by the fast path where that linked its node
+  pub attempt_held : {A : Type 0} {quick : Bool} {a : A} (x : IsTryCall at t.cut t.seats looks patient asked (Ok quick) m q)
+      → (IsOnce patient looks → (k : ℕ) → TakesMany t.cut asked.range k → q.trace.taken + 1 ≤ m.trace.taken + try_steps m.seats k)
+      → IsAttempt t patient looks asked (Ok a) (seat_state_of (record { table = was; part = p }))
+      (seat_of (is_fast quick (record { table = now; part = q })) (record { table = now; part = q }))
+  attempt_held {A} {quick} x each =
+      let fast = is_fast quick (record { table = now; part = q }) in let grant = x.call.held in
+      let home = granted_list there grant in record {
+        call = left_call fast x;
+        keeps = (all_lists fast x).occupied;
+        asks = left_asks fast x;
+        gets = for_from left.left.asked x.gets;
+        outside = rests_closed q grant.held.rests;
+        held = alone_grant there grant;
+        stands = grant.stands;
+        free = tt;
+        closes = left_closes fast x;
+        clear = left_clear fast x;
+        fast = λ k many some. ⊎_elim
+            (λ few. inl (
+              (let n = few.0 in let f = left.left.few in omega arith),
+              ap (λ (o : Option Held). is_some o && quick) (alone_grant there grant) ∙ few.1,
+            ))
+            (λ met. inr (met_before q.trace left.left.later.taken met))
+            (x.fast k many (some_left was now fast p m q left (so_many fast x) (all_lists fast x).lists q.pass.list
+            (let l = (all_lists fast x).lists in let h = there in omega arith)
+            (subst (λ i. (pools_at (seat_state_of (record { table = was; part = p })) i).ready ≢ []) home some)));
+        met = tt;
+        kept = tt;
+        ready = λ none. left_further fast x none 0;
+        further = left_further fast x;
+        cause = λ _. tt;
+        told = λ _. tt;
+        long = λ _. tt;
+        bound = λ once alone. let k = alone_steps t.cut asked.range t.seats alone in let b = left_each fast x (each once) k.0 k.1 in let e = k.2 in omega arith;
+        wide = λ once. wide_steps t.cut asked.range t.seats q.trace.taken p.trace.taken left.lists.regions (left_each fast x (each once));
+        each = λ once. left_each fast x (each once);
+      }
+
+  -- the range is refused
+  pub attempt_refused : {A : Type 0} {why : NotHeld} (fast : Bool) (x : IsTryCall at t.cut t.seats looks patient asked (Err why) m q)
+      → (IsOnce patient looks → (k : ℕ) → TakesMany t.cut asked.range k → q.trace.taken + 1 ≤ m.trace.taken + try_steps m.seats k)
+      → IsAttempt {A = A} t patient looks asked (Err why) (seat_state_of (record { table = was; part = p }))
+      (seat_of fast (record { table = now; part = q }))
+  attempt_refused {A} {why} fast x each =
+      let free = x.call.free in let none = free_grant there free in record {
+        call = left_call fast x;
+        keeps = (all_lists fast x).occupied;
+        asks = left_asks fast x;
+        gets = tt;
+        outside = rests_closed q free.rests;
+        held = tt;
+        stands = tt;
+        free = none;
+        closes = left_closes fast x;
+        clear = left_clear fast x;
+        fast = tt;
+        met = λ own stands some. met_before q.trace left.left.later.taken (x.met own stands (some_left was now fast p m q left (so_many fast x)
+            (all_lists fast x).lists own (let l = so_many fast x in let s = stands_there t.cut left.lists.regions stands in omega arith) some));
+        kept = λ two. ⊎_elim (λ stays. inl (λ j behind less. as_closed fast x j less (stays j (λ e. omega arith))))
+            (λ more. inr (let n = no_fewer p.trace m.trace left.left.later.occupied in omega arith)) (x.kept two);
+        ready = λ none. left_further fast x none 0;
+        further = left_further fast x;
+        cause = λ once. seat_cause_in was at now q left.left.later left.left.ready x.call.work.later.lists fast t.cut asked why (x.cause once);
+        told = λ once. seat_told_in was at now q left.left.later left.left.ready x.call.work.later.lists t.cut asked why (x.cause once);
+        long = λ once. seat_long_in was at now q left.left.later left.left.ready x.call.work.later.lists fast t.cut t.seats
+            (x.call.work.later.seats ∙ x.seats) asked why (x.cause once) none
+            (none_here q free) (x.long once);
+        bound = λ once alone. let k = alone_steps t.cut asked.range t.seats alone in let b = left_each fast x (each once) k.0 k.1 in let e = k.2 in omega arith;
+        wide = λ once. wide_steps t.cut asked.range t.seats q.trace.taken p.trace.taken left.lists.regions (left_each fast x (each once));
+        each = λ once. left_each fast x (each once);
+      }
+
+-- what a call leaves that ends an open scan first it leaves of a seat that has none
+pub only_closed : {P : Type 0} {c : Regions} {range : Interval} (a b : SeatState P) → ClosesOthers c range a b → a.scan ≡ None → KeepsOthers c range a b
+only_closed a b closes none j less away = closes j less away ∙ ap (λ (o : Option OpenScan). closed_pools o j (pools_at a j)) none
+
+-- what a seat met in a round of `acquire`, or in one before it, of which the first may be still to come
+pub met_on : {P : Type 0} {c : Regions} {range : Interval} (a b d : SeatState P) → (b ≡ a) ⊎ ((own : ℕ) → StandsIn c range own
+    → (pools_at a own).ready ≢ [] → Meets a.trace.taken b.trace) → KeepsOccupied b.trace d.trace
+    → ((own : ℕ) → StandsIn c range own → (pools_at b own).ready ≢ [] → Meets b.trace.taken d.trace)
+    → (own : ℕ) → StandsIn c range own → (pools_at a own).ready ≢ [] → Meets a.trace.taken d.trace
+met_on {P} a b d was kept more own stands some = ⊎_elim
+    (λ e. subst (λ (s : SeatState P). (pools_at s own).ready ≢ [] → Meets s.trace.taken d.trace) e (more own stands) some)
+    (λ x. met_still a.trace.taken b.trace d.trace kept (x own stands some)) was
+
+-- the last round holds the range by the fast path, or the seat met another
+pub fast_on : {P : Type 0} {c : Regions} {range : Interval} (a b d : SeatState P) → (b ≡ a) ⊎ ((own : ℕ) → StandsIn c range own
+    → (pools_at a own).ready ≢ [] → Meets a.trace.taken b.trace) → KeepsOccupied b.trace d.trace → StandsIn c range d.list
+    → ((k : ℕ) → TakesMany c range k → (pools_at b d.list).ready ≢ [] → MakesFew (6 + k) b d)
+    → (pools_at a d.list).ready ≢ [] → (d.fast ≡ true) ⊎ Meets a.trace.taken d.trace
+fast_on {P} {c} {range} a b d was kept stands last some = let many = some_many c range (list_count c) in ⊎_elim
+    (λ e. subst (λ (s : SeatState P). (pools_at s d.list).ready ≢ [] → (d.fast ≡ true) ⊎ Meets s.trace.taken d.trace) e
+    (λ here. ⊎_elim (λ few. inl few.1) (λ m. inr m) (last many.0 many.1 here)) some)
+    (λ x. inr (met_still a.trace.taken b.trace d.trace kept (x d.list stands some))) was
 
 -- a further round leaves the lists so as the rounds before it did, of which the first may have left an open scan
 pub closes_on : {P : Type 0} {c : Regions} {range : Interval} {a b : SeatState P} (d : SeatState P) → (b ≡ a) ⊎ ((b.scan ≡ None) × ClosesOthers c range a b)
     → ClosesOthers c range b d → ClosesOthers c range a d
 closes_on {P} {c} {range} {a} {b} d was more = ⊎_elim (λ e. subst (λ (s : SeatState P). ClosesOthers c range s d) e more)
     (λ x j less none. more j less none ∙ (ap (λ (o : Option OpenScan). closed_pools o j (pools_at b j)) x.0 ∙ x.1 j less none)) was
-
--- a seat without an open scan is outside its epoch
-pub closed_even : {P : Type 0} (p : SeatPart (Beside P)) → placed_in p.pass.lists p.pass.list (scan_of p) ≡ None → p.core.epoch % 2 ≡ 0
-closed_even {P} p none = by (p.core.epoch % 2 == 0) refl none
-  where
-    by : (b : Bool) → (p.core.epoch % 2 == 0) ≡ b → placed_in p.pass.lists p.pass.list (if b then None else Some (walk_of (16 * p.seats + 1) p.core.cursor
-        p.trace.looked)) ≡ None → p.core.epoch % 2 ≡ 0
-    by true e z = eqb-true (p.core.epoch % 2) 0 e
-    by false e z = absurd (let x : ◌≡◌ {A = Option OpenScan} (Some (placed_scan p.pass.lists p.pass.list
-        (walk_of (16 * p.seats + 1) p.core.cursor p.trace.looked))) None = z in cc)
-
--- what the calls of a try leave of a seat: a call on it, which asks for that range alone, and leaves each list in which
--- it doesn't work as it was, where no scan was open
-pub record Called {P : Type 0} (c : Regions) (range : Held) (before after : SeatState P) : Type 0 where
-  pub call : IsLockCall before after
-  pub asks : AsksOnly range before.trace.asked after.trace.asked
-  pub only : before.scan ≡ None → KeepsOthers c range.range before after
-  pub closes : ClosesOthers c range.range before after
-
--- by what its hand shows before, once it is outside its epoch, and after
-pub called_by : {P : Type 0} {was now : TableId} {p m q : SeatPart (Beside P)} {c : Regions} {lists : ℕ} {range : Held} (fast : Bool) → now ≡ was
-    → HasLeft c lists p m → IsWorkFor c range m q
-    → Called c range (seat_state_of (record { table = was; part = p })) (seat_of fast (record { table = now; part = q }))
-called_by {P} {was} {now} {p} {m} {q} {c} {lists} {range} fast same left work =
-    let first = try_lists p m left.left.later in let all = lists_on first work.later in
-    record {
-      call = lists_call was now fast p q same all;
-      asks = asks_from left.left.asked work.asks;
-      only = λ closed. others_kept was now fast p m q c range.range (sym first.lists ∙ (sym left.lists.shown ∙ left.lists.many)) all.lists
-          (left.left.same (closed_even p closed)) work.only;
-      closes = others_closed was now fast p m q left (sym first.lists ∙ (sym left.lists.shown ∙ left.lists.many)) all.lists range.range work.only;
-    }

@@ -1,11 +1,13 @@
 -- What follows where a range has a list still to look at, alike for a narrow range and for a wide one.
-use Rattle.std.proofs.Common.{◌≡◌, ◌≢◌, ◌⊎◌, ◌↔◌, ℕ, ◌+◌, ◌<◌, ◌≤◌, Bool, true, false, Result, Ok, Err, zero, suc, inl, inr, ⊎_elim}
+use Rattle.std.proofs.Common.{◌≡◌, ◌≢◌, ◌⊎◌, ◌↔◌, ℕ, ◌+◌, ◌-◌, ◌*◌, ◌<◌, ◌≤◌, Bool, true, false, Result, Ok, Err, zero, suc, inl, inr, ⊎_elim}
 use Rattle.std.proofs.Common.{sym, ap, ◌∙◌, subst, refl, arith}
-use Rattle.std.specs.Prelude.{[], Some}
+use Rattle.std.proofs.Math.Nat.{mul-suc}
+use Rattle.std.specs.Prelude.{[], Some, OnErr}
 use mathlib.Core.Logic.{dite}
 use native.Mathlib.Decide.{dec_le, ℕ_discrete}
 use Rattle.atomic_table.specs.Seated.{TableId}
-use Rattle.list_cuts.specs.Cut.{Regions, TakesOne}
+use Rattle.list_cuts.specs.Cut.{Regions, list_count, TakesOne}
+use Rattle.list_cuts.proofs.Cutting.{takes_there}
 use Rattle.lock_core.specs.Range.{Interval}
 use Rattle.lock_core.specs.declared.range.Held.{Held}
 use Rattle.lock_core.specs.declared.views.View.{View}
@@ -22,14 +24,15 @@ use Rattle.epoch_pools.specs.Hands.{IsResting, turned}
 use Rattle.marked_list.specs.Causes.{IsSpent}
 use Rattle.range_rw.specs.declared.refusals.NotHeld.{NotHeld}
 use Rattle.range_rw.specs.Contract.{AsksOnly, IsLongRefusal, IsReadyLeft, StandsIn, TakesMany, WorksIn}
-use Rattle.range_rw.specs.Several.{IsLaterInLists, IsPiece, MayLinkIn, MayGiveIn, IsLinkedIn, IsFreedIn, IsFreeSeat, HoldsAlone, HoldsIn, IsCauseAt}
+use Rattle.range_rw.specs.Several.{IsLaterInLists, IsPiece, IsLinkedIn, IsFreedIn, IsFreeSeat, HoldsAlone, HoldsIn, IsCauseAt}
 use Rattle.range_rw.specs.Several.{HasLists, MayHold, HasPassed, TakesNone, IsGranted, IsWorkFor}
-use Rattle.range_rw.specs.Looks.{MayLook, IsToLook, IsDue, IsNarrowDue, IsWideDue, IsHome, LooksAt, LooksAtAll, LooksOnce, standing_for}
+use Rattle.range_rw.specs.Looks.{MayLook, IsToLook, IsDue, IsNarrowDue, IsWideDue, IsHome, LooksAt, LooksAtAll, LooksOnce, MeetsMore, standing_for}
 use Rattle.range_rw.proofs.Asking.{asks_from, asks_on, asks_stay}
-use Rattle.range_rw.proofs.Meeting.{IsApart, once_apart, once_few, ok_any, err_any}
+use Rattle.range_rw.proofs.Meeting.{IsApart, once_apart, once_few, found_met, ok_any, err_any}
 use Rattle.range_rw.proofs.Pieces.{err_free, err_on, ok_on}
+use Rattle.range_rw.proofs.TakenLists.{some_below}
 use Rattle.range_rw.proofs.Moves.{narrow_beside, narrow_back, wide_beside, wide_back, free_beside, lists_on, turn_on, turn_asks, seen_on, seen_shows}
-use Rattle.range_rw.proofs.Moves.{holds_on, holds_turned, holds_seen, piece_free, piece_alone, ready_each, ready_from, some_held, cause_on}
+use Rattle.range_rw.proofs.Moves.{holds_on, holds_turned, holds_seen, piece_free, piece_alone, ready_each, ready_from, cause_on}
 use Rattle.range_rw.proofs.Choosing.{alone_there, alone_narrow, alone_wide, stands_narrow, stands_wide}
 
 -- a wide range stands as having passed
@@ -163,12 +166,6 @@ may_look {P} {c} {own} {at} {up} {p} asked due way held = ⊎_elim
     })
     due
 
--- a node may be linked in the list that is looked at
-pub due_links : {P : Type 0} {c : Regions} {asked : Held} {own at up : ℕ} {p : SeatPart (Beside P)} → IsDue c asked.range own at up p
-    → HoldsIn own asked p → MayLinkIn at p
-due_links {P} {c} {asked} {own} {at} due holds =
-    record { there = due_there due; resting = holds.rests; free = holds.others at (due_differ due) }
-
 -- calls after which a range is held and stands as before: they ask for nothing, and leave the ready nodes of the list
 -- `at`, and each other list
 pub record Quiet {P : Type 0} (at : ℕ) (p m : SeatPart (Beside P)) : Type 0 where
@@ -199,6 +196,13 @@ works_not {c} {range} works none e = none (subst (WorksIn c range) (sym e) works
 -- the call works in the list that holds the range
 pub home_works : {c : Regions} {range : Interval} {lists own : ℕ} → IsHome c range lists own → WorksIn c range own
 home_works {c} {range} {lists} {own} home = dite (ℕ_discrete own 0) (λ e. inl e) (λ far. inr (home.narrow far).takes)
+
+-- a range takes one list at least
+pub home_many : {c : Regions} {range : Interval} {lists own k : ℕ} → IsHome c range lists own → lists ≡ list_count c → 0 < c.count → TakesMany c range k
+    → 1 ≤ k
+home_many {c} {range} {lists} {own} {k} home same some many = dite (ℕ_discrete own 0)
+    (λ e. let two = home.wide e in some_below c range (list_count c) k two.one (takes_there c range two.one some two.takes_one) two.takes_one many)
+    (λ far. some_below c range (list_count c) k own (let t = home.there in omega arith) (home.narrow far).takes many)
 
 -- the list that holds a range where there are several is the one that it takes alone, or list 0
 pub home_is : {c : Regions} {range : Interval} {lists own at : ℕ} → StandsIn c range at → IsHome c range lists own → at ≡ own
@@ -314,8 +318,8 @@ module _ {P : Type 0} where
   work_turned {c} {at} {asked} {p} is stays = record { later = turn_on p is; asks = asks_stay (turn_asks p is); only = λ j none. stays j }
 
   -- the link there, and that it is given back
-  pub work_link : {A E : Type 0} {c : Regions} {at : ℕ} {asked : Held} {p q : SeatPart (Beside P)} {r : Result A E} → WorksIn c asked.range at
-      → IsLinkedIn at asked r p q → IsWorkFor c asked p q
+  pub work_link : {c : Regions} {table : TableId} {many at : ℕ} {patient : Bool} {asked : Held} {p q : SeatPart (Beside P)} {r : Result Bool NotHeld}
+      → WorksIn c asked.range at → IsLinkedIn table many patient at asked r p q → IsWorkFor c asked p q
   work_link works link = record { later = link.piece.later; asks = link.asks; only = λ j none. link.piece.only j (works_not works none) }
 
   pub work_freed : {c : Regions} {at : ℕ} {asked : Held} {s : Standing} {p q : SeatPart (Beside P)} → WorksIn c asked.range at → IsFreedIn at s p q
@@ -329,31 +333,20 @@ module _ {P : Type 0} where
   pub lists_still : {c : Regions} {lists : ℕ} {p q : SeatPart (Beside P)} → HasLists c lists p → IsLaterInLists p q → HasLists c lists q
   lists_still has later = record { shown = has.shown ∙ sym later.lists; many = has.many; regions = has.regions }
 
-  -- a node may be linked there, where the seat holds nothing
-  pub home_links : {c : Regions} {range : Interval} {lists own : ℕ} {p : SeatPart (Beside P)} → IsHome c range lists own → lists ≡ p.pass.lists
-      → IsFreeSeat p → MayLinkIn own p
-  home_links {c} {range} {lists} {own} home many free =
-      record { there = let t = home.there in omega arith; resting = free.rests; free = free.free own }
-
   -- where that is refused the seat holds nothing
-  pub link_free : {A E : Type 0} {own : ℕ} {asked : Held} {p q : SeatPart (Beside P)} {e : E} → IsFreeSeat p → IsLinkedIn {A = A} own asked (Err e) p q
-      → IsFreeSeat q
+  pub link_free : {table : TableId} {many own : ℕ} {patient : Bool} {asked : Held} {p q : SeatPart (Beside P)} {e : NotHeld} → IsFreeSeat p
+      → IsLinkedIn table many patient own asked (Err e) p q → IsFreeSeat q
   link_free free link = piece_free link.piece link.free (link.standing ∙ free.standing) (λ j away. free.free j)
 
   -- where the range is linked there it has still to look at the other lists, and nothing counts yet
-  pub link_due : {A E : Type 0} {c : Regions} {lists own : ℕ} {asked : Held} {p q : SeatPart (Beside P)} {x : A} → IsHome c asked.range lists own
-      → MayHold c lists p → IsLinkedIn {E = E} own asked (Ok x) p q → IsToLook c lists own asked q
+  pub link_due : {c : Regions} {table : TableId} {many lists own : ℕ} {patient : Bool} {asked : Held} {p q : SeatPart (Beside P)} {x : Bool}
+      → IsHome c asked.range lists own → MayHold c lists p → IsLinkedIn table many patient own asked (Ok x) p q → IsToLook c lists own asked q
   link_due home may link = record {
     lists = lists_still may.lists link.piece.later;
     home = home;
     holds = piece_alone may.free link.piece link.held;
     free = link.standing ∙ may.free.standing;
   }
-
-  -- a range that doesn't count may be given back there
-  pub kept_gives : {own : ℕ} {asked : Held} {q : SeatPart (Beside P)} → own < q.pass.lists → HoldsIn own asked q
-      → is_counted q.pass.lists q.pass.standing own ≡ false → MayGiveIn own q
-  kept_gives there holds beside = record { there = there; resting = holds.rests; holds = some_held holds.held; beside = beside }
 
   -- and the seat holds nothing then
   pub given_free : {own : ℕ} {asked : Held} {q g : SeatPart (Beside P)} → HoldsIn own asked q → standing_back q.pass.standing own ≡ Free
@@ -377,8 +370,9 @@ module _ {P : Type 0} where
   -- a look at list 0 is all that a narrow range has to look at
   pub looks_narrow : {A : Type 0} {table : TableId} {c : Regions} {own looks : ℕ} {asked : Held} {p q : SeatPart (Beside P)} {r : Result A NotHeld} → own ≢ 0
       → 1 < p.pass.lists → p.pass.standing ≡ Free → LooksAt table own 0 asked (standing_for own 0) r p q → LooksOnce 0 p q
-      → ((k : ℕ) → TakesMany c asked.range k → 1 ≤ k) → LooksAtAll table c own looks asked r p q
-  looks_narrow {A} {table} {c} {own} {looks} {asked} {p} {q} {r} differ several free one once some = record {
+      → ((k : ℕ) → TakesMany c asked.range k → 1 ≤ k) → q.trace.taken ≤ p.trace.taken + 55 + 193 * p.seats → OnErr r (MeetsMore 0 p q)
+      → LooksAtAll table c own looks asked r p q
+  looks_narrow {A} {table} {c} {own} {looks} {asked} {p} {q} {r} differ several free one once some bound more = record {
     work = work_look (inl refl) one;
     home = one.only own differ;
     ready = λ _. ready_each 0 p q one.ready one.only;
@@ -392,5 +386,9 @@ module _ {P : Type 0} where
     long = one.long;
     apart = λ j away. dite (ℕ_discrete j 0) (λ e. subst (λ n. IsApart n p q) (sym e) (once_apart 0 p q once)) (λ other. inl (one.only j other));
     few = ok_any r (λ k many. ⊎_elim (λ few. inl (let s = some k many in omega arith)) (λ m. inr m) (once_few 0 p q once));
+    each = λ k many. let s = some k many in let n = 55 + 193 * p.seats in let whole : k + looks ≡ suc (k + looks - 1) = omega arith in
+        let product : n * (k + looks) ≡ n * (k + looks - 1) + n = ap (λ m. n * m) whole ∙ mul-suc n (k + looks - 1) in omega arith;
+    narrow = λ _. bound;
+    met = err_free r (λ m. found_met p.trace.taken 0 q.trace m.1) more;
     more = err_any r (λ e. absurd (differ e));
   }

@@ -23,17 +23,17 @@ use Rattle.marked_list.specs.declared.answers.Linked.{Linked as LinkAnswer}
 use Rattle.marked_list.specs.declared.answers.Linked.TheVariants.{Done as IsLinked, Lost as NotLinked}
 use Rattle.marked_list.specs.declared.answers.Lost.{Lost as LostAnswer}
 use Rattle.marked_list.specs.declared.answers.Walked.{Walked}
-use Rattle.marked_list.specs.declared.answers.Walked.TheVariants.{Place, Conflict, Lost, Long}
+use Rattle.marked_list.specs.declared.answers.Walked.TheVariants.{Place, Lost}
 use Rattle.marked_list.specs.Order.{IsInside, HasEnds, HasToValidate, StandsAtPlace, MayWalk, MayLink, MayValidate, MayMark, MayEnd}
 use Rattle.marked_list.specs.Leaves.{IsLaterInWalk, IsCall, IsSameLook, IsNewWalk}
 use Rattle.marked_list.specs.Causes.{asked_of, nodes_in, IsSpent}
 use Rattle.marked_list.specs.Answers.{Answers, Arrives, Links, IsLong, IsMarkCall, linked_own, aimed_own}
 use Rattle.range_rw.specs.Calls.{IsHandOf, Leaves}
 use Rattle.range_rw.specs.Contract.{RefusesTry}
-use Rattle.range_rw.specs.Patience.{InsideEnds, HoldsOrNone}
-use Rattle.range_rw.specs.Trying.{has_come, IsFilling, IsLaterInTry, IsLaterInEpoch, Refuses, LinkEnds, ValidateEnds}
+use Rattle.range_rw.specs.Trying.{has_come, IsFilling, IsLaterInTry, IsLaterInEpoch, IsHeldIn, Refuses, RefusesOnce, LinkEnds, LookEnds, ValidateEnds}
 use Rattle.range_rw.specs.Trying.{InsertEnds, StaysFilled, LeavesNode, EpochEnds, MayWalkIn, BeginsToValidate, IsLaterInTraversal}
-use Rattle.range_rw.proofs.Later.{later_on, still_on, walk_still, inside_still, Keeps, keeps_all, lost_on, refuses_on, walk_refuses, spent_look, long_after}
+use Rattle.range_rw.proofs.Later.{later_on, call_later, still_on, walk_still, inside_still, Keeps, keeps_all, lost_on, refuses_on, walk_refuses}
+use Rattle.range_rw.proofs.Later.{answer_stays, come_held, come_refused, come_any, spent_look, long_after}
 
 -- ---- the walk and the link
 
@@ -44,9 +44,7 @@ fill_free own e = ap held_at e.is
 -- a walk that came to its end came to its place
 come_is : (a : Walked) → has_come a ≡ true → a ≡ Place
 come_is Place came = refl
-come_is (Conflict owner range mode) came = absurd (let z : ◌≡◌ {A = Bool} false true = came in cc)
-come_is (Lost l) came = absurd (let z : ◌≡◌ {A = Bool} false true = came in cc)
-come_is (Long visits) came = absurd (let z : ◌≡◌ {A = Bool} false true = came in cc)
+come_is _ came = absurd (let z : ◌≡◌ {A = Bool} false true = came in cc)
 
 came_by : {P : Type 0} (first : ℕ) (p q : SeatPart P) (a : Walked) → has_come a ≡ true → HasEnds p.core.own
     → Answers first p.core.own q a → (q.core.own ≡ p.core.own) × StandsAtPlace q.core.cursor
@@ -64,13 +62,7 @@ module _ {P : Type 0} (p q : SeatPart P) (a : Walked) (may : MayWalk p.core) (on
 
   -- any other answer of the walk refuses the try, with the node still being filled
   pub walk_ends : has_come a ≡ false → IsNewWalk p.trace.taken q → LinkEnds p q a
-  walk_ends isnt new = by_answer a isnt (walk_refuses p.trace.taken p.core.own q a isnt answer new)
-    where
-      by_answer : (b : Walked) → has_come b ≡ false → (q.core.own ≡ p.core.own) × Refuses p.trace.taken (asked_of p.core.own) q b → LinkEnds p q b
-      by_answer Place isnt' x = absurd (let e : ◌≡◌ {A = Bool} true false = isnt' in cc)
-      by_answer (Conflict owner range mode) isnt' x = ((λ node f. (f.0, x.0 ∙ f.1, f.2)), x.1)
-      by_answer (Lost l) isnt' x = ((λ node f. (f.0, x.0 ∙ f.1, f.2)), x.1)
-      by_answer (Long visits) isnt' x = ((λ node f. (f.0, x.0 ∙ f.1, f.2)), x.1)
+  walk_ends isnt new = let x = walk_refuses p.trace.taken p.core.own q a isnt answer new in come_refused isnt ((λ node f. (f.0, x.0 ∙ f.1, f.2)), x.1)
 
   module _ (came : has_come a ≡ true) (r : SeatPart P) (call : IsCall 2 q r) (look : IsSameLook q r) (long : IsLong a ↔ IsSpent q) where
     same : q.core.own ≡ p.core.own
@@ -82,20 +74,10 @@ module _ {P : Type 0} (p q : SeatPart P) (a : Walked) (may : MayWalk p.core) (on
     not_spent : IsSpent r → ⊥
     not_spent s = subst IsLong (come_is a came) (long.1 (spent_look q r look call.seats free s))
 
-    call_later : IsLaterInTry q r
-    call_later = record {
-      number = call.number;
-      seats = call.seats;
-      pass = call.pass;
-      client = call.client;
-      occupied = call.occupied;
-      taken = let t = call.taken in omega arith;
-    }
-
     core_still : (u : View) → r.trace.asked ≡ q.trace.asked → r.core ≡ u → u.epoch ≡ q.core.epoch → u.hand ≡ q.core.hand
         → u.ready ≡ q.core.ready → IsLaterInEpoch p r
     core_still u asked core epoch hand ready = still_on p q r (walk_still p q on) (record {
-      later = call_later;
+      later = call_later q r call;
       epoch = ap (λ (v : View). v.epoch) core ∙ epoch;
       hand = ap (λ (v : View). v.hand) core ∙ (hand ∙ on.hand);
       ready = ap (λ (v : View). v.ready) core ∙ ready;
@@ -109,14 +91,14 @@ module _ {P : Type 0} (p q : SeatPart P) (a : Walked) (may : MayWalk p.core) (on
 
     -- a link that is made leaves the node to be validated
     pub linked_ends : Links q r IsLinked → LinkEnds p r Place
-    linked_ends x = (ap (λ (v : View). v.own) x ∙ ap (linked_own todo_of) same, ap (λ (v : View). v.cursor) x)
+    linked_ends x = come_held refl (ap (λ (v : View). v.own) x ∙ ap (linked_own todo_of) same, ap (λ (v : View). v.cursor) x)
 
     aimed_filling : (w node : ℕ) → IsFilling node p.core.own → IsFilling node (aimed_own w q.core.own)
     aimed_filling w node f = (record f.0 { aimed = Some w }, ap (aimed_own w) (same ∙ f.1), f.2)
 
     -- a link that is lost refuses the try, with the node still being filled
     pub lost_ends : (l : LostAnswer) → Links q r (NotLinked l) → LinkEnds p r (Lost l)
-    lost_ends l x = (
+    lost_ends l x = come_refused refl (
       (λ node f. subst (IsFilling node) (sym (ap (λ (v : View). v.own) x.1)) (aimed_filling (cursor_word q.core.cursor) node f)),
       lost_on (keeps_all r) x.0 (λ s is_link. subst RefusesTry (sym is_link) tt) (let t = on.taken in omega arith),
     )
@@ -144,44 +126,34 @@ unheld own h = ap held_at h.is ∙ (ap (λ (t : Todo). held_at (Linked h.node.no
 pub may_validate_on : {P : Type 0} (p : SeatPart P) → IsInside p.core → HasToValidate p.core.own → p.core.cursor ≡ None → MayValidate p.seats p.core
 may_validate_on p in_epoch own none = record { inside = in_epoch; own = own; begins = inl none }
 
--- the mark of a node by which nothing is held stays inside the epoch, or outside
-pub marked_on : {P : Type 0} {rested : P → P} {q r : SeatPart P} (node : ℕ) → IsMarkCall rested q r → held_at q.core.own ≡ None
-    → r.core ≡ marked q.core node → q.core.hand ≡ None → IsLaterInEpoch q r
-marked_on node mark none core bare = record {
-  later = record {
-    number = mark.number;
-    seats = mark.seats;
-    pass = mark.free none;
-    client = mark.client;
-    occupied = ([], mark.occupied);
-    taken = let t = mark.taken in omega arith;
-  };
-  epoch = ap (λ (v : View). v.epoch) core;
-  hand = ap (λ (v : View). v.hand) core ∙ bare;
-  ready = ap (λ (v : View). v.ready) core;
-  asked = mark.asked;
-}
+module _ {P : Type 0} {patient : Bool} (p q : SeatPart P) (own : HasToValidate p.core.own) where
+  -- what a validation comes to, or a further look, which begins no walk
+  pub look_ends : (first : ℕ) (a : Walked) → Answers first p.core.own q a → (patient ≡ false → (first ≡ p.trace.taken) × IsNewWalk first q)
+      → LookEnds patient p q a
+  look_ends first a x once = by (has_come a) refl
+    where
+      by : (c : Bool) → has_come a ≡ c → LookEnds patient p q a
+      by true came = let z : q.core.own ≡ Linked own.node.node own.node.range own.node.mode Done =
+          subst (λ (o : Own). Arrives o q.core) own.is (subst (Answers first p.core.own q) (come_is a came) x) in
+          come_held came (ap held_at z ∙ ap asked_of (sym own.is), ap may_leave z)
+      by false isnt = come_refused isnt (
+        answer_stays first p.core.own q a isnt x,
+        λ e. let o = once e in
+            subst (λ n. Refuses n (asked_of p.core.own) q a) o.0 (walk_refuses first p.core.own q a isnt x o.1).1,
+      )
 
-module _ {P : Type 0} (p q : SeatPart P) (a : Walked) (own : HasToValidate p.core.own) (on : IsLaterInWalk p q)
-    (answer : Answers p.trace.taken p.core.own q a) (new : IsNewWalk p.trace.taken q) where
-  -- a validation that comes to its end holds what was asked for
-  pub valid_ends : has_come a ≡ true → ValidateEnds p q a
-  valid_ends came = let x = subst (Answers p.trace.taken p.core.own q) (come_is a came) answer in
-      let z : q.core.own ≡ Linked own.node.node own.node.range own.node.mode Done = subst (λ (o : Own). Arrives o q.core) own.is x in
-      subst (ValidateEnds p q) (sym (come_is a came)) (ap held_at z ∙ ap asked_of (sym own.is), ap may_leave z)
-
-  module _ (isnt : has_come a ≡ false) where
-    refused : (q.core.own ≡ p.core.own) × Refuses p.trace.taken (asked_of p.core.own) q a
-    refused = walk_refuses p.trace.taken p.core.own q a isnt answer new
+  -- after any answer but its end the node may be marked, since nothing is held
+  module _ (still : IsLaterInEpoch p q) (a : Walked) (ends : LookEnds patient p q a) (isnt : has_come a ≡ false) where
+    refused : (q.core.own ≡ p.core.own) × RefusesOnce patient p q a
+    refused = ends.refused isnt
 
     unheld_now : held_at q.core.own ≡ None
     unheld_now = ap held_at refused.0 ∙ unheld p.core.own own
 
-    -- after any other answer the node may be marked, since nothing is held
     pub may_mark_on : (is_at_rest : P → Type 0) → MayMark is_at_rest q
     may_mark_on is_at_rest = record { node = own.node; is = refused.0 ∙ own.is; rest = λ done. absurd (to_do own.node.mode (sym own.todo ∙ done)) }
 
-    module _ (rested : P → P) (r : SeatPart P) (mark : IsMarkCall rested q r) where
+    module _ (rested : P → P) (r : SeatPart P) (mark : IsMarkCall rested q r) (long : IsLong a ↔ IsSpent q) where
       core_marked : r.core ≡ marked q.core own.node.node
       core_marked = mark.core own.node (refused.0 ∙ own.is)
 
@@ -196,28 +168,33 @@ module _ {P : Type 0} (p q : SeatPart P) (a : Walked) (own : HasToValidate p.cor
         look = mark.look;
       }
 
-      -- then the hand has no own node, and the answer refuses the try
-      marked_ends : ValidateEnds p r a
-      marked_ends = by_answer a isnt (refuses_on p.trace.taken p.trace.taken (asked_of p.core.own) (asked_of p.core.own) q r a (omega arith) refl keeps
-          refused.1)
-        where
-          by_answer : (b : Walked) → has_come b ≡ false → Refuses p.trace.taken (asked_of p.core.own) r b → ValidateEnds p r b
-          by_answer Place n x = absurd (let e : ◌≡◌ {A = Bool} true false = n in cc)
-          by_answer (Conflict owner range mode) n x = (ap (λ (v : View). v.own) core_marked, x)
-          by_answer (Lost l) n x = (ap (λ (v : View). v.own) core_marked, x)
-          by_answer (Long visits) n x = (ap (λ (v : View). v.own) core_marked, x)
-
       -- validation and mark stay in one epoch
       marked_still : IsLaterInEpoch p r
-      marked_still = still_on p q r (walk_still p q on) (marked_on own.node.node mark unheld_now core_marked on.hand)
+      marked_still = still_on p q r still (record {
+        later = record {
+          number = mark.number;
+          seats = mark.seats;
+          pass = mark.free unheld_now;
+          client = mark.client;
+          occupied = ([], mark.occupied);
+          taken = let t = mark.taken in omega arith;
+        };
+        epoch = ap (λ (v : View). v.epoch) core_marked;
+        hand = ap (λ (v : View). v.hand) core_marked ∙ still.hand;
+        ready = ap (λ (v : View). v.ready) core_marked;
+        asked = mark.asked;
+      })
 
-      -- Long comes exactly where the walk is spent, also behind the mark
-      marked_long : (IsLong a ↔ IsSpent q) → (IsLong a ↔ IsSpent r)
-      marked_long long = long_after q r a mark.look mark.seats unheld_now (ap (λ (v : View). held_at v.own) core_marked) long
-
-      -- all of it
-      pub marked_all : (IsLong a ↔ IsSpent q) → IsLaterInEpoch p r × ValidateEnds p r a × (IsLong a ↔ IsSpent r)
-      marked_all long = (marked_still, marked_ends, marked_long long)
+      -- then the hand has no own node, and the answer refuses a try; Long comes exactly where the walk is spent
+      pub marked_all : IsLaterInEpoch p r × ValidateEnds patient p r a × (IsLong a ↔ IsSpent r)
+      marked_all = (
+        marked_still,
+        come_refused isnt (
+          ap (λ (v : View). v.own) core_marked,
+          λ e. refuses_on p.trace.taken p.trace.taken (asked_of p.core.own) (asked_of p.core.own) q r a (omega arith) refl keeps (refused.1 e),
+        ),
+        long_after q r a mark.look mark.seats unheld_now (ap (λ (v : View). held_at v.own) core_marked) long,
+      )
 
 -- ---- the two together
 
@@ -240,47 +217,21 @@ validates_linked own now e same = record {
 }
 
 module _ {P : Type 0} (p q : SeatPart P) (a : Walked) (may : MayWalk p.core) (still : IsLaterInEpoch p q) (ends : LinkEnds p q a) where
-  -- a node that came to its place is linked, and the cursor is gone
-  pub placed : has_come a ≡ true → (q.core.own ≡ linked_own todo_of p.core.own) × (q.core.cursor ≡ None)
-  placed came = subst (LinkEnds p q) (come_is a came) ends
-
-  -- after walk and link the hand is inside its epoch
-  pub insert_inside : IsInside q.core
-  insert_inside = inside_still p q may.inside still
-
-  -- a node that was linked has its validation to do
-  pub insert_validates : has_come a ≡ true → HasToValidate q.core.own
-  insert_validates came = validates_linked p.core.own q.core.own may.own (placed came).0
-
-  -- and the cursor is gone
-  pub insert_begins : has_come a ≡ true → q.core.cursor ≡ None
-  insert_begins came = (placed came).1
-
   -- where walk or link refused, the node is still being filled
-  pub insert_refused : has_come a ≡ false → InsertEnds p q a
-  insert_refused isnt = by_answer a isnt ends
-    where
-      by_answer : (b : Walked) → has_come b ≡ false → LinkEnds p q b → InsertEnds p q b
-      by_answer Place n x = absurd (let e : ◌≡◌ {A = Bool} true false = n in cc)
-      by_answer (Conflict owner range mode) n x = (inr x.0, x.1)
-      by_answer (Lost l) n x = (inr x.0, x.1)
-      by_answer (Long visits) n x = (inr x.0, x.1)
+  pub insert_refused : {patient : Bool} → has_come a ≡ false → InsertEnds patient p q a
+  insert_refused isnt = let x = ends.refused isnt in come_refused isnt (inr x.0, λ _. x.1)
 
   -- otherwise what the validation came to is what the whole comes to
-  pub insert_valid : has_come a ≡ true → (r : SeatPart P) (b : Walked) → ValidateEnds q r b → InsertEnds p r b
-  insert_valid came r b x = by_answer b x
-    where
-      asks : asked_of q.core.own ≡ asked_of p.core.own
-      asks = asks_linked p.core.own q.core.own may.own (placed came).0
-
-      from : (c : Walked) → Refuses q.trace.taken (asked_of q.core.own) r c → Refuses p.trace.taken (asked_of p.core.own) r c
-      from c = refuses_on p.trace.taken q.trace.taken (asked_of p.core.own) (asked_of q.core.own) r r c still.later.taken asks (keeps_all r)
-
-      by_answer : (c : Walked) → ValidateEnds q r c → InsertEnds p r c
-      by_answer Place y = (y.0 ∙ asks, y.1)
-      by_answer (Conflict owner range mode) y = (inl y.0, from (Conflict owner range mode) y.1)
-      by_answer (Lost l) y = (inl y.0, from (Lost l) y.1)
-      by_answer (Long visits) y = (inl y.0, from (Long visits) y.1)
+  pub insert_valid : {patient : Bool} → has_come a ≡ true → (r : SeatPart P) (b : Walked) → ValidateEnds patient q r b → InsertEnds patient p r b
+  insert_valid came r b x =
+      let asks = asks_linked p.core.own q.core.own may.own (ends.held came).0 in record {
+        held = λ e. ((x.held e).0 ∙ asks, (x.held e).1);
+        refused = λ e. (
+          inl (x.refused e).0,
+          λ once. refuses_on p.trace.taken q.trace.taken (asked_of p.core.own) (asked_of q.core.own) r r b still.later.taken asks (keeps_all r)
+              ((x.refused e).1 once),
+        );
+      }
 
 -- so one that was linked in an epoch may be validated there
 pub to_validate : {P : Type 0} {list : ListShape} {h k : HandState (Beside P)} {i j : Traversal} {x y : ℕ} (a : Walked) → IsHandOf (MayWalkIn i) list h
@@ -290,10 +241,10 @@ to_validate {P} {list} {h} {k} {i} {j} a may on ends came = record {
   is = record {
     may = record {
       inside = inside_still h.part k.part may.is.order.inside on.is.later;
-      own = insert_validates h.part k.part a may.is.order on.is.later ends came;
+      own = validates_linked h.part.core.own k.part.core.own may.is.order.own (ends.held came).0;
       epoch = ap (λ (t : Traversal). t.epoch) on.is.cursor ∙ (may.is.epoch ∙ sym on.is.later.epoch);
     };
-    begins = insert_begins h.part k.part a may.is.order on.is.later ends came;
+    begins = (ends.held came).1;
   };
 }
 
@@ -353,21 +304,15 @@ module _ {P : Type 0} (p e : SeatPart P) (own : HasEnds p.core.own) (entering : 
     kept_back : IsBack → kept_own f.core.own ≡ Nothing
     kept_back x = ⊎_elim (λ n. ap kept_own n) (λ g. ap kept_own (g own.node.node filled_in).1) x
 
-    may_leave_in : (a : Option Walked) (leaves : Bool) → MatchOption a (StaysFilled leaves e f) (InsertEnds e f) → may_leave f.core.own ≡ true
-    may_leave_in None leaves x = leaves_back (same_back x.0)
-    may_leave_in (Some Place) leaves x = x.1
-    may_leave_in (Some (Conflict owner range mode)) leaves x = leaves_back x.0
-    may_leave_in (Some (Lost l)) leaves x = leaves_back x.0
-    may_leave_in (Some (Long visits)) leaves x = leaves_back x.0
+    may_leave_in : (patient : Bool) (a : Option Walked) (leaves : Bool) → MatchOption a (StaysFilled leaves e f) (InsertEnds patient e f)
+        → may_leave f.core.own ≡ true
+    may_leave_in patient None leaves x = leaves_back (same_back x.0)
+    may_leave_in patient (Some b) leaves x = come_any (has_come b) x (λ y. y.1) (λ y. leaves_back y.0)
 
     -- after the insertion, also where it was given up, the epoch may be left
-    pub may_end_in : (a : Option Walked) (leaves : Bool) → MatchOption a (StaysFilled leaves e f) (InsertEnds e f) → IsInside e.core → MayEnd f.core
-    may_end_in a leaves ends i = record { inside = inside_still e f i still; own = may_leave_in a leaves ends }
-
-    -- the same after a patient insertion
-    pub may_end_patient : (b : Bool) → InsideEnds e f b → IsInside e.core → MayEnd f.core
-    may_end_patient true x i = record { inside = inside_still e f i still; own = x.1 }
-    may_end_patient false x i = record { inside = inside_still e f i still; own = leaves_back x }
+    pub may_end_in : (patient : Bool) (a : Option Walked) (leaves : Bool) → MatchOption a (StaysFilled leaves e f) (InsertEnds patient e f)
+        → IsInside e.core → MayEnd f.core
+    may_end_in patient a leaves ends i = record { inside = inside_still e f i still; own = may_leave_in patient a leaves ends }
 
     module _ (q : SeatPart P) (leaving : q ≡ quiet_after f Leave (left f.core)) where
       looked_out : q.trace.looked ≡ f.trace.looked
@@ -415,36 +360,29 @@ module _ {P : Type 0} (p e : SeatPart P) (own : HasEnds p.core.own) (entering : 
       ready_again : f.core.own ≡ e.core.own → (node : ℕ) → IsFilling node p.core.own → q.core.ready ≡ node ∷ p.core.ready
       ready_again same node at = ready_out ∙ (ap (λ (o : Own). ready_left o f.core.ready) (same ∙ (own_in ∙ at.1)) ∙ (λ i. at.2 i ∷ ready_in i))
 
-      ends_walked : (b : Walked) → InsertEnds e f b → EpochEnds p q b
-      ends_walked Place x = let asks = asks_ends p.core.own own in let held : held_at f.core.own ≡ asked_of p.core.own = x.0 ∙ ap asked_of own_in in
+      held_out : IsHeldIn e f → (held_at q.core.own ≡ asked_of p.core.own) × (q.core.ready ≡ p.core.ready)
+      held_out x = let asks = asks_ends p.core.own own in let held : held_at f.core.own ≡ asked_of p.core.own = x.0 ∙ ap asked_of own_in in
           (ap held_at own_out ∙ (kept_held f.core.own ∙ held), ready_out ∙ (ready_held f.core.own asks.0 f.core.ready (held ∙ asks.1) ∙ ready_in))
-      ends_walked (Conflict owner range mode) x = (own_out ∙ kept_back x.0, back_refuses (Conflict owner range mode) x.1, back_ready x.0)
-      ends_walked (Lost l) x = (own_out ∙ kept_back x.0, back_refuses (Lost l) x.1, back_ready x.0)
-      ends_walked (Long visits) x = (own_out ∙ kept_back x.0, back_refuses (Long visits) x.1, back_ready x.0)
 
       -- after it the range is held, or the hand has no own node and its ready nodes are as before or with it
-      pub insert_ends : (a : Option Walked) (leaves : Bool) → MatchOption a (StaysFilled leaves e f) (InsertEnds e f)
-          → MatchOption a (LeavesNode p q × (leaves ≡ true)) (EpochEnds p q)
-      insert_ends None leaves x = ((own_out ∙ kept_back (same_back x.0), ready_again x.0), x.1)
-      insert_ends (Some b) leaves x = ends_walked b x
-
-      -- after a patient insertion the range is held, or the hand has no own node
-      pub patient_ends : (b : Bool) → InsideEnds e f b → HoldsOrNone p q b
-      patient_ends true x = ap held_at own_out ∙ (kept_held f.core.own ∙ (x.0 ∙ ap asked_of own_in))
-      patient_ends false x = own_out ∙ kept_back x
-
-      long_back : (b : Walked) → IsBack → q.core.own ≡ Nothing → (IsLong b ↔ IsSpent f) → (IsLong b ↔ IsSpent q)
-      long_back b x none l = long_after f q b (same_looked f q looked_out) seats_out (free_back x) (ap held_at none) l
-
-      long_walked : (b : Walked) → InsertEnds e f b → EpochEnds p q b → (IsLong b ↔ IsSpent f) → (IsLong b ↔ IsSpent q)
-      long_walked Place x w l = let asks = asks_ends p.core.own own in
-          (λ never. absurd never, λ s. absurd (let none : ◌≡◌ {A = Option Held} None (Some asks.0) = sym s.1 ∙ (w.0 ∙ asks.1) in cc))
-      long_walked (Conflict owner range mode) x w l = long_back (Conflict owner range mode) x.0 w.0 l
-      long_walked (Lost m) x w l = long_back (Lost m) x.0 w.0 l
-      long_walked (Long visits) x w l = long_back (Long visits) x.0 w.0 l
+      pub insert_ends : (patient : Bool) (a : Option Walked) (leaves : Bool) → MatchOption a (StaysFilled leaves e f) (InsertEnds patient e f)
+          → MatchOption a (LeavesNode p q × (leaves ≡ true)) (EpochEnds patient p q)
+      insert_ends patient None leaves x = ((own_out ∙ kept_back (same_back x.0), ready_again x.0), x.1)
+      insert_ends patient (Some b) leaves x = record {
+        held = λ came. held_out (x.held came);
+        refused = λ isnt. let y = x.refused isnt in (own_out ∙ kept_back y.0, (λ once. back_refuses b (y.1 once)), back_ready y.0);
+      }
 
       -- Long comes exactly where the walk is spent, also behind the leaving
-      pub insert_long : (a : Option Walked) (leaves : Bool) → MatchOption a (StaysFilled leaves e f) (InsertEnds e f)
+      pub insert_long : (patient : Bool) (a : Option Walked) (leaves : Bool) → MatchOption a (StaysFilled leaves e f) (InsertEnds patient e f)
           → MatchOption a (Unit {0}) (λ b. IsLong b ↔ IsSpent f) → MatchOption a (Unit {0}) (λ b. IsLong b ↔ IsSpent q)
-      insert_long None leaves x l = l
-      insert_long (Some b) leaves x l = long_walked b x (ends_walked b x) l
+      insert_long patient None leaves x l = l
+      insert_long patient (Some b) leaves x l = by (has_come b) refl
+        where
+          by : (c : Bool) → has_come b ≡ c → IsLong b ↔ IsSpent q
+          by true came = let asks = asks_ends p.core.own own in (
+            (λ is. absurd (subst IsLong (come_is b came) is)),
+            (λ s. absurd (let none : ◌≡◌ {A = Option Held} None (Some asks.0) = sym s.1 ∙ ((held_out (x.held came)).0 ∙ asks.1) in cc)),
+          )
+          by false isnt = let back = (x.refused isnt).0 in
+              long_after f q b (same_looked f q looked_out) seats_out (free_back back) (ap held_at (own_out ∙ kept_back back)) l

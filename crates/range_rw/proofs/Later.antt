@@ -4,8 +4,7 @@ use Rattle.std.specs.Prelude.{Option, None}
 use Rattle.lock_core.specs.declared.range.Held.{Held}
 use Rattle.lock_core.specs.declared.views.Own.{Own}
 use Rattle.lock_core.specs.declared.steps.Step.{Step}
-use Rattle.lock_core.specs.declared.steps.Step.TheVariants.{Enter, Leave, ReadEpoch, ReadHome, GiveHome, FillLo, FillHi, Aim, ClearHome, Walk, ReadLo, ReadHi}
-use Rattle.lock_core.specs.declared.steps.Step.TheVariants.{Link, Unlink, Mark, QuickLink, QuickUnlink, Settle}
+use Rattle.lock_core.specs.declared.steps.Step.TheVariants.{Unlink, Settle}
 use Rattle.lock_core.specs.Machine.{held_at}
 use Rattle.epoch_pools.specs.declared.views.SeatPart.{SeatPart}
 use Rattle.epoch_pools.proofs.Stepping.{occupied_on}
@@ -16,7 +15,7 @@ use Rattle.marked_list.specs.Leaves.{IsCall, IsLaterInWalk, IsSameLook, IsNewWal
 use Rattle.marked_list.specs.Causes.{asked_of, IsLost, IsWalkLoss, IsSpent}
 use Rattle.marked_list.specs.Answers.{Answers, IsLong}
 use Rattle.range_rw.specs.Contract.{RefusesTry}
-use Rattle.range_rw.specs.Trying.{has_come, IsLaterInTry, IsLaterInEpoch, Refuses}
+use Rattle.range_rw.specs.Trying.{Comes, has_come, IsLaterInTry, IsLaterInEpoch, Refuses}
 
 -- ---- calls
 
@@ -31,16 +30,20 @@ later_on p q r a b = record {
   taken = let x = a.taken in let y = b.taken in omega arith;
 }
 
+-- a call of so many steps
+pub call_later : {P : Type 0} {n : ℕ} (p q : SeatPart P) → IsCall n p q → IsLaterInTry p q
+call_later p q x = record {
+  number = x.number;
+  seats = x.seats;
+  pass = x.pass;
+  client = x.client;
+  occupied = x.occupied;
+  taken = let t = x.taken in omega arith;
+}
+
 -- so are two calls of so many steps
 pub calls_later : {P : Type 0} {a b : ℕ} (p q r : SeatPart P) → IsCall a p q → IsCall b q r → IsLaterInTry p r
-calls_later p q r x y = record {
-  number = y.number ∙ x.number;
-  seats = y.seats ∙ x.seats;
-  pass = y.pass ∙ x.pass;
-  client = y.client ∙ x.client;
-  occupied = occupied_on p.trace q.trace r.trace x.occupied y.occupied;
-  taken = let s = x.taken in let t = y.taken in omega arith;
-}
+calls_later p q r x y = later_on p q r (call_later p q x) (call_later q r y)
 
 -- two calls in one epoch after each other are one
 pub still_on : {P : Type 0} (p q r : SeatPart P) → IsLaterInEpoch p q → IsLaterInEpoch q r → IsLaterInEpoch p r
@@ -60,6 +63,18 @@ walk_still p q on = record {
 -- such a call leaves a hand inside that was inside
 pub inside_still : {P : Type 0} (p q : SeatPart P) → IsInside p.core → IsLaterInEpoch p q → IsInside q.core
 inside_still p q in_epoch s = record { odd = ap (λ n. n % 2) s.epoch ∙ in_epoch.odd; hand = s.hand }
+
+-- ---- whether a walk came to its end
+
+pub come_held : {Held Refused : Type 0} {c : Bool} → c ≡ true → Held → Comes c Held Refused
+come_held came x = record { held = λ _. x; refused = λ isnt. absurd (let e : ◌≡◌ {A = Bool} true false = sym came ∙ isnt in cc) }
+
+pub come_refused : {Held Refused : Type 0} {c : Bool} → c ≡ false → Refused → Comes c Held Refused
+come_refused isnt x = record { held = λ came. absurd (let e : ◌≡◌ {A = Bool} true false = sym came ∙ isnt in cc); refused = λ _. x }
+
+pub come_any : {Held Refused Any : Type 0} (c : Bool) → Comes c Held Refused → (Held → Any) → (Refused → Any) → Any
+come_any true x f g = f (x.held refl)
+come_any false x f g = g (x.refused refl)
 
 -- ---- causes
 
@@ -130,22 +145,7 @@ refuses_on first later asked now p q (Long visits) le same k x = let new = new_a
 pub walk_loss : (s : Step) → IsWalkLoss s → RefusesTry s
 walk_loss Unlink k = k
 walk_loss Settle k = k
-walk_loss Enter k = absurd k
-walk_loss Leave k = absurd k
-walk_loss (ReadEpoch j) k = absurd k
-walk_loss (ReadHome n) k = absurd k
-walk_loss GiveHome k = absurd k
-walk_loss (FillLo lo) k = absurd k
-walk_loss (FillHi hi mode) k = absurd k
-walk_loss Aim k = absurd k
-walk_loss (ClearHome n) k = absurd k
-walk_loss Walk k = absurd k
-walk_loss ReadLo k = absurd k
-walk_loss ReadHi k = absurd k
-walk_loss Link k = absurd k
-walk_loss Mark k = absurd k
-walk_loss QuickLink k = absurd k
-walk_loss QuickUnlink k = absurd k
+walk_loss _ k = absurd k
 
 -- an answer of a walk or a validation that isn't its end
 pub walk_refuses : {P : Type 0} (first : ℕ) (own : Own) (q : SeatPart P) (a : Walked) → has_come a ≡ false → Answers first own q a
@@ -169,6 +169,11 @@ walk_refuses first own q (Conflict owner range mode) isnt x new = (
 )
 walk_refuses first own q (Lost l) isnt x new = (x.1, lost_on (keeps_all q) x.0 walk_loss (omega arith))
 walk_refuses first own q (Long visits) isnt x new = (x.1, (x.0, new))
+
+-- it leaves the own node
+pub answer_stays : {P : Type 0} (first : ℕ) (own : Own) (q : SeatPart P) (a : Walked) → has_come a ≡ false → Answers first own q a → q.core.own ≡ own
+answer_stays first own q Place isnt x = absurd (let e : ◌≡◌ {A = Bool} true false = isnt in cc)
+answer_stays first own q _ isnt x = x.1
 
 -- a walk that is spent after a call that looks at no more nodes was spent before it
 pub spent_look : {P : Type 0} (p q : SeatPart P) → IsSameLook p q → q.seats ≡ p.seats → held_at p.core.own ≡ None → IsSpent q → IsSpent p

@@ -20,7 +20,7 @@ use Rattle.epoch_pools.specs.declared.views.Standing.TheVariants.{Free, Narrow, 
 use Rattle.epoch_pools.specs.Standings.{is_here, is_whole, is_counted, standing_back}
 use Rattle.epoch_pools.specs.Beside.{shown_core}
 use Rattle.epoch_pools.specs.Hands.{IsResting, turned}
-use Rattle.epoch_pools.specs.Passing.{after_look, after_look_at, HoldsToo}
+use Rattle.epoch_pools.specs.Passing.{after_look_at, HoldsToo}
 use Rattle.epoch_pools.proofs.Stepping.{occupied_on}
 use Rattle.range_rw.specs.Contract.{AsksOnly, IsReadyLeft}
 use Rattle.marked_list.specs.Causes.{nodes_in, IsSpent}
@@ -102,7 +102,7 @@ pub record Crossing {P : Type 0} (home other : ℕ) (asked : Held) (p l t : Seat
 
 -- then the look is made, the other node is given back, and the hand turns back once more
 pub record Return {P : Type 0} (home other : ℕ) (t : SeatPart (Beside P)) (s : Standing) (h g u : SeatPart (Beside P)) : Type 0 where
-  pub look : h ≡ after_look t s
+  pub look : h ≡ after_look_at other true s t
   pub give : IsFreedIn other (standing_back h.pass.standing other) h g
   pub back : standing_back s other ≡ s
   pub turn : u ≡ turned g home
@@ -128,12 +128,7 @@ module _ {P : Type 0} where
   turn_on p is = subst (IsLaterInLists p) (sym is)
       (record { number = refl; seats = refl; lists = refl; pass = refl; client = refl; occupied = ([], refl); taken = omega arith })
 
-  -- a look makes one, and changes the standing alone
-  pub look_on : (p : SeatPart (Beside P)) {q : SeatPart (Beside P)} {s : Standing} → q ≡ after_look p s → IsLaterInLists p q
-  look_on p is = subst (IsLaterInLists p) (sym is)
-      (record { number = refl; seats = refl; lists = refl; pass = refl; client = refl; occupied = ([], refl); taken = omega arith })
-
-  -- the same of one that may find its list not empty
+  -- a look makes one, and changes the standing alone; it may find its list not empty
   pub seen_on : (p : SeatPart (Beside P)) {q : SeatPart (Beside P)} (at : ℕ) (b : Bool) (s : Standing) → q ≡ after_look_at at b s p → IsLaterInLists p q
   seen_on p {q} at b s is = subst (IsLaterInLists p) (sym is) (record {
     number = refl;
@@ -145,15 +140,9 @@ module _ {P : Type 0} where
     taken = omega arith;
   })
 
-  -- neither asks for a range
+  -- a turn asks for no range
   pub turn_asks : (p : SeatPart (Beside P)) {t : SeatPart (Beside P)} {at : ℕ} → t ≡ turned p at → t.trace.asked ≡ p.trace.asked
   turn_asks p {t} {at} is = ap (λ (x : SeatPart (Beside P)). x.trace.asked) is
-
-  pub look_asks : (p : SeatPart (Beside P)) {q : SeatPart (Beside P)} {s : Standing} → q ≡ after_look p s → q.trace.asked ≡ p.trace.asked
-  look_asks p {q} {s} is = ap (λ (x : SeatPart (Beside P)). x.trace.asked) is
-
-  pub look_shows : (p : SeatPart (Beside P)) {q : SeatPart (Beside P)} {s : Standing} → q ≡ after_look p s → (j : ℕ) → shown_core q j ≡ shown_core p j
-  look_shows p {q} {s} is j = ap (λ (x : SeatPart (Beside P)). shown_core x j) is
 
   pub seen_shows : (p : SeatPart (Beside P)) {q : SeatPart (Beside P)} (at : ℕ) (b : Bool) (s : Standing) → q ≡ after_look_at at b s p
       → (j : ℕ) → shown_core q j ≡ shown_core p j
@@ -182,16 +171,6 @@ module _ {P : Type 0} where
     turned = ap (λ (x : SeatPart (Beside P)). x.pass.list) is;
     held = ap (λ (x : SeatPart (Beside P)). held_at x.core.own) is ∙ h.held;
     others = λ j away. ap (λ (v : View). v.own) (stays j) ∙ h.others j away;
-  }
-
-  -- a look leaves what is held
-  pub holds_looked : {home : ℕ} {asked : Held} {t h : SeatPart (Beside P)} {s : Standing} → h ≡ after_look t s → HoldsAlone home asked t
-      → HoldsAlone home asked h
-  holds_looked {home} {asked} {t} {h} {s} is a = record {
-    rests = subst IsResting (sym (ap (λ (x : SeatPart (Beside P)). x.core) is)) a.rests;
-    turned = ap (λ (x : SeatPart (Beside P)). x.pass.list) is ∙ a.turned;
-    held = ap (λ (x : SeatPart (Beside P)). held_at x.core.own) is ∙ a.held;
-    others = λ j away. ap (λ (v : View). v.own) (look_shows t is j) ∙ a.others j away;
   }
 
   pub holds_seen : {home : ℕ} (at : ℕ) (b : Bool) {asked : Held} {t h : SeatPart (Beside P)} (s : Standing) → h ≡ after_look_at at b s t
@@ -331,16 +310,17 @@ module _ {P : Type 0} where
     -- and what is so once the look is made and that node is given back
     module _ {s : Standing} {h g u : SeatPart (Beside P)} (after : Return home other t s h g u) where
       both_later : IsLaterInLists p u
-      both_later = lists_on (lists_on (lists_on (lists_on over.link.later (turn_on l over.turn)) (look_on t after.look)) after.give.piece.later)
+      both_later = lists_on (lists_on (lists_on (lists_on over.link.later (turn_on l over.turn)) (seen_on t other true s after.look)) after.give.piece.later)
           (turn_on g after.turn)
 
       -- that the link in the other list asked for this range is all
       both_asks : AsksOnly asked p.trace.asked l.trace.asked → AsksOnly asked p.trace.asked u.trace.asked
-      both_asks asks = asks_kept asks (turn_asks g after.turn ∙ (after.give.asked ∙ (look_asks t after.look ∙ turn_asks l over.turn)))
+      both_asks asks = asks_kept asks (turn_asks g after.turn ∙ (after.give.asked ∙
+          (ap (λ (x : SeatPart (Beside P)). x.trace.asked) after.look ∙ turn_asks l over.turn)))
 
       -- each list but the other one is as it was
       both_only : (j : ℕ) → j ≢ other → shown_core u j ≡ shown_core p j
-      both_only j away = after.stays j ∙ (after.give.piece.only j away ∙ (look_shows t after.look j ∙ (over.stays j ∙ over.link.only j away)))
+      both_only j away = after.stays j ∙ (after.give.piece.only j away ∙ (seen_shows t other true s after.look j ∙ (over.stays j ∙ over.link.only j away)))
 
       both_free : (shown_core u other).own ≡ Nothing
       both_free = ap (λ (v : View). v.own) (after.stays other ∙ own_at g other after.give.piece.turned) ∙ after.give.free
@@ -363,7 +343,7 @@ module _ {P : Type 0} where
       -- the ready nodes of the other list are those that the link left there
       both_ready : IsReadyLeft (shown_core p other).ready (shown_core l other).ready → IsReadyLeft (shown_core p other).ready (shown_core u other).ready
       both_ready left = subst (IsReadyLeft (shown_core p other).ready) (sym (ap (λ (v : View). v.ready) (after.stays other) ∙ (after.give.ready ∙ ap
-          (λ (v : View). v.ready) (look_shows t after.look other ∙ over.stays other)))) left
+          (λ (v : View). v.ready) (seen_shows t other true s after.look other ∙ over.stays other)))) left
 
       -- so the range counts at that list
       pub both_looked : {A : Type 0} {x : A} {table : TableId} → AsksOnly asked p.trace.asked l.trace.asked

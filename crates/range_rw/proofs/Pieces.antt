@@ -1,6 +1,6 @@
 -- A piece of work in one list of several: the hand turns to the list, works there, and shows each other list as
 -- before. So what the calls on one list say of the hand is what a piece says of the seat.
-use Rattle.std.proofs.Common.{◌≡◌, ◌≢◌, ℕ, ◌%◌, ◌<◌, ◌≤◌, Bool, true, false, Result, Ok, Err, inl, refl, sym, ap, ◌∙◌, subst, arith, eq-eqb, ne_eqb}
+use Rattle.std.proofs.Common.{◌≡◌, ◌≢◌, ℕ, ◌%◌, ◌<◌, ◌≤◌, Bool, false, Result, Ok, Err, refl, sym, ap, ◌∙◌, subst, arith, eq-eqb, ne_eqb}
 use Rattle.std.specs.Prelude.{[], ◌++◌, Option, Some, None, IfOk, IfErr, IfSome, OnOk, OnErr, if◌then◌else◌}
 use mathlib.Core.Logic.{dite}
 use native.Mathlib.Decide.{ℕ_discrete}
@@ -8,26 +8,23 @@ use Rattle.atomic_table.specs.Seated.{TableId}
 use Rattle.lock_core.specs.declared.range.Held.{Held}
 use Rattle.lock_core.specs.declared.views.View.{View}
 use Rattle.lock_core.specs.declared.views.Own.{Own}
-use Rattle.lock_core.specs.declared.views.Own.TheVariants.{Nothing, Filling, Linked}
-use Rattle.lock_core.specs.declared.views.Todo.TheVariants.{Forward, FromHead, Done}
-use Rattle.lock_core.specs.Nodes.{Listed}
-use Rattle.lock_core.specs.Views.{marked}
+use Rattle.lock_core.specs.declared.views.Own.TheVariants.{Nothing, Linked}
+use Rattle.lock_core.specs.declared.views.Todo.TheVariants.{Done}
 use Rattle.lock_core.specs.Machine.{held_at}
 use Rattle.epoch_pools.specs.declared.views.SeatPart.{SeatPart}
 use Rattle.epoch_pools.specs.declared.views.Beside.{Beside}
 use Rattle.epoch_pools.specs.Standings.{is_counted, standing_back}
-use Rattle.epoch_pools.specs.Beside.{core_at, shown_core, given_back, may_give_back}
+use Rattle.epoch_pools.specs.Beside.{core_at, shown_core, given_back}
 use Rattle.epoch_pools.specs.Hands.{IsResting, turned}
 use Rattle.epoch_pools.specs.Record.{KeepsOccupied}
 use Rattle.marked_list.specs.Order.{MaySweep}
 use Rattle.marked_list.specs.Answers.{IsMarkCall}
 use Rattle.range_rw.specs.declared.refusals.NotHeld.{NotHeld}
-use Rattle.range_rw.specs.Contract.{AsksOnly, SeatState, IsReadyLeft, IsListCause}
-use Rattle.range_rw.specs.Seats.{IsSettled, IsBetween, pools_of, seat_state_in}
+use Rattle.range_rw.specs.Contract.{SeatState, IsReadyLeft, IsListCause}
+use Rattle.range_rw.specs.Seats.{IsSettled, pools_of, seat_state_in}
 use Rattle.range_rw.specs.Trying.{IsLaterInTry, IsLaterOutside}
 use Rattle.range_rw.specs.Releasing.{GivesBack}
-use Rattle.range_rw.specs.Several.{list_state, IsCauseAt, IsLinkedIn, IsPiece, KeepsCauses, MayGiveIn, MayLinkIn}
-use Rattle.range_rw.proofs.Asking.{asks_from}
+use Rattle.range_rw.specs.Several.{list_state, IsCauseAt, IsPiece, KeepsCauses, MayGiveIn, MayLinkIn}
 use Rattle.range_rw.proofs.Taking.{cause_within}
 
 -- what is so of each refusal is so of a result's
@@ -62,15 +59,8 @@ is_there e less = omega arith
 
 -- an own node by which a range is held is settled
 pub settled_by : (own : Own) → held_at own ≢ None → IsSettled own
-settled_by Nothing h = absurd (h refl)
-settled_by (Filling node lo hi mode aimed) h = absurd (h refl)
-settled_by (Linked node range mode Forward) h = absurd (h refl)
-settled_by (Linked node range mode FromHead) h = absurd (h refl)
 settled_by (Linked node range mode Done) h = refl
-
--- a hand that rests with a held range is between two calls
-pub held_between : (v : View) → IsResting v → held_at v.own ≢ None → IsBetween v
-held_between v rests some = record { own = settled_by v.own some; hand = rests.hand; cursor = inl rests.cursor }
+settled_by _ h = absurd (h refl)
 
 -- a hand that rests without an own node may sweep
 pub rests_free : (v : View) → IsResting v → v.own ≡ Nothing → MaySweep v
@@ -81,16 +71,15 @@ module _ {P : Type 0} where
   pub turned_free : {at : ℕ} {p t : SeatPart (Beside P)} → MayLinkIn at p → t ≡ turned p at → IsResting t.core → MaySweep t.core
   turned_free {at} {p} {t} may is rests = rests_free t.core rests (ap (λ (x : SeatPart (Beside P)). x.core.own) is ∙ may.free)
 
-  -- one that was turned to a list in which a range may be given back holds that range, which doesn't count
-  pub turned_holds : {at : ℕ} {p t : SeatPart (Beside P)} → MayGiveIn at p → t ≡ turned p at → held_at t.core.own ≢ None
-  turned_holds may is = subst (λ (v : View). held_at v.own ≢ None) (sym (ap (λ (x : SeatPart (Beside P)). x.core) is)) may.holds
-
   pub turned_beside : {at : ℕ} {p t : SeatPart (Beside P)} → MayGiveIn at p → t ≡ turned p at → is_counted t.pass.lists t.pass.standing t.pass.list ≡ false
   turned_beside may is = subst (λ (x : SeatPart (Beside P)). is_counted x.pass.lists x.pass.standing x.pass.list ≡ false) (sym is) may.beside
 
   -- the list to which the hand is turned is shown as its view, and each other one as what stands beside
   pub own_at : (p : SeatPart (Beside P)) (i : ℕ) → p.pass.list ≡ i → shown_core p i ≡ p.core
   own_at p i e = ap (λ (b : Bool). if b then p.core else core_at i p.pass.others) (eq-eqb i p.pass.list (sym e))
+
+  pub ready_at_home : (p : SeatPart (Beside P)) {i : ℕ} → p.pass.list ≡ i → (shown_core p i).ready ≢ [] → p.core.ready ≢ []
+  ready_at_home p {i} e some none = some (ap (λ (v : View). v.ready) (own_at p i e) ∙ none)
 
   pub else_at : (p : SeatPart (Beside P)) (j : ℕ) → j ≢ p.pass.list → shown_core p j ≡ core_at j p.pass.others
   else_at p j differ = ap (λ (b : Bool). if b then p.core else core_at j p.pass.others) (ne_eqb j p.pass.list differ)
@@ -151,17 +140,6 @@ module _ {P : Type 0} where
     pub try_standing : IsLaterInTry t q → q.pass.standing ≡ p.pass.standing
     try_standing l = ap (λ (b : Beside P). b.standing) l.pass ∙ ap (λ (x : SeatPart (Beside P)). x.pass.standing) is
 
-    -- so one that is to hold a range is one that links it there
-    pub try_linked : {A E : Type 0} {asked : Held} {r : Result A E} → IsLaterOutside t q
-        → AsksOnly asked t.trace.asked q.trace.asked → OnOk r (held_at q.core.own ≡ Some asked) → OnErr r (q.core.own ≡ Nothing) → IsLinkedIn at asked r p q
-    try_linked o asks held free = record {
-      piece = try_piece o;
-      asks = asks_from (ap (λ (x : SeatPart (Beside P)). x.trace.asked) is) asks;
-      standing = try_standing o.later;
-      held = held;
-      free = free;
-    }
-
     -- what it leaves of the ready nodes
     pub ready_piece : q.pass.list ≡ at → IsReadyLeft t.core.ready q.core.ready → IsReadyLeft (shown_core p at).ready (shown_core q at).ready
     ready_piece there r = subst (λ (z : View × View). IsReadyLeft z.0.ready z.1.ready) (λ i.
@@ -184,23 +162,6 @@ module _ {P : Type 0} where
 
       pub given_standing : q.pass ≡ given_back rested t.pass → q.pass.standing ≡ standing_back p.pass.standing at
       given_standing e = ap (λ (b : Beside P). b.standing) e ∙ (λ i. standing_back (ap (λ (x : SeatPart (Beside P)). x.pass.standing) is i) (turned_list i))
-
-      -- the same by the mark alone
-      pub marked_piece : (node : Listed) → IsResting t.core → is_counted t.pass.lists t.pass.standing t.pass.list ≡ false
-          → q.pass ≡ given_back rested t.pass → q.core ≡ marked t.core node.node → IsMarkCall (given_back rested) t q → IsPiece at p q
-      marked_piece node rests beside e core m = piece_by m.number m.seats (ap (λ (b : Beside P). b.lists) e) (ap (λ (b : Beside P). b.list) e)
-          (ap (λ (b : Beside P). b.others) e)
-          (ap (λ (b : Beside P). b.pass) e ∙ ap (λ (b : Bool). if b then rested t.pass.pass else t.pass.pass) beside)
-          m.client ([], m.occupied) (let n = m.taken in omega arith)
-          (record {
-            outside = ap (λ (v : View). v.epoch % 2) core ∙ rests.outside;
-            cursor = ap (λ (v : View). v.cursor) core ∙ rests.cursor;
-            hand = ap (λ (v : View). v.hand) core ∙ rests.hand;
-          })
-
-  -- where a range doesn't count it may be given back with any pass
-  pub may_give_beside : (is_at_rest : P → Type 0) (b : Beside P) → is_counted b.lists b.standing b.list ≡ false → may_give_back is_at_rest b
-  may_give_beside is_at_rest b beside = λ counts. absurd (let z : ◌≡◌ {A = Bool} true false = sym counts ∙ beside in cc)
 
 module _ {P : Type 0} (table : TableId) (at : ℕ) (p t q : SeatPart (Beside P)) (is : t ≡ turned p at)
     (piece : IsPiece at p q) (rests : IsResting t.core) (rested : Beside P → Beside P) (m : IsMarkCall rested t q) where

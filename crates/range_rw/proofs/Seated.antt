@@ -26,7 +26,7 @@ use Rattle.epoch_pools.proofs.Counting.{counts_one, counts_many}
 use Rattle.marked_list.specs.Scanning.{IsScanning}
 use Rattle.range_rw.specs.Contract.{SeatState, IsLockCall, IsRelease, GivesFast, ready_in, pools_at}
 use Rattle.range_rw.specs.Seats.{IsSettled, IsSeated, counted_in, pools_of, walk_of, scan_of, placed_in, is_fast, seat_of, seat_state_of}
-use Rattle.range_rw.specs.Trying.{IsBare, IsLaterInTry}
+use Rattle.range_rw.specs.Trying.{IsLaterInTry}
 use Rattle.range_rw.specs.Releasing.{GivesBack}
 use Rattle.range_rw.specs.Several.{HasLeft, IsLaterInLists, IsFreeSeat, IsGranted}
 use Rattle.range_rw.proofs.Pieces.{own_at, own_each, only_stays, ready_stays, settled_by}
@@ -80,6 +80,14 @@ module _ {P : Type 0} where
       → (is_here p.pass.standing p.pass.list && is_whole p.pass.standing p.pass.lists) ≡ true
   stands_here p many counts =
       sym (ap (λ (b : Bool). b || is_here p.pass.standing p.pass.list && is_whole p.pass.standing p.pass.lists) (ne_eqb p.pass.lists 1 many)) ∙ counts
+
+  -- so that is the list that counts
+  counted_here : (p : SeatPart (Beside P)) → p.pass.list < p.pass.lists → (p.pass.lists ≡ 1 → p.pass.standing ≡ Free)
+      → is_counted p.pass.lists p.pass.standing p.pass.list ≡ true → counted_in p.pass.standing ≡ p.pass.list
+  counted_here p there first counts = dite (ℕ_discrete p.pass.lists 1)
+      (λ one. let zero_is : 0 ≡ p.pass.list = (let t = there in omega arith) in ap counted_in (first one) ∙ zero_is)
+      (λ many. here_in p.pass.standing p.pass.list
+      (both_true (is_here p.pass.standing p.pass.list) (is_whole p.pass.standing p.pass.lists) (stands_here p many counts)).0)
 
   by_held : (p : SeatPart (Beside P)) → IsSeated p → (o : Option Held) → held_at p.core.own ≡ o → shown_grant p ≡ o
   by_held p s None none = dite (ℕ_discrete p.pass.lists 1)
@@ -143,11 +151,6 @@ module _ {P : Type 0} where
   pub seated_own : (p : SeatPart (Beside P)) → IsSeated p → shown_grant p ≡ None → p.core.own ≡ Nothing
   seated_own p s none = free_own p.core.own s.current.own (seated_none p s none)
 
-  -- so it may leave its epoch
-  pub seat_bare : (h : HandState (Beside P)) {b : Bool} {s : SeatState P} → seat_of b h ≡ s → IsSeated h.part → s.held ≡ None → IsBare h.part
-  seat_bare h is seated none =
-      record { own = seated_own h.part seated (ap (λ (x : SeatState P). x.held) is ∙ none); given = seated.current.hand }
-
   -- a hand that is outside its epoch has no open scan
   pub rests_closed : (q : SeatPart (Beside P)) → IsResting q.core → placed_in q.pass.lists q.pass.list (scan_of q) ≡ None
   rests_closed q rests = ap (placed_in q.pass.lists q.pass.list)
@@ -192,10 +195,7 @@ module _ {P : Type 0} where
   -- the list that holds it is the one to which its hand is turned
   pub granted_list : {c : Regions} {range : Held} {p : SeatPart (Beside P)} → p.pass.list < p.pass.lists → IsGranted c range p
       → counted_in p.pass.standing ≡ p.pass.list
-  granted_list {c} {range} {p} there grant = dite (ℕ_discrete p.pass.lists 1)
-      (λ one. let first : 0 ≡ p.pass.list = (let t = there in omega arith) in ap counted_in (grant.one one) ∙ first)
-      (λ many. here_in p.pass.standing p.pass.list
-      (both_true (is_here p.pass.standing p.pass.list) (is_whole p.pass.standing p.pass.lists) (stands_here p many grant.counts)).0)
+  granted_list {c} {range} {p} there grant = counted_here p there grant.one grant.counts
 
   -- what such a seat holds is that range, and what one holds that has none in any list is nothing
   pub alone_grant : {c : Regions} {range : Held} {p : SeatPart (Beside P)} → p.pass.list < p.pass.lists → IsGranted c range p → shown_grant p ≡ Some range
@@ -261,10 +261,7 @@ module _ {P : Type 0} where
 
     -- it stood in the list to which the hand is turned
     stood_here : counted_in p.pass.standing ≡ p.pass.list
-    stood_here = dite (ℕ_discrete p.pass.lists 1)
-        (λ one. let first : 0 ≡ p.pass.list = (let t = s.there in omega arith) in ap counted_in (s.one one) ∙ first)
-        (λ many. here_in p.pass.standing p.pass.list
-        (both_true (is_here p.pass.standing p.pass.list) (is_whole p.pass.standing p.pass.lists) (stands_here p many (s.counts some))).0)
+    stood_here = counted_here p s.there s.one (s.counts some)
 
     -- and every other list of the seat is as it was
     given_only : (fast : Bool) (was now : TableId) (j : ℕ) → j ≤ length (seat_of fast (record { table = was; part = p })).further

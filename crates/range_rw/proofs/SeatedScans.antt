@@ -17,21 +17,21 @@ use Rattle.epoch_pools.specs.declared.record.Looked.{Looked}
 use Rattle.epoch_pools.specs.declared.views.SeatPart.{SeatPart}
 use Rattle.epoch_pools.specs.declared.views.Beside.{Beside}
 use Rattle.epoch_pools.specs.Beside.{shown_core, shown_grant}
-use Rattle.epoch_pools.specs.Hands.{HandState, ListShape, IsHandView, IsResting as IsAtRest, quiet_after, turned}
+use Rattle.epoch_pools.specs.Hands.{HandState, IsHandView, IsResting as IsAtRest, quiet_after, turned}
 use Rattle.marked_list.specs.declared.answers.Passed.{Passed}
-use Rattle.marked_list.specs.declared.answers.Passed.TheVariants.{Found as NodeFound, End as ListEnd, Lost as NotWon, Long as TooLong}
+use Rattle.marked_list.specs.declared.answers.Passed.TheVariants.{End as ListEnd, Long as TooLong}
 use Rattle.marked_list.specs.Order.{IsInside, MaySweep}
 use Rattle.marked_list.specs.Leaves.{IsLaterInWalk}
 use Rattle.marked_list.specs.Answers.{IsAtEnd}
 use Rattle.marked_list.specs.Walking.{seen_of}
 use Rattle.marked_list.specs.Scanning.{IsResting, Passes}
 use Rattle.range_rw.specs.declared.scan.Scanned.{Scanned}
-use Rattle.range_rw.specs.Calls.{IsHandOf, Leaves}
+use Rattle.range_rw.specs.Calls.{Leaves}
 use Rattle.range_rw.specs.Contract.{SeatState, TableShape, OpenScan, fresh_in, scan_steps, ready_in}
 use Rattle.range_rw.specs.Seats.{IsBetween, IsSeated, walk_of, scan_of, placed_scan, placed_in, pools_of, is_fast, seat_of, seat_state_of}
 use Rattle.range_rw.specs.Trying.{IsLaterInTry}
 use Rattle.range_rw.specs.Scan.{scanned_as, WalkedFrom, IsScanCall, IsNextIn, IsListEnd, IsPassed, IsNext}
-use Rattle.range_rw.specs.Scan.{IsScanSeat, IsInScan, IsScanLater, StaysInScan, OpensEpoch, ClosesEpoch, ListGives, IsNoEnd}
+use Rattle.range_rw.specs.Scan.{IsScanSeat, IsScanLater, StaysInScan, OpensEpoch, ClosesEpoch, ListGives, IsNoEnd}
 use Rattle.range_rw.proofs.Calls.{counted_on}
 use Rattle.range_rw.proofs.Pieces.{own_at, own_each, only_stays}
 use Rattle.range_rw.proofs.Moves.{lists_on, turn_on, turn_asks}
@@ -106,10 +106,6 @@ module _ {P : Type 0} where
     counted = counted_on x.counted y.counted;
     is = record { later = scan_on h.part m.part k.part x.is.later y.is.later; inside = y.is.inside };
   }
-
-  -- a hand that is left inside one may go on in it
-  pub scan_still : {list : ListShape} {h k : HandState (Beside P)} {a b : ℕ} → IsHandOf IsInScan list h → Leaves StaysInScan h k a b → IsHandOf IsInScan list k
-  scan_still may on = record { table = on.counted.table ∙ may.table; is = record { seat = on.is.later.seat; inside = on.is.inside } }
 
   -- a call in the list to which the hand is turned leaves the others
   pub here_later : (p q : SeatPart (Beside P)) → IsScanSeat p → IsLaterInTry p q → q.trace.asked ≡ p.trace.asked → q.core.own ≡ Nothing
@@ -281,17 +277,13 @@ module _ {P : Type 0} where
 
   -- an answer that isn't the end of a list is that of the call
   pub no_end : (last : Type 0) (b a : SeatState P) (was : OpenScan) (x : Passed) → IsNoEnd x → ListGives last b a was x → IsNextIn b a was (scanned_as x)
-  no_end last b a was (NodeFound owner range mode) not g = g
   no_end last b a was ListEnd not g = absurd not
-  no_end last b a was (NotWon l) not g = g
-  no_end last b a was (TooLong visits) not g = g
+  no_end last b a was _ not g = g
 
   -- so is each answer of the last list
   pub last_gives : (last : Type 0) (b a : SeatState P) (was : OpenScan) (x : Passed) → last → ListGives last b a was x → IsNextIn b a was (scanned_as x)
-  last_gives last b a was (NodeFound owner range mode) is g = g
-  last_gives last b a was ListEnd is g = g.1 is
-  last_gives last b a was (NotWon l) is g = g
-  last_gives last b a was (TooLong visits) is g = g
+  last_gives last b a was ListEnd here g = g.1 here
+  last_gives last b a was _ here g = g
 
   -- a call that is over in its list passes none
   pub next_none : (tables : TableId) (p : SeatPart (Beside P)) (after : SeatState P) (was : OpenScan) (answer : Scanned) → IsScanSeat p → IsInside p.core

@@ -90,7 +90,7 @@ module _ (c : Regions) (range : Interval) where
       inr (λ t. none t.number t.low (let a = t.low in let b = t.high in omega arith) t.is)) (is_among list range.lo (range.hi - range.lo))
 
   -- each range takes some number of the first lists
-  some_many : (n : ℕ) → (k : ℕ) × TakesBelow c range n k × (k ≤ n)
+  pub some_many : (n : ℕ) → (k : ℕ) × TakesBelow c range n k × (k ≤ n)
   some_many zero = (0, refl, omega arith)
   some_many (suc n) =
       let before = some_many n in

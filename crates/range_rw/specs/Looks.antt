@@ -1,7 +1,7 @@
 -- The look by which a held range comes to count in a table of several lists, said alike of a narrow range and of a wide
 -- one. `own` is the list that holds the range, list 0 for a wide one; `at` is the list that is looked at, list 0 for a
 -- narrow one. This project's own profile.
-use Rattle.std.specs.Prelude.{◌≡◌, ◌≢◌, ◌⊎◌, ◌↔◌, ℕ, zero, suc, ◌+◌, ◌<◌, ◌≤◌, Bool, false, length, Result, IfErr, OnOk, OnErr}
+use Rattle.std.specs.Prelude.{◌≡◌, ◌≢◌, ◌⊎◌, ◌↔◌, ℕ, zero, suc, ◌+◌, ◌*◌, ◌<◌, ◌≤◌, Bool, false, length, Result, IfErr, OnOk, OnErr}
 use Rattle.atomic_table.specs.Seated.{TableId}
 use Rattle.list_cuts.specs.Cut.{Regions, Takes, TakesOne, TakesTwo}
 use Rattle.lock_core.specs.Range.{Interval}
@@ -11,7 +11,7 @@ use Rattle.epoch_pools.specs.declared.views.Beside.{Beside}
 use Rattle.epoch_pools.specs.declared.views.Standing.{Standing}
 use Rattle.epoch_pools.specs.declared.views.Standing.TheVariants.{Free, Narrow, Wide}
 use Rattle.epoch_pools.specs.Beside.{shown_core}
-use Rattle.epoch_pools.specs.Passing.{MayCount, MayPass, after_look, after_look_at}
+use Rattle.epoch_pools.specs.Passing.{MayCount, MayPass, after_look_at}
 use Rattle.epoch_pools.specs.Standings.{is_counted, passed_by, standing_back}
 use Rattle.range_rw.specs.declared.refusals.NotHeld.{NotHeld}
 use Rattle.range_rw.specs.Contract.{AsksOnly, Finds, IsLongRefusal, IsReadyLeft, Meets, TakesMany, WorksIn}
@@ -66,11 +66,7 @@ module _ {P : Type 0} where
     pub holds : HoldsAlone own asked p
     pub free : p.pass.standing ≡ Free
 
-  -- a look: the seat stands so, and its record has this step
-  abbrev pub IsLook : Standing → SeatPart (Beside P) → SeatPart (Beside P) → Type 0
-  IsLook s p q = q ≡ after_look p s
-
-  -- a look at that list, which was clear or not: where it was the seat stands so
+  -- a look at that list, which was clear or not: where it was the seat stands so. The record has this step
   abbrev pub IsLookAt : ℕ → Bool → Standing → SeatPart (Beside P) → SeatPart (Beside P) → Type 0
   IsLookAt at clear s p q = q ≡ after_look_at at clear s p
 
@@ -81,11 +77,6 @@ module _ {P : Type 0} where
   -- a step of this call found that list not empty, and the record has more such steps than before
   abbrev pub MeetsMore : ℕ → SeatPart (Beside P) → SeatPart (Beside P) → Type 0
   MeetsMore at p q = (length p.trace.occupied < length q.trace.occupied) × Finds p.trace.taken at q.trace
-
-  -- a wide range was refused in list 0, and no other list has changed; or in another one, and so many further looks
-  -- were made, each of which found its list not empty
-  abbrev pub IsRefusedFrom : ℕ → SeatPart (Beside P) → SeatPart (Beside P) → Type 0
-  IsRefusedFrom looks p q = ((j : ℕ) → j ≢ 0 → shown_core q j ≡ shown_core p j) ⊎ (length p.trace.occupied + looks < length q.trace.occupied)
 
   -- what a look at the list `at` comes to, for a range that the list `own` holds and that is to stand so then; where
   -- that list isn't empty it is swept, and the range is linked there too
@@ -124,5 +115,9 @@ module _ {P : Type 0} where
     pub apart : (j : ℕ) → j ≢ own → (shown_core q j ≡ shown_core p j) ⊎ Finds p.trace.taken j q.trace
     -- one step was made for each list that the range takes, or the call met another
     pub few : OnOk result ((k : ℕ) → TakesMany c asked.range k → (q.trace.taken ≤ p.trace.taken + k) ⊎ Meets p.trace.taken q.trace)
-    -- a wide range that is refused was refused once more than looks were to be made again
+    -- its steps are so many for each of them, and for each look that is made again
+    pub each : (k : ℕ) → TakesMany c asked.range k → q.trace.taken ≤ p.trace.taken + (55 + 193 * p.seats) * (k + looks)
+    pub narrow : own ≢ 0 → q.trace.taken ≤ p.trace.taken + 55 + 193 * p.seats
+    -- a refused call met another, and a wide range was refused once more than looks were to be made again
+    pub met : OnErr result (Meets p.trace.taken q.trace)
     pub more : OnErr result (own ≡ 0 → length p.trace.occupied + looks < length q.trace.occupied)

@@ -2,9 +2,9 @@
 -- to it, and all other lists are shown as before, so what is said of one list is said of the seat. A seat that holds
 -- nothing holds nothing in any list, and nothing counts; one that holds a range holds it in one list alone, and it
 -- counts. This project's own profile.
-use Rattle.std.specs.Prelude.{◌≡◌, ◌≢◌, ◌⊎◌, ◌↔◌, ℕ, ◌+◌, ◌*◌, ◌<◌, ◌≤◌, true, false, [], Some, None, Bool, Result, IfOk, IfErr, OnOk, OnErr}
+use Rattle.std.specs.Prelude.{◌≡◌, ◌≢◌, ◌⊎◌, ◌↔◌, ℕ, ◌+◌, ◌*◌, ◌<◌, ◌≤◌, true, false, [], length, Some, None, Bool, Result, IfOk, IfErr, OnOk, OnErr}
 use Rattle.atomic_table.specs.Seated.{TableId}
-use Rattle.list_cuts.specs.Cut.{Regions, list_count, Takes, TakesOne}
+use Rattle.list_cuts.specs.Cut.{Regions, list_count, Takes, TakesOne, TakesTwo}
 use Rattle.lock_core.specs.Range.{Interval}
 use Rattle.lock_core.specs.declared.range.Held.{Held}
 use Rattle.lock_core.specs.declared.views.Own.TheVariants.{Nothing}
@@ -19,9 +19,9 @@ use Rattle.epoch_pools.specs.Beside.{shown_core}
 use Rattle.epoch_pools.specs.Hands.{IsResting}
 use Rattle.marked_list.specs.Causes.{nodes_in, IsSpent}
 use Rattle.range_rw.specs.declared.refusals.NotHeld.{NotHeld}
-use Rattle.range_rw.specs.Contract.{SeatState, AsksOnly, Finds, Meets, TakesMany, IsListCause, IsLongRefusal, IsReadyLeft, StandsIn, WorksIn}
+use Rattle.range_rw.specs.Contract.{SeatState, AsksFor, AsksOnly, Finds, Meets, TakesMany, IsListCause, IsLongRefusal, IsReadyLeft, StandsIn, WorksIn}
 use Rattle.range_rw.specs.Seats.{counted_in, seat_state_in}
-use Rattle.range_rw.specs.Trying.{LeavesEpoch}
+use Rattle.range_rw.specs.Trying.{IsFast, LeavesEpoch}
 
 -- the range takes one list alone, whichever it is
 abbrev pub TakesAlone : Regions → Interval → Type 0
@@ -30,6 +30,10 @@ TakesAlone c range = (list : ℕ) × TakesOne c range list
 -- from list `from` on and before list `to` the range takes none
 abbrev pub TakesNone : Regions → Interval → ℕ → ℕ → Type 0
 TakesNone c range from to = (list : ℕ) → from ≤ list → list < to → Takes c range list → ⊥
+
+-- a call that is made once: its reader isn't patient, and a wide range has no further look
+abbrev pub IsOnce : Bool → ℕ → Type 0
+IsOnce patient looks = (patient ≡ false) × (looks ≡ 0)
 
 module _ {P : Type 0} where
   -- the seat as list i has it: its view of that list, with the pools that it has there
@@ -80,15 +84,6 @@ module _ {P : Type 0} where
     pub holds : held_at (shown_core p at).own ≢ None
     pub beside : is_counted p.pass.lists p.pass.standing at ≡ false
 
-  -- a piece of work in that list by which a range was to be held there: it asks for no other, and nothing comes to
-  -- count. Where it is refused the seat has no node there
-  pub record IsLinkedIn {A E : Type 0} (at : ℕ) (asked : Held) (result : Result A E) (p q : SeatPart (Beside P)) : Type 0 where
-    pub piece : IsPiece at p q
-    pub asks : AsksOnly asked p.trace.asked q.trace.asked
-    pub standing : q.pass.standing ≡ p.pass.standing
-    pub held : OnOk result (held_at q.core.own ≡ Some asked)
-    pub free : OnErr result (q.core.own ≡ Nothing)
-
   -- one after which the seat has no node there, and stands so: it asks for nothing, and the ready nodes there stay
   pub record IsFreedIn (at : ℕ) (stands : Standing) (p q : SeatPart (Beside P)) : Type 0 where
     pub piece : IsPiece at p q
@@ -129,6 +124,23 @@ module _ {P : Type 0} where
   abbrev pub IsCauseIn : TableId → Regions → SeatPart (Beside P) → SeatPart (Beside P) → Held → NotHeld → Type 0
   IsCauseIn table c p q asked why = (i : ℕ) × (i < p.pass.lists) × WorksIn c asked.range i × IsCauseAt table i p q asked why
 
+  -- a piece of work in that list by which a range was to be held there: it asks for no other, and nothing comes to
+  -- count. Where it is refused the seat has no node there. The rest is as a try in one list has it
+  pub record IsLinkedIn (table : TableId) (many : ℕ) (patient : Bool) (at : ℕ) (asked : Held) (result : Result Bool NotHeld)
+      (p q : SeatPart (Beside P)) : Type 0 where
+    pub piece : IsPiece at p q
+    pub asks : AsksOnly asked p.trace.asked q.trace.asked
+    pub gets : OnOk result (AsksFor asked p.trace.asked q.trace.asked)
+    pub standing : q.pass.standing ≡ p.pass.standing
+    pub held : OnOk result (held_at q.core.own ≡ Some asked)
+    pub free : OnErr result (q.core.own ≡ Nothing)
+    pub ready : IsReadyLeft (shown_core p at).ready (shown_core q at).ready
+    pub cause : patient ≡ false → IfErr result (IsCauseAt table at p q asked)
+    pub long : IfErr result (λ why. IsLongRefusal why ↔ IsSpent q)
+    pub fast : IfOk result (λ quick. (shown_core p at).ready ≢ [] → IsFast p q quick)
+    pub met : OnErr result ((shown_core p at).ready ≢ [] → Meets p.trace.taken q.trace)
+    pub seats : p.seats ≡ many
+
   -- each list in which a try for that range doesn't work is shown as before
   abbrev pub ShowsOthers : Regions → Interval → SeatPart (Beside P) → SeatPart (Beside P) → Type 0
   ShowsOthers c range p q = (j : ℕ) → (WorksIn c range j → ⊥) → shown_core q j ≡ shown_core p j
@@ -137,6 +149,10 @@ module _ {P : Type 0} where
   abbrev pub KeepsCauses : TableId → ℕ → SeatPart (Beside P) → SeatPart (Beside P) → Type 0
   KeepsCauses table at p q = (was : SeatPart (Beside P)) (i : ℕ) (asked : Held) (why : NotHeld) → i ≢ at
       → IsCauseAt table i was p asked why → IsCauseAt table i was q asked why
+
+  -- the record keeps what was a cause elsewhere, and how many nodes the last walk has looked at
+  abbrev pub KeepsRefusal : TableId → ℕ → SeatPart (Beside P) → SeatPart (Beside P) → Type 0
+  KeepsRefusal table at p q = KeepsCauses table at p q × (nodes_in q.trace.looked ≡ nodes_in p.trace.looked)
 
   -- the last walk has looked at as many nodes as it may
   abbrev pub HasSpent : SeatPart (Beside P) → Type 0
@@ -163,18 +179,28 @@ module _ {P : Type 0} where
     pub held : OnOk result (IsGranted c asked q)
     pub free : OnErr result (IsFreeSeat q)
 
-  -- the same of a try: each list's ready nodes are as before, or without the first, and a refusal has a cause in one of
-  -- the lists. It is `Long` exactly where the last walk is spent. The lists have so many seats
-  pub record IsTryCall (table : TableId) (c : Regions) (many : ℕ) (asked : Held) (result : Result Bool NotHeld) (p q : SeatPart (Beside P)) :
-      Type 0 where
+  -- a wide range was refused in list 0, and no other list has changed; or in another one, and so many further looks
+  -- were made, each of which found its list not empty
+  abbrev pub IsRefusedFrom : ℕ → SeatPart (Beside P) → SeatPart (Beside P) → Type 0
+  IsRefusedFrom looks p q = ((j : ℕ) → j ≢ 0 → shown_core q j ≡ shown_core p j) ⊎ (length p.trace.occupied + looks < length q.trace.occupied)
+
+  -- the same of a call that may be patient, and may make so many further looks: where it makes none, each list's ready
+  -- nodes are as before, or without the first; where it isn't patient besides, a refusal has a cause in one of the
+  -- lists, and is `Long` exactly where the last walk is spent. The lists have so many seats
+  pub record IsTryCall (table : TableId) (c : Regions) (many looks : ℕ) (patient : Bool) (asked : Held) (result : Result Bool NotHeld)
+      (p q : SeatPart (Beside P)) : Type 0 where
     pub call : IsHoldCall c asked result p q
-    pub ready : (j : ℕ) → IsReadyLeft (shown_core p j).ready (shown_core q j).ready
-    pub cause : IfErr result (IsCauseIn table c p q asked)
-    pub long : IfErr result (λ why. IsLongRefusal why ↔ IsSpent q)
+    pub gets : OnOk result (AsksFor asked p.trace.asked q.trace.asked)
+    pub ready : looks ≡ 0 → (j : ℕ) → IsReadyLeft (shown_core p j).ready (shown_core q j).ready
+    pub cause : IsOnce patient looks → IfErr result (IsCauseIn table c p q asked)
+    pub long : IsOnce patient looks → IfErr result (λ why. IsLongRefusal why ↔ IsSpent q)
     -- with a ready node in the list that holds the range, five steps and a look at each list that it takes, and the
     -- fast path linked its node; or it met another
     pub fast : IfOk result (λ quick. (k : ℕ) → TakesMany c asked.range k → (shown_core p q.pass.list).ready ≢ []
         → ((q.trace.taken ≤ p.trace.taken + (5 + k)) × (quick ≡ true)) ⊎ Meets p.trace.taken q.trace)
+    -- and a call that is refused has met another
+    pub met : OnErr result ((own : ℕ) → StandsIn c asked.range own → (shown_core p own).ready ≢ [] → Meets p.trace.taken q.trace)
+    pub kept : OnErr result (TakesTwo c asked.range → IsRefusedFrom looks p q)
     -- each other list is as before, or a step of this call found it not empty
     pub apart : (own : ℕ) → StandsIn c asked.range own → (j : ℕ) → j ≢ own → (shown_core q j ≡ shown_core p j) ⊎ Finds p.trace.taken j q.trace
     pub seats : p.seats ≡ many

@@ -12,7 +12,7 @@ ghost use Rattle.marked_list.specs.Walking.{seen_of};
 ghost use Rattle.range_rw.specs.Calls.{IsHandOf, Leaves};
 ghost use Rattle.range_rw.specs.Contract.{OpenScan};
 ghost use Rattle.range_rw.specs.Seats.{seat_state_of};
-ghost use Rattle.range_rw.specs.Scan.{scanned_as, IsNext, IsScanSeat, IsScanLater, OpensEpoch, ClosesEpoch};
+ghost use Rattle.range_rw.specs.Scan.{scanned_as, IsNext, IsScanLater, OpensEpoch};
 ghost use Rattle.range_rw.specs.Scan.{ListGives, IsNoEnd, IsNextIn, IsPassed, IsInScan, StaysInScan};
 
 use crate::several::lists_of;
@@ -72,36 +72,6 @@ fn answer_of(passed: Passed) -> Scanned
         },
         Passed::Long { visits } => Scanned::Long { visits },
     }
-}
-
-/// Turns the hand, which has no node of its own, to list 0 and begins a new epoch there; an epoch that an earlier scan
-/// left open is left first.
-fn open_epoch<G: Guard, L: Ledger>(list: &List<G>, hand: &mut Hand<G>, blank: Blank)
-    requires blank { (blank.name ≡ L.name) × (blank.parts ≡ L.parts) × (0 < L.parts) }
-    requires seat { IsHandOf IsScanSeat list.now hand.old }
-    ensures table { hand.new.table ≡ hand.old.table }
-    ensures inside { OpensEpoch 0 hand.old.part hand.new.part }
-    ensures seats { hand.new.part.seats ≡ list.now.seats }
-    ensures bound { hand.new.part.trace.taken ≤ hand.old.part.trace.taken + 2 }
-{
-    let mut steps = Steps::<L>::new(blank);
-    leave_epoch(list, hand, &mut steps);
-    let _ = hand.view();
-    hand.turn(0);
-    enter(list, hand, &mut steps);
-}
-
-/// Leaves the hand's epoch, if it is inside one. It has no node of its own.
-fn close_epoch<G: Guard, L: Ledger>(list: &List<G>, hand: &mut Hand<G>, blank: Blank)
-    requires blank { (blank.name ≡ L.name) × (blank.parts ≡ L.parts) × (0 < L.parts) }
-    requires seat { IsHandOf IsScanSeat list.now hand.old }
-    ensures table { hand.new.table ≡ hand.old.table }
-    ensures outside { ClosesEpoch hand.old.part hand.new.part }
-    ensures bound { hand.new.part.trace.taken ≤ hand.old.part.trace.taken + 1 }
-{
-    let mut steps = Steps::<L>::new(blank);
-    leave_epoch(list, hand, &mut steps);
-    let _ = hand.view();
 }
 
 /// Leaves the hand's epoch, turns it to the next list, and enters an epoch there: two steps. The hand's cursor stands
@@ -232,7 +202,11 @@ impl<G: Guard> RangeTable<G> {
         ensures begun { seat.new.scan ≡ Some (fresh_scan (16 * self.now.seats + 1)) }
         ensures bound { seat.new.trace.taken ≤ seat.old.trace.taken + 2 }
     {
-        open_epoch::<G, L>(&self.list, &mut seat.hand, blank);
+        let mut steps = Steps::<L>::new(blank);
+        leave_epoch(&self.list, &mut seat.hand, &mut steps);
+        let _ = seat.hand.view();
+        seat.hand.turn(0);
+        enter(&self.list, &mut seat.hand, &mut steps);
     }
 
     /// The last call of such a scan: the seat leaves its epoch. `Scan::end` makes the same steps.
@@ -244,7 +218,9 @@ impl<G: Guard> RangeTable<G> {
         ensures ended { seat.new.scan ≡ None }
         ensures bound { seat.new.trace.taken ≤ seat.old.trace.taken + 1 }
     {
-        close_epoch::<G, L>(&self.list, &mut seat.hand, blank);
+        let mut steps = Steps::<L>::new(blank);
+        leave_epoch(&self.list, &mut seat.hand, &mut steps);
+        let _ = seat.hand.view();
     }
 
     /// A call of such a scan between the two. It answers as `Scan::next`, and makes the same steps.

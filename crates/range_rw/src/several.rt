@@ -4,19 +4,18 @@
 //! range there too, looks, and gives that node back. Each function works in one list, to which it turns the hand; a
 //! reader may rely on a refusal leaving nothing held, and on its cause being that of a try in one list. This project's
 //! own profile.
-ghost use Rattle.std.specs.Prelude.{◌≡◌, ◌≢◌, ◌<◌, ◌≤◌, ◌+◌, ◌*◌, ◌↔◌, ℕ, [], None, Some, IfOk, IfErr, OnOk, OnErr};
+ghost use Rattle.std.specs.Prelude.{◌≡◌, ◌≢◌, ◌<◌, ◌≤◌, ◌+◌, ◌*◌, ◌↔◌, ℕ, true, false, None, Some, IfErr, OnOk, OnErr};
 ghost use Rattle.lock_core.specs.declared.range.Held.{Held};
 ghost use Rattle.list_cuts.specs.Cut.{list_count, Takes};
 ghost use Rattle.epoch_pools.specs.Standings.{standing_back};
-ghost use Rattle.epoch_pools.specs.Beside.{shown_core};
 ghost use Rattle.epoch_pools.specs.Passing.{HoldsToo};
-ghost use Rattle.marked_list.specs.Causes.{nodes_in, IsSpent};
+ghost use Rattle.marked_list.specs.Causes.{IsSpent};
 ghost use Rattle.range_rw.specs.Calls.{IsHandOf, Leaves};
-ghost use Rattle.range_rw.specs.Contract.{IsLongRefusal, IsReadyLeft, TakesMany, try_steps};
-ghost use Rattle.range_rw.specs.Trying.{IsBare, IsFast};
+ghost use Rattle.range_rw.specs.Contract.{IsLongRefusal, TakesMany, try_steps};
+ghost use Rattle.range_rw.specs.Trying.{IsBare};
 ghost use Rattle.range_rw.specs.Several.{HasLeft, MayLinkIn, MayGiveIn, IsLinkedIn, IsFreedIn, HoldsAlone, HoldsIn, MayHold};
-ghost use Rattle.range_rw.specs.Several.{IsTryCall, IsCauseAt, KeepsCauses, TakesNone, TakesAlone};
-ghost use Rattle.range_rw.specs.Looks.{MayLook, IsDue, IsHome, LooksAt, LooksAtAll, LooksOnce, MeetsMore, standing_for, IsLook, IsLookAt, IsToLook};
+ghost use Rattle.range_rw.specs.Several.{IsTryCall, IsCauseAt, IsOnce, KeepsRefusal, TakesNone};
+ghost use Rattle.range_rw.specs.Looks.{MayLook, IsDue, IsHome, LooksAt, LooksAtAll, LooksOnce, MeetsMore, standing_for, IsLookAt, IsToLook};
 
 use crate::nodes::refusal_of;
 use crate::refusals::NotHeld;
@@ -25,7 +24,7 @@ use crate::trying::{leave_epoch, try_range};
 use epoch_pools::{Hand, List, count_held, count_narrow, glance, pass_held, pass_list};
 use list_cuts::Cut;
 use lock_core::{Guard, Mode, Range};
-use marked_list::{mark, sweep};
+use marked_list::sweep;
 use std::sync::ledger::Ledger;
 use word_rows::{Backoff, Steps};
 
@@ -69,7 +68,8 @@ pub(crate) fn leave_and_count<G: Guard, L: Ledger>(
     lists_of(list, hand, steps)
 }
 
-/// Turns the hand to a list and tries once there to hold the range. Ok says whether the fast path linked the node.
+/// Turns the hand to a list and tries there to hold the range; a patient call comes back to the fast path where it
+/// finds that list empty. Ok says whether the fast path linked the node.
 #[inline(always)]
 fn link_piece<G: Guard, L: Ledger>(
     list: &List<G>,
@@ -77,19 +77,16 @@ fn link_piece<G: Guard, L: Ledger>(
     at: u32,
     range: Range,
     mode: Mode,
+    patient: bool,
     steps: &mut Steps<L>,
 ) -> Result<bool, NotHeld>
     requires may { IsHandOf (MayLinkIn at) list.now hand.old }
-    ensures link { Leaves (IsLinkedIn at (record { range = range; mode = mode }) result) hand.old hand.new steps.old steps.new }
-    ensures ready { IsReadyLeft (shown_core hand.old.part at).ready (shown_core hand.new.part at).ready }
-    ensures cause { IfErr result (IsCauseAt hand.old.table at hand.old.part hand.new.part (record { range = range; mode = mode })) }
-    ensures long { IfErr result (λ why. IsLongRefusal why ↔ IsSpent hand.new.part) }
-    ensures fast { IfOk result (λ quick. (shown_core hand.old.part at).ready ≢ [] → IsFast hand.old.part hand.new.part quick) }
-    ensures seats { hand.old.part.seats ≡ list.now.seats }
-    ensures bound { hand.new.part.trace.taken ≤ hand.old.part.trace.taken + 43 + 145 * hand.old.part.seats }
+    ensures link { Leaves (IsLinkedIn hand.old.table list.now.seats patient at (record { range = range; mode = mode }) result)
+        hand.old hand.new steps.old steps.new }
+    ensures bound { patient ≡ false → hand.new.part.trace.taken ≤ hand.old.part.trace.taken + 43 + 145 * hand.old.part.seats }
 {
     hand.turn(at);
-    try_range(list, hand, range, mode, false, steps)
+    try_range(list, hand, range, mode, patient, patient, steps)
 }
 
 /// What a call comes to that has this refusal, or none.
@@ -125,8 +122,9 @@ fn sweep_piece<G: Guard, L: Ledger>(
 }
 
 /// Turns the hand to a list that holds a range which counts only through another list, and gives it back there: in one
-/// step or two. `quick` says whether the fast path linked it.
-pub(crate) fn give_piece<G: Guard, L: Ledger>(
+/// step or two. `quick` says whether its node is to be unlinked as the fast path linked it. Otherwise it is marked,
+/// which leaves the cause of a refusal in another list in the record.
+fn give_piece<G: Guard, L: Ledger>(
     list: &List<G>,
     hand: &mut Hand<G>,
     at: u32,
@@ -135,23 +133,19 @@ pub(crate) fn give_piece<G: Guard, L: Ledger>(
 )
     requires may { IsHandOf (MayGiveIn at) list.now hand.old }
     ensures given { Leaves (IsFreedIn at (standing_back hand.old.part.pass.standing at)) hand.old hand.new steps.old steps.new }
+    ensures kept { quick ≡ false → KeepsRefusal hand.old.table at hand.old.part hand.new.part }
     ensures bound { hand.new.part.trace.taken ≤ hand.old.part.trace.taken + 2 }
 {
     hand.turn(at);
     unlink_or_mark(list, hand, quick, steps);
 }
 
-/// Turns the hand to a list that holds a range which doesn't count, and marks its node there, after a refusal in
-/// another list: one step, which leaves the cause of that refusal in the record.
-fn give_up<G: Guard, L: Ledger>(list: &List<G>, hand: &mut Hand<G>, at: u32, steps: &mut Steps<L>)
-    requires may { IsHandOf (MayGiveIn at) list.now hand.old }
-    ensures given { Leaves (IsFreedIn at (standing_back hand.old.part.pass.standing at)) hand.old hand.new steps.old steps.new }
-    ensures causes { KeepsCauses hand.old.table at hand.old.part hand.new.part }
-    ensures look { nodes_in hand.new.part.trace.looked ≡ nodes_in hand.old.part.trace.looked }
-    ensures taken { hand.new.part.trace.taken ≡ hand.old.part.trace.taken + 1 }
+/// Whether a refused range may be unlinked as the fast path linked it: only of a patient call, which tells no cause.
+fn unlinks(quick: bool, patient: bool) -> bool
+    ensures patient { patient ≡ true → result ≡ quick }
+    ensures once { patient ≡ false → result ≡ false }
 {
-    hand.turn(at);
-    mark(list, hand, steps);
+    if patient { quick } else { false }
 }
 
 /// Looks at the list `at` for the range that the list `own` holds, to which the hand is turned. Whether that list was
@@ -186,7 +180,7 @@ fn look_held<G: Guard, L: Ledger>(
 )
     requires may { IsHandOf (MayLook list.now.cut own at up) list.now hand.old }
     requires too { HoldsToo hand.old.part at }
-    ensures look { Leaves (IsLook (standing_for own up)) hand.old hand.new steps.old steps.new }
+    ensures look { Leaves (IsLookAt at true (standing_for own up)) hand.old hand.new steps.old steps.new }
 {
     if own == 0 {
         pass_held(list, hand, at, up, steps);
@@ -214,7 +208,7 @@ fn link_in_both<G: Guard, L: Ledger>(
         hand.old hand.new steps.old steps.new }
     ensures bound { hand.new.part.trace.taken ≤ hand.old.part.trace.taken + 46 + 145 * hand.old.part.seats }
 {
-    match link_piece(list, hand, at, range, mode, steps) {
+    match link_piece(list, hand, at, range, mode, false, steps) {
         Ok(quick) => {
             hand.turn(own);
             look_held(list, hand, own, at, up, steps);
@@ -317,8 +311,6 @@ fn pass_all<G: Guard, L: Ledger>(
     requires due { IsHandOf (IsToLook list.now.cut lists 0 (record { range = range; mode = mode })) list.now hand.old }
     ensures looks { Leaves (LooksAtAll hand.old.table list.now.cut 0 looks (record { range = range; mode = mode }) result)
         hand.old hand.new steps.old steps.new }
-    ensures each { (k : ℕ) → TakesMany list.now.cut range k
-        → hand.new.part.trace.taken ≤ hand.old.part.trace.taken + (55 + 193 * hand.old.part.seats) * (k + looks) }
 {
     let cut = list.cut();
     let mut at = next_taken(cut, range, 1);
@@ -344,7 +336,7 @@ fn pass_all<G: Guard, L: Ledger>(
 /// Makes the range count, which the list `own` holds: a narrow one looks at list 0, and a wide one, which list 0 holds,
 /// at each list that it takes, with so many further looks. After a refusal it doesn't count. There are that many lists.
 #[inline(always)]
-pub(crate) fn look_in_all<G: Guard, L: Ledger>(
+fn look_in_all<G: Guard, L: Ledger>(
     list: &List<G>,
     hand: &mut Hand<G>,
     own: u32,
@@ -357,9 +349,6 @@ pub(crate) fn look_in_all<G: Guard, L: Ledger>(
     requires due { IsHandOf (IsToLook list.now.cut lists own (record { range = range; mode = mode })) list.now hand.old }
     ensures looks { Leaves (LooksAtAll hand.old.table list.now.cut own looks (record { range = range; mode = mode }) result)
         hand.old hand.new steps.old steps.new }
-    ensures narrow { own ≢ 0 → hand.new.part.trace.taken ≤ hand.old.part.trace.taken + 55 + 193 * hand.old.part.seats }
-    ensures wide { own ≡ 0 → (k : ℕ) → TakesMany list.now.cut range k
-        → hand.new.part.trace.taken ≤ hand.old.part.trace.taken + (55 + 193 * hand.old.part.seats) * (k + looks) }
 {
     if own == 0 {
         pass_all(list, hand, lists, range, mode, looks, steps)
@@ -371,7 +360,7 @@ pub(crate) fn look_in_all<G: Guard, L: Ledger>(
 /// The list that holds a range where there are several, which are so many: the one that it takes alone, or list 0 where
 /// it takes more.
 #[inline(always)]
-pub(crate) fn home_of<G: Guard>(list: &List<G>, lists: u32, range: Range) -> u32
+fn home_of<G: Guard>(list: &List<G>, lists: u32, range: Range) -> u32
     requires many { lists ≡ list_count list.now.cut }
     requires regions { 0 < list.now.cut.count }
     requires several { lists ≢ 1 }
@@ -384,9 +373,10 @@ pub(crate) fn home_of<G: Guard>(list: &List<G>, lists: u32, range: Range) -> u32
     }
 }
 
-/// Tries once to hold the range in the list `own`, where there are several: links it there, and makes it count. The
-/// seat holds nothing. Ok says whether the fast path linked the node there. After a refusal the seat holds nothing.
-/// There are that many lists.
+/// Tries to hold the range in the list `own`, where there are several: links it there, and makes it count, a wide one
+/// with so many further looks. A narrow one that is refused in list 0 gives its node back and waits nowhere. The seat
+/// holds nothing. Ok says whether the fast path linked the node there. After a refusal the seat holds nothing. There
+/// are that many lists.
 fn hold_in<G: Guard, L: Ledger>(
     list: &List<G>,
     hand: &mut Hand<G>,
@@ -394,32 +384,34 @@ fn hold_in<G: Guard, L: Ledger>(
     lists: u32,
     range: Range,
     mode: Mode,
+    patient: bool,
+    looks: u32,
     steps: &mut Steps<L>,
 ) -> Result<bool, NotHeld>
     requires home { IsHome list.now.cut range lists own }
     requires free { IsHandOf (MayHold list.now.cut lists) list.now hand.old }
-    ensures tried { Leaves (IsTryCall hand.old.table list.now.cut list.now.seats (record { range = range; mode = mode }) result)
+    ensures tried { Leaves (IsTryCall hand.old.table list.now.cut list.now.seats looks patient (record { range = range; mode = mode }) result)
         hand.old hand.new steps.old steps.new }
-    ensures narrow { own ≢ 0 → hand.new.part.trace.taken ≤ hand.old.part.trace.taken + 99 + 338 * hand.old.part.seats }
-    ensures wide { own ≡ 0 → (k : ℕ) → TakesMany list.now.cut range k
-        → hand.new.part.trace.taken ≤ hand.old.part.trace.taken + 44 + 145 * hand.old.part.seats + (55 + 193 * hand.old.part.seats) * k }
+    ensures each { IsOnce patient looks → (k : ℕ) → TakesMany list.now.cut range k
+        → hand.new.part.trace.taken ≤ hand.old.part.trace.taken + 45 + 145 * hand.old.part.seats + (55 + 193 * hand.old.part.seats) * k }
 {
-    let quick = match link_piece(list, hand, own, range, mode, steps) {
+    let quick = match link_piece(list, hand, own, range, mode, patient, steps) {
         Ok(quick) => quick,
         Err(why) => return Err(why),
     };
-    match look_in_all(list, hand, own, lists, range, mode, 0, steps) {
+    match look_in_all(list, hand, own, lists, range, mode, looks, steps) {
         Ok(()) => Ok(quick),
         Err(why) => {
-            give_up(list, hand, own, steps);
+            give_piece(list, hand, own, unlinks(quick, patient), steps);
             Err(why)
         }
     }
 }
 
-/// Tries once to hold the range in a table of any number of lists. The seat holds nothing. Ok says whether the fast
-/// path linked the node by which the range counts, in the list to which the hand is turned then. After a refusal the
-/// seat holds nothing. There are that many lists.
+/// Tries to hold the range in a table of any number of lists. The seat holds nothing. `patient` says whether a reader
+/// looks again at a writer's node, and a wide range has so many further looks. Ok says whether the fast path linked the
+/// node by which the range counts, in the list to which the hand is turned then. After a refusal the seat holds
+/// nothing. There are that many lists.
 #[inline(always)]
 pub(crate) fn try_hold<G: Guard, L: Ledger>(
     list: &List<G>,
@@ -427,20 +419,22 @@ pub(crate) fn try_hold<G: Guard, L: Ledger>(
     lists: u32,
     range: Range,
     mode: Mode,
+    patient: bool,
+    looks: u32,
     steps: &mut Steps<L>,
 ) -> Result<bool, NotHeld>
     requires free { IsHandOf (MayHold list.now.cut lists) list.now hand.old }
-    ensures tried { Leaves (IsTryCall hand.old.table list.now.cut list.now.seats (record { range = range; mode = mode }) result)
+    ensures tried { Leaves (IsTryCall hand.old.table list.now.cut list.now.seats looks patient (record { range = range; mode = mode }) result)
         hand.old hand.new steps.old steps.new }
-    ensures narrow { TakesAlone list.now.cut range → hand.new.part.trace.taken ≤ hand.old.part.trace.taken + 63 + 386 * hand.old.part.seats }
-    ensures each { (k : ℕ) → TakesMany list.now.cut range k → hand.new.part.trace.taken + 1 ≤ hand.old.part.trace.taken + try_steps hand.old.part.seats k }
+    ensures each { IsOnce patient looks → (k : ℕ) → TakesMany list.now.cut range k
+        → hand.new.part.trace.taken + 1 ≤ hand.old.part.trace.taken + try_steps hand.old.part.seats k }
 {
     let _ = hand.list();
     let _ = hand.seats();
     let _ = range.lo();
     if lists == 1 {
-        return try_range(list, hand, range, mode, true, steps);
+        return try_range(list, hand, range, mode, true, patient, steps);
     }
     let own = home_of(list, lists, range);
-    hold_in(list, hand, own, lists, range, mode, steps)
+    hold_in(list, hand, own, lists, range, mode, patient, looks, steps)
 }

@@ -3,6 +3,10 @@ use Rattle.epoch_pools.specs.declared.views.Beside.{Beside}
 use Rattle.epoch_pools.specs.declared.stuck.Taken.{Taken}
 use Rattle.epoch_pools.specs.Taking.{IsTaken}
 use Rattle.range_rw.proofs.Taking.{swept_misses, stuck_misses, sweep_take}
+use Rattle.range_rw.specs.Calls.{Leaves}
+use Rattle.range_rw.specs.Trying.{IsLaterInTry}
+use Rattle.range_rw.proofs.nodes.sweep_and_take.Given.{Over}
+use Rattle.range_rw.proofs.nodes.sweep_and_take.Goals.{After-take-taken}
 use Rattle.range_rw.proofs.nodes.sweep_and_take.Goals as goal
 
 -- the sweep's answer is why there is no node
@@ -21,8 +25,8 @@ returns-in-Out-clause-missed g c = let s = c.sweep-walked.new.hand.part in let q
     c.sweep-walked.ensures.long (subst (λ (t : Taken). IsTaken s q t) c.in-Out.is c.take-taken.ensures.cause) c.take-taken.ensures.outside c.view.ensures.sound
 
 -- the sweep and what looks for a node are of the try
-pub returns-in-Node-clause-later : goal.returns-in-Node-clause-later
-returns-in-Node-clause-later g c = record {
+both : (g : Over) (c : After-take-taken g) → Leaves IsLaterInTry c.args.hand.now c.take-taken.new.hand c.args.steps.now c.take-taken.new.steps
+both g c = record {
   counted = record {
     table = c.take-taken.ensures.table ∙ c.sweep-walked.ensures.table;
     steps = let a = c.sweep-walked.ensures.counted in let b = c.take-taken.ensures.counted in omega arith;
@@ -31,13 +35,9 @@ returns-in-Node-clause-later g c = record {
       c.take-taken.ensures.call;
 }
 
+pub returns-in-Node-clause-later : goal.returns-in-Node-clause-later
+returns-in-Node-clause-later g c = both g (goal.at.returns-in-Node-clause-later g c).After-take-taken
+
 -- also where none is to be taken
 pub returns-in-Out-clause-later : goal.returns-in-Out-clause-later
-returns-in-Out-clause-later g c = record {
-  counted = record {
-    table = c.take-taken.ensures.table ∙ c.sweep-walked.ensures.table;
-    steps = let a = c.sweep-walked.ensures.counted in let b = c.take-taken.ensures.counted in omega arith;
-  };
-  is = sweep_take c.args.hand.now.part c.sweep-walked.new.hand.part c.take-taken.new.hand.part c.sweep-walked.ensures.swept c.sweep-walked.ensures.walk
-      c.take-taken.ensures.call;
-}
+returns-in-Out-clause-later g c = both g (goal.at.returns-in-Out-clause-later g c).After-take-taken

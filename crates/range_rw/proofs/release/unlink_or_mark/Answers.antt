@@ -13,6 +13,7 @@ pub returns-then-not-quick : goal.returns-then-not-quick
 returns-then-not-quick g c = record {
   back = record { counted = search rules; is = marked_back c.requires.may.is (given_back g.G.Guard.rested) c.mark.new.hand.part c.mark.ensures.marked };
   fast = λ is. absurd (let f : ◌≡◌ {A = Bool} true false = sym is ∙ c.if-not-quick.true in cc);
+  marks = λ _. c.mark.ensures.marked;
 }
 
 -- the own node is held, and the pass is at rest
@@ -29,6 +30,7 @@ returns-then-quick_give g c = record {
   -- in two steps
   fast = λ _. let node = (holder c.requires.may.is).node in
       inl (ap (λ (y : SeatPart _). y.trace) (c.if-quick_give.ensures.given node (holder c.requires.may.is).is));
+  marks = λ no. absurd (let f : ◌≡◌ {A = Bool} true false = sym c.if-not-quick.false ∙ no in cc);
 }
 
 -- the range is still held, so its node may be marked
@@ -48,4 +50,5 @@ returns g c =
       -- whose exchange is in the record
       fast = λ _. inr (head_lost c.requires.may.is rested c.quick_give.new.hand.part c.mark-2.new.hand.part c.if-quick_give.ensures.given
           c.mark-2.ensures.marked);
+      marks = λ no. absurd (let f : ◌≡◌ {A = Bool} true false = sym c.if-not-quick.false ∙ no in cc);
     }

@@ -1,8 +1,10 @@
 use Rattle.std.proofs.Common.{ap, ◌∙◌, arith}
 use Rattle.lock_core.specs.declared.views.View.{View}
 use Rattle.epoch_pools.specs.declared.views.SeatPart.{SeatPart}
+use Rattle.epoch_pools.specs.Beside.{given_back}
+use Rattle.marked_list.specs.Causes.{nodes_in}
 use Rattle.range_rw.proofs.Calls.{counted_on, counted_turn}
-use Rattle.range_rw.proofs.Pieces.{own_at, turned_beside, given_piece, given_standing}
+use Rattle.range_rw.proofs.Pieces.{own_at, turned_beside, given_piece, given_standing, causes_kept}
 use Rattle.range_rw.proofs.several.give_piece.Goals as goal
 
 -- the list holds the range, and what doesn't count may be given back with any pass
@@ -25,6 +27,12 @@ returns g c =
           ready = ap (λ (v : View). v.ready) (own_at q c.args.at piece.turned) ∙ (back.ready ∙ ap (λ (x : SeatPart _). x.core.ready) is);
         };
       };
+      -- the mark leaves what the record has of other lists
+      kept = λ no. let m = c.unlink_or_mark.ensures.marks no in (
+        causes_kept c.args.hand.now.table c.args.at c.args.hand.now.part c.turn.new.self.part q is piece c.turn.ensures.rests
+            (given_back g.G.Guard.rested) m,
+        ap nodes_in (m.looked c.turn.ensures.rests.cursor ∙ ap (λ (x : SeatPart _). x.trace.looked) is),
+      );
       -- in one step or two, which are counted
       bound = let e = ap (λ (x : SeatPart _). x.trace.taken) is in let b = back.most in omega arith;
     }

@@ -1,4 +1,4 @@
-use Rattle.std.proofs.Common.{◌≡◌, sym, ap, ◌∙◌, subst, arith}
+use Rattle.std.proofs.Common.{◌≡◌, true, refl, sym, ap, ◌∙◌, subst, arith}
 use Rattle.lock_core.specs.declared.views.View.{View}
 use Rattle.lock_core.specs.Machine.{held_at}
 use Rattle.epoch_pools.specs.declared.views.SeatPart.{SeatPart}
@@ -6,7 +6,7 @@ use Rattle.epoch_pools.specs.Hands.{IsResting}
 use Rattle.epoch_pools.specs.Standings.{is_counted}
 use Rattle.range_rw.specs.Looks.{standing_for}
 use Rattle.range_rw.proofs.Calls.{counted_on, counted_turn}
-use Rattle.range_rw.proofs.Moves.{some_held, look_shows}
+use Rattle.range_rw.proofs.Moves.{some_held, seen_shows}
 use Rattle.range_rw.proofs.Moves.{Crossing, Return, both_list, both_held, both_lists, both_standing, both_other, both_too, both_looked}
 use Rattle.range_rw.proofs.Dues.{due_differ, due_there, due_own, due_on, due_beside, due_back, may_look, look_refused}
 use Rattle.range_rw.proofs.several.link_in_both.Given.{Over}
@@ -73,7 +73,8 @@ give_piece-requires g c =
         is = record {
           there = let a = due_there c.requires.due.is in omega arith;
           resting = subst (λ (x : SeatPart _). IsResting x.core) (sym look.is) c.turn.ensures.rests;
-          holds = some_held (ap (λ (v : View). held_at v.own) (look_shows c.turn.new.self.part look.is c.args.at) ∙ both_other (over g h.After-turn));
+          holds = some_held (ap (λ (v : View). held_at v.own) (seen_shows c.turn.new.self.part c.args.at true (standing_for c.args.own c.args.up) look.is
+              c.args.at) ∙ both_other (over g h.After-turn));
           beside = (λ i. is_counted (e i) ((ap (λ (x : SeatPart _). x.pass.standing) look.is) i) c.args.at) ∙ due_beside c.requires.due.is;
         };
       };
@@ -97,9 +98,9 @@ returns-in-Ok g c =
         -- the steps of the link, the look and the release, which are counted
         counted = counted_on (counted_on (counted_on (counted_on c.link_piece.ensures.link.counted turned) look.counted) c.give_piece.ensures.given.counted)
             (counted_turn c.turn-in-Ok.ensures.table c.turn-in-Ok.ensures.part);
-        is = both_looked way back c.link_piece.ensures.link.is.asks c.link_piece.ensures.ready;
+        is = both_looked way back c.link_piece.ensures.link.is.asks c.link_piece.ensures.link.is.ready;
       };
-      bound = let a = c.link_piece.ensures.bound in let t = ap (λ (x : SeatPart _). x.trace.taken) c.turn.ensures.part in
+      bound = let a = c.link_piece.ensures.bound refl in let t = ap (λ (x : SeatPart _). x.trace.taken) c.turn.ensures.part in
           let l = ap (λ (x : SeatPart _). x.trace.taken) look.is in let b = c.give_piece.ensures.bound in
           let u = ap (λ (x : SeatPart _). x.trace.taken) c.turn-in-Ok.ensures.part in omega arith;
     }
@@ -109,5 +110,5 @@ pub returns-in-Err-clause-looks : goal.returns-in-Err-clause-looks
 returns-in-Err-clause-looks g c = let link = c.link_piece.ensures.link in record {
   counted = link.counted;
   is = look_refused (due_differ c.requires.due.is) c.requires.holds link.is.piece link.is.asks link.is.standing c.in-Err.ensures.link.is.free
-      c.link_piece.ensures.ready c.in-Err.ensures.cause c.in-Err.ensures.long;
+      link.is.ready (c.in-Err.ensures.link.is.cause refl) c.in-Err.ensures.link.is.long;
 }

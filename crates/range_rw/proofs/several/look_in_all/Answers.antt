@@ -1,25 +1,26 @@
 use Rattle.std.proofs.Common.{ℕ, sym, subst, arith}
-use Rattle.list_cuts.specs.Cut.{list_count}
 use Rattle.range_rw.specs.Looks.{LooksAtAll}
-use Rattle.range_rw.proofs.Dues.{looks_narrow}
-use Rattle.range_rw.proofs.TakenLists.{some_below}
+use Rattle.range_rw.proofs.Dues.{home_many, looks_narrow}
 use Rattle.range_rw.proofs.several.look_in_all.Goals as goal
 
 -- list 0 holds a wide range
 -- so it passes all that it takes
-pub returns-then-own-eq0-clause-looks : goal.returns-then-own-eq0-clause-looks
-returns-then-own-eq0-clause-looks g c = let all = c.pass_all.ensures.looks in record {
-  counted = all.counted;
-  is = subst (λ (n : ℕ). LooksAtAll c.args.hand.now.table c.args.list.now.cut n c.args.looks (record { range = c.args.range; mode = c.args.mode })
-      c.pass_all.result c.args.hand.now.part c.pass_all.new.hand.part) (sym c.if-own-eq0.true) all.is;
+pub returns-then-own-eq0 : goal.returns-then-own-eq0
+returns-then-own-eq0 g c = let all = c.pass_all.ensures.looks in record {
+  looks = record {
+    counted = all.counted;
+    is = subst (λ (n : ℕ). LooksAtAll c.args.hand.now.table c.args.list.now.cut n c.args.looks (record { range = c.args.range; mode = c.args.mode })
+        c.pass_all.result c.args.hand.now.part c.pass_all.new.hand.part) (sym c.if-own-eq0.true) all.is;
+  };
 }
 
 -- a narrow one has list 0 to look at
 -- and no other
-pub returns-else-own-eq0-clause-looks : goal.returns-else-own-eq0-clause-looks
-returns-else-own-eq0-clause-looks g c = let due = c.requires.due.is in let one = c.look_in.ensures.looks in record {
-  counted = one.counted;
-  is = looks_narrow c.if-own-eq0.false (let s = due.home.several in let l = due.lists.shown in omega arith) due.free one.is
-      c.look_in.ensures.once (λ k many. some_below c.args.list.now.cut c.args.range (list_count c.args.list.now.cut) k c.args.own
-      (let t = due.home.there in let m = due.lists.many in omega arith) (due.home.narrow c.if-own-eq0.false).takes many);
+pub returns-else-own-eq0 : goal.returns-else-own-eq0
+returns-else-own-eq0 g c = let due = c.requires.due.is in let one = c.look_in.ensures.looks in record {
+  looks = record {
+    counted = one.counted;
+    is = looks_narrow c.if-own-eq0.false (let s = due.home.several in let l = due.lists.shown in omega arith) due.free one.is
+        c.look_in.ensures.once (λ k many. home_many due.home due.lists.many due.lists.regions many) c.look_in.ensures.bound c.look_in.ensures.more;
+  };
 }

@@ -184,29 +184,38 @@ pub turn-requires-clause-resting : goal.turn-requires-clause-resting
 turn-requires-clause-resting g c = c.in-Err.ensures.looks.is.kept.0.rests
 
 -- all lists are passed
-pub returns-clause-looks : goal.returns-clause-looks
-returns-clause-looks g c =
+pub returns : goal.returns
+returns g c =
     let i = c.all.invariant in
     let end : c.all.at ≡ list_count c.args.list.now.cut = let a = i.most in let b = i.lists.many in omega arith in
     let all : c.all.at ≡ c.all.hand.part.pass.lists = let a = i.most in let b = i.lists.shown in omega arith in record {
-      counted = i.counted;
-      is = record {
-        work = i.work;
-        home = i.home;
-        ready = i.ready;
-        done = (
-          i.alone,
-          all_passed c.args.list.now.cut c.all.at c.args.range c.all.hand.part i.lists.regions end (c.requires.due.is.home.wide refl) i.passed
-              ∙ (ap Wide all ∙ sym (standing_wide 0 c.all.hand.part.pass.lists refl)),
-        );
-        kept = tt;
-        cause = tt;
-        long = tt;
-        apart = i.apart;
-        few = λ k many. let le : i.each.0 ≤ k = fewer_below c.args.list.now.cut c.args.range c.all.at (list_count c.args.list.now.cut) i.each.0 k
-            (let a = i.most in let b = i.lists.many in omega arith) i.each.1 many in
-            few_more c.args.hand.now.part c.all.hand.part i.each.3 le;
-        more = tt;
+      looks = record {
+        counted = i.counted;
+        is = record {
+          work = i.work;
+          home = i.home;
+          ready = i.ready;
+          done = (
+            i.alone,
+            all_passed c.args.list.now.cut c.all.at c.args.range c.all.hand.part i.lists.regions end (c.requires.due.is.home.wide refl) i.passed
+                ∙ (ap Wide all ∙ sym (standing_wide 0 c.all.hand.part.pass.lists refl)),
+          );
+          kept = tt;
+          cause = tt;
+          long = tt;
+          apart = i.apart;
+          few = λ k many. let le : i.each.0 ≤ k = fewer_below c.args.list.now.cut c.args.range c.all.at (list_count c.args.list.now.cut) i.each.0 k
+              (let a = i.most in let b = i.lists.many in omega arith) i.each.1 many in
+              few_more c.args.hand.now.part c.all.hand.part i.each.3 le;
+          each = λ k many. let n = 55 + 193 * c.args.hand.now.part.seats in
+              let few : i.each.0 ≤ k = fewer_below c.args.list.now.cut c.args.range c.all.at (list_count c.args.list.now.cut) i.each.0 k
+              (let a = i.most in let b = i.lists.many in omega arith) i.each.1 many in
+              let le : n * (i.each.0 + c.args.looks) ≤ n * (k + c.args.looks) = mul-le _ _ _ _ (omega arith) (omega arith) in
+              let a = i.each.2 in omega arith;
+          narrow = λ away. absurd (away refl);
+          met = tt;
+          more = tt;
+        };
       };
     }
 
@@ -241,21 +250,16 @@ returns-then-left-eq0 g c =
           long = c.in-Err.ensures.looks.is.long;
           apart = apart g h;
           few = tt;
+          -- with the list that refused, the lists that were passed are no more than it takes
+          each = λ k many. let few : suc i.each.0 ≤ k = fewer_below cut c.args.range (suc c.all.at) (list_count cut) (suc i.each.0) k
+              (let b = i.lists.many in omega arith) (below_one cut c.args.range c.all.at i.each.0 (here g h) i.each.1) many in
+              let le : n * (suc i.each.0 + c.args.looks) ≤ n * (k + c.args.looks) = mul-le _ _ _ _ (omega arith) (omega arith) in
+              let more = one_more n i.each.0 c.args.looks in let s = i.work.later.seats in let a = i.each.2 in let b = one.bound in omega arith;
+          narrow = λ away. absurd (away refl);
+          met = met_before c.look_in.new.hand.part.trace i.work.later.taken
+              (found_met c.all.hand.part.trace.taken c.all.at c.look_in.new.hand.part.trace c.in-Err.ensures.more.1);
           -- it was refused once more than looks were left
           more = λ _. let m = i.met in let n = c.in-Err.ensures.more.0 in let l = c.if-left-eq0.true in omega arith;
         };
       };
-      -- with the list that refused, the lists that were passed are no more than it takes
-      each = λ k many. let few : suc i.each.0 ≤ k = fewer_below cut c.args.range (suc c.all.at) (list_count cut) (suc i.each.0) k
-          (let b = i.lists.many in omega arith) (below_one cut c.args.range c.all.at i.each.0 (here g h) i.each.1) many in
-          let le : n * (suc i.each.0 + c.args.looks) ≤ n * (k + c.args.looks) = mul-le _ _ _ _ (omega arith) (omega arith) in
-          let more = one_more n i.each.0 c.args.looks in let s = i.work.later.seats in let a = i.each.2 in let b = one.bound in omega arith;
     }
-
--- the lists that were passed are no more than it takes
-pub returns-clause-each : goal.returns-clause-each
-returns-clause-each g c = λ k many. let i = c.all.invariant in let n = 55 + 193 * c.args.hand.now.part.seats in
-    let few : i.each.0 ≤ k = fewer_below c.args.list.now.cut c.args.range c.all.at
-    (list_count c.args.list.now.cut) i.each.0 k (let a = i.most in let b = i.lists.many in omega arith) i.each.1 many in
-    let le : n * (i.each.0 + c.args.looks) ≤ n * (k + c.args.looks) = mul-le _ _ _ _ (omega arith) (omega arith) in
-    let a = i.each.2 in omega arith

@@ -2,7 +2,7 @@ use Rattle.std.proofs.Common.{sym, ap, ◌∙◌, arith}
 use Rattle.lock_core.specs.declared.views.View.{View}
 use Rattle.epoch_pools.specs.declared.views.Beside.{Beside}
 use Rattle.epoch_pools.specs.declared.views.SeatPart.{SeatPart}
-use Rattle.range_rw.proofs.Taking.{sweep_later, swept_refuses}
+use Rattle.range_rw.proofs.Taking.{sweep_later, swept_refuses, long_told}
 use Rattle.range_rw.proofs.Calls.{counted_on, counted_turn}
 use Rattle.range_rw.proofs.Pieces.{err_on, own_at, turned_free, try_piece, try_standing, cause_piece}
 use Rattle.range_rw.proofs.several.sweep_piece.Goals as goal
@@ -18,8 +18,7 @@ returns g c =
     let done = c.sweep-walked.ensures in let on = sweep_later t s done.swept done.walk in
     let piece = try_piece c.args.at p t s is c.turn.ensures.stays (record { later = on; outside = done.swept.outside; cursor = done.swept.cursor }) in
     let same = ap (λ (b : Beside _). b.list) done.swept.pass in
-    let because = swept_refuses c.list-here.result c.turn.new.self.table t s done.walk (c.list-here.ensures.noted ∙ same) (c.list-here.ensures.list ∙ same)
-    c.sweep-walked.result in record {
+    record {
       -- turn and sweep ask for nothing, and nothing comes to count by them. The hand has no node of its own there, and
       -- the ready nodes stay
       swept = record {
@@ -34,9 +33,11 @@ returns g c =
       };
       -- the cause of a refusal is that of the sweep, and Long comes exactly where its walk is spent
       cause = err_on _ _ c.outcome_of.result (λ why e asked. cause_piece c.args.at p t s is c.turn.ensures.stays c.args.hand.now.table
-          c.turn.new.self.table c.turn.ensures.table piece.turned asked why ((because why (sym c.refusal_of.ensures ∙ e) done.answer done.long).0 asked))
+          c.turn.new.self.table c.turn.ensures.table piece.turned asked why (swept_refuses c.list-here.result c.turn.new.self.table t s done.walk
+          (c.list-here.ensures.noted ∙ same) (c.list-here.ensures.list ∙ same) c.sweep-walked.result why (sym c.refusal_of.ensures ∙ e) done.answer asked))
           c.outcome_of.ensures.refused;
-      long = err_on _ _ c.outcome_of.result (λ why e. (because why (sym c.refusal_of.ensures ∙ e) done.answer done.long).1) c.outcome_of.ensures.refused;
+      long = err_on _ _ c.outcome_of.result (λ why e. long_told c.list-here.result c.sweep-walked.result why (sym c.refusal_of.ensures ∙ e) done.long)
+          c.outcome_of.ensures.refused;
       -- the turn makes no step, so the steps are those of the sweep
       bound = let e = ap (λ (x : SeatPart _). x.trace.taken) is in let n = ap (λ (x : SeatPart _). x.seats) is in let b = done.bound in omega arith;
     }
