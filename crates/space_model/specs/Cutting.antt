@@ -1,6 +1,7 @@
 -- How the bodies of this crate find the areas round a page, and leave those alone that a change doesn't touch: the list
 -- is cut by halving, the areas at the place become others, and the rows are counted between the two cuts. This is the
--- project's own way; only private functions speak of it, and what callers see is the kinds of pages.
+-- project's own way. Private functions speak of it, and `row_plans` of `last_end`; what callers see is the kinds of
+-- pages.
 use Rattle.std.specs.Prelude.{ℕ, ◌+◌, ◌<◌, ◌≤◌, ◌≡◌, ◌⊎◌, true, false, max, Option, Some, None, MatchOption, List, [], ◌∷◌, ◌++◌, length, drop, All}
 use Rattle.std.specs.List.{splice}
 use Rattle.page_types.specs.declared.TheConstants.{LIMIT}

@@ -1,5 +1,5 @@
--- How lists of lines are given to the callers of a new space. Only private functions speak of this; what callers see is
--- `IsPlayed`.
+-- How lists of lines are given to the callers of a new space. Private functions speak of this, and a trial of
+-- `AreNewWorkers`; what callers see is `IsPlayed`.
 use Rattle.std.specs.Prelude.{ℕ, ◌≡◌, ◌≤◌, ◌<◌, None, List, [], ◌∷◌, All, length}
 use mathlib.Core.Option.{some}
 use lib.ListN.{get_elem?}
