@@ -6,6 +6,7 @@ mod FirstThreads
 mod Following
 mod GivenNumbers
 mod HealedLines
+mod HomeFacts
 pub mod MadeLines
 mod NumberFacts
 pub mod OneEnd

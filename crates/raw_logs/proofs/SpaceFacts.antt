@@ -11,14 +11,14 @@ use Rattle.std.proofs.lemmas.Bool.{eqb-true, eq-eqb}
 use Rattle.std.proofs.lemmas.List.{append-nil}
 use Rattle.raw_lines.specs.declared.makers.Making.{Making}
 use Rattle.raw_lines.specs.declared.makers.Making.TheVariants.{Execs, Nothing}
-use Rattle.raw_logs.specs.declared.spaces.Home.{Home}
 use Rattle.raw_logs.specs.declared.spaces.Made.{Made}
 use Rattle.raw_logs.specs.declared.spaces.Makers.{Makers}
+use Rattle.raw_logs.specs.declared.spaces.Past.{Past}
 use Rattle.raw_logs.specs.declared.spaces.Space.{Space}
 use Rattle.raw_logs.specs.declared.told.Told.{Told}
 use Rattle.raw_logs.specs.Log.{Numbered}
-use Rattle.raw_logs.specs.Spaces.{ends, ended_by, made_from, execs, exec_place, link_of, has_left, led, space_at, before_by, before_in, speaks, silent, twice, is_made, unmade}
-use Rattle.raw_logs.specs.Stages.{HasMade, space_or, space_in, HasSpaces, IsPast, or_else, HasSpeakers, HasNumbers, HasKnown}
+use Rattle.raw_logs.specs.Spaces.{ends, ended_by, made_from, execs, exec_place, link_of, has_left, is_first, before_by, before_in, speaks, silent, twice, is_made, unmade}
+use Rattle.raw_logs.specs.Stages.{HasMade, born_in, IsPast, or_else, HasSpeakers, HasNumbers, HasKnown}
 use Rattle.raw_logs.specs.Told.{Tells, AreTold, all_told, line_told}
 use Rattle.raw_logs.proofs.ToldFacts.{tells_one}
 
@@ -77,22 +77,6 @@ made_exec old new place told tolds h e made ended own others =
     (λ q other. ap (λ x. get nat_cmp x q) ended)
     (own ∙ ap (λ (m : Making). if execs m then Some place else get nat_cmp old.execs told.pid) (sym e)) others
 
--- ---- spaces
-
--- a link more
-pub spaces_step : (old new : BTreeMap ℕ Home) (link : Made) (home : Home) (made : List Made) → HasSpaces old made
-    → home ≡ record { maker = space_in old link.parent link.place; kind = link.kind; exec = link.exec } → get nat_cmp new link.child ≡ Some home
-    → ((q : ℕ) → q ≢ link.child → get nat_cmp new q ≡ get nat_cmp old q) → HasSpaces new (link ∷ made)
-spaces_step old new link home made h is own others q place = by (eqb link.child q) refl
-  where
-    by : (b : Bool) → eqb link.child q ≡ b → space_in new q place ≡ space_at (link ∷ made) place q
-    by true e =
-        let same : link.child ≡ q = eqb-true link.child q e in
-        rw e (ap (space_or q place) (subst (λ (x : ℕ). get nat_cmp new x ≡ Some home) same own)
-        ∙ ap (λ (x : Home). led (has_left x.kind x.exec place) q x.maker) is
-        ∙ ap (led (has_left link.kind link.exec place) q) (h link.parent link.place))
-    by false e = rw e (ap (space_or q place) (others q (not_same link.child q e)) ∙ h q place)
-
 -- ---- the past of a process
 
 -- a limit more
@@ -129,54 +113,72 @@ past_kept old first limit n some q = by (eqb first q) refl
     by false e = rw e (sym (or_none (get nat_cmp old q)))
 
 -- what a link says of the past, by whether it made the number
-abbrev by_link : Made → List Made → ℕ → ℕ → ℕ → Bool → Option ℕ
-by_link link rest pid limit first here =
-    if here then before_by (has_left link.kind link.exec limit) pid limit first (before_in rest link.parent link.place first)
-    (before_in rest link.parent limit first)
-    else before_in rest pid limit first
+abbrev by_link : Made → List Made → ℕ → ℕ → Space → Bool → Option ℕ
+by_link link rest pid limit space here =
+    if here then before_by (has_left link.kind link.exec limit) link.place limit space (before_in rest link.parent link.place space)
+    (before_in rest link.parent limit space)
+    else before_in rest pid limit space
 
 -- links so far: what is of the past is there, or follows from the others
 abbrev pub LeadsTo : List Made → ℕ → ℕ → BTreeMap ℕ ℕ → List Made → ℕ → ℕ → Type 0
 LeadsTo made asked count past rest pid limit =
-    (first : ℕ) → before_in made asked count first ≡ or_else (get nat_cmp past first) (before_in rest pid limit first)
+    (space : Space) → before_in made asked count space ≡ or_else (born_in past space) (before_in rest pid limit space)
+
+-- no link was followed
+pub leads_start : (made : List Made) (asked count : ℕ) (past : BTreeMap ℕ ℕ) → ((q : ℕ) → get nat_cmp past q ≡ None)
+    → LeadsTo made asked count past made asked count
+leads_start made asked count past none space = sym (ap (λ (x : Option ℕ). or_else x (before_in made asked count space)) (by space.made))
+  where
+    by : (b : Bool) → (if b then get nat_cmp past space.id else None) ≡ None
+    by true = none space.id
+    by false = refl
 
 -- a link of another number
 pub leads_other : (made : List Made) (asked count : ℕ) (past : BTreeMap ℕ ℕ) (link : Made) (rest : List Made) (pid limit : ℕ)
     → LeadsTo made asked count past (link ∷ rest) pid limit → eqb link.child pid ≡ false → LeadsTo made asked count past rest pid limit
-leads_other made asked count past link rest pid limit h e first =
-    subst (λ (b : Bool). before_in made asked count first ≡ or_else (get nat_cmp past first) (by_link link rest pid limit first b)) e (h first)
+leads_other made asked count past link rest pid limit h e space =
+    subst (λ (b : Bool). before_in made asked count space ≡ or_else (born_in past space) (by_link link rest pid limit space b)) e (h space)
 
 -- a link of a number that is in the space of its maker
 pub leads_shared : (made : List Made) (asked count : ℕ) (past : BTreeMap ℕ ℕ) (link : Made) (rest : List Made) (pid limit : ℕ)
     → LeadsTo made asked count past (link ∷ rest) pid limit → eqb link.child pid ≡ true → has_left link.kind link.exec limit ≡ false
     → LeadsTo made asked count past rest link.parent limit
-leads_shared made asked count past link rest pid limit h e never first =
-    subst (λ (b : Bool). before_in made asked count first ≡ or_else (get nat_cmp past first) (by_link link rest pid limit first b)) e (h first)
-    ∙ ap (λ (b : Bool). or_else (get nat_cmp past first)
-    (before_by b pid limit first (before_in rest link.parent link.place first) (before_in rest link.parent limit first))) never
+leads_shared made asked count past link rest pid limit h e never space =
+    subst (λ (b : Bool). before_in made asked count space ≡ or_else (born_in past space) (by_link link rest pid limit space b)) e (h space)
+    ∙ ap (λ (b : Bool). or_else (born_in past space)
+    (before_by b link.place limit space (before_in rest link.parent link.place space) (before_in rest link.parent limit space))) never
 
 -- a link of a number that is in a space of its own
 pub leads_apart : (made : List Made) (asked count : ℕ) (old new : BTreeMap ℕ ℕ) (link : Made) (rest : List Made) (pid limit : ℕ)
     → LeadsTo made asked count old (link ∷ rest) pid limit → eqb link.child pid ≡ true → has_left link.kind link.exec limit ≡ true
-    → ((q : ℕ) → get nat_cmp new q ≡ or_else (get nat_cmp old q) (if pid == q then Some limit else None))
+    → ((q : ℕ) → get nat_cmp new q ≡ or_else (get nat_cmp old q) (if link.place == q then Some limit else None))
     → LeadsTo made asked count new rest link.parent link.place
-leads_apart made asked count old new link rest pid limit h e is put first =
-    subst (λ (b : Bool). before_in made asked count first ≡ or_else (get nat_cmp old first) (by_link link rest pid limit first b)) e (h first)
-    ∙ ap (λ (b : Bool). or_else (get nat_cmp old first)
-    (before_by b pid limit first (before_in rest link.parent link.place first) (before_in rest link.parent limit first))) is
-    ∙ grouped (get nat_cmp old first) (pid == first) (before_in rest link.parent link.place first)
-    ∙ ap (λ (x : Option ℕ). or_else x (before_in rest link.parent link.place first)) (sym (put first))
+leads_apart made asked count old new link rest pid limit h e is put space =
+    subst (λ (b : Bool). before_in made asked count space ≡ or_else (born_in old space) (by_link link rest pid limit space b)) e (h space)
+    ∙ ap (λ (b : Bool). or_else (born_in old space)
+    (before_by b link.place limit space (before_in rest link.parent link.place space) (before_in rest link.parent limit space))) is
+    ∙ by space.made
   where
+    more : Option ℕ
+    more = before_in rest link.parent link.place space
+
     grouped : (a : Option ℕ) (b : Bool) (x : Option ℕ) → or_else a (if b then Some limit else x) ≡ or_else (or_else a (if b then Some limit else None)) x
     grouped None true x = refl
-    grouped a b x = refl
+    grouped None false x = refl
+    grouped (Some n) b x = refl
+
+    by : (b : Bool) → or_else (if b then get nat_cmp old space.id else None) (if (if b then link.place == space.id else false) then Some limit else more)
+        ≡ or_else (if b then get nat_cmp new space.id else None) more
+    by true = grouped (get nat_cmp old space.id) (link.place == space.id) more ∙ ap (λ (x : Option ℕ). or_else x more) (sym (put space.id))
+    by false = refl
 
 -- no link is left
-pub leads_end : (made : List Made) (asked count : ℕ) (old new : BTreeMap ℕ ℕ) (rest : List Made) (pid limit : ℕ)
-    → LeadsTo made asked count old rest pid limit → rest ≡ []
-    → ((q : ℕ) → get nat_cmp new q ≡ or_else (get nat_cmp old q) (if pid == q then Some limit else None)) → IsPast new made asked count
-leads_end made asked count old new rest pid limit h e put first =
-    put first ∙ sym (subst (λ (x : List Made). before_in made asked count first ≡ or_else (get nat_cmp old first) (before_in x pid limit first)) e (h first))
+pub leads_end : (made : List Made) (asked count : ℕ) (past : Past) (rest : List Made) (pid limit : ℕ)
+    → LeadsTo made asked count past.born rest pid limit → rest ≡ [] → past.first ≡ pid → past.limit ≡ limit → IsPast past made asked count
+leads_end made asked count past rest pid limit h e f g space =
+    ap (λ (n : ℕ). or_else (born_in past.born space) (if is_first space n then Some past.limit else None)) f
+    ∙ ap (λ (n : ℕ). or_else (born_in past.born space) (if is_first space pid then Some n else None)) g
+    ∙ sym (subst (λ (x : List Made). before_in made asked count space ≡ or_else (born_in past.born space) (before_in x pid limit space)) e (h space))
 
 -- ---- numbers that speak
 

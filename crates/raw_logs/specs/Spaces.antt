@@ -1,8 +1,9 @@
 -- Whose address space a line is of. strace(1) follows children too, and numbers threads as it numbers processes. Lines
 -- of clone(2) and its like tell which number is a thread of another, and which has an address space of its own; it
 -- begins with the areas of its maker, so the maker's lines up to there are of its past. A child of vfork(2), or with
--- the flag CLONE_VM, has one of its own from its execve(2) on. What lines don't tell isn't guessed: a number of which
--- no line tells is of the program, and one whose flags aren't shown is taken for a thread.
+-- the flag CLONE_VM, has one of its own from its execve(2) on. The kernel gives a number again once it is free: a line
+-- is of the last that was made before it. What lines don't tell isn't guessed: a number of which no line tells is of
+-- the program, and one whose flags aren't shown is taken for a thread.
 use Rattle.std.specs.Prelude.{ℕ, ◌+◌, ◌-◌, List, [], ◌∷◌, ◌++◌, Option, Some, None, Bool, true, false, not, ◌==◌, nat_lt, if◌then◌else◌}
 use Rattle.raw_lines.specs.declared.makers.MadeAs.{MadeAs}
 use Rattle.raw_lines.specs.declared.makers.MadeAs.TheVariants.{Thread, Shared, Process, Untold}
@@ -74,31 +75,51 @@ has_left Shared exec place = is_done_at place exec
 has_left Thread exec place = false
 has_left Untold exec place = false
 
--- the space of a number that was made, and has left that of its maker or hasn't
+-- the space of a number that the line at this place made, and that has left that of its maker or hasn't
 abbrev pub led : Bool → ℕ → Space → Space
-led true child maker = record { first = child; made = true }
-led false child maker = maker
+led true place maker = record { id = place; made = true }
+led false place maker = maker
+
+-- a link made the number
+abbrev pub is_made : ℕ → List Made → Bool
+is_made pid [] = false
+is_made pid (link ∷ earlier) = if link.child == pid then true else is_made pid earlier
+
+-- the link says whose the lines of a number at this place are, before earlier ones: it made it, and not behind them,
+-- or it was the first to make it
+abbrev pub decides_at : Made → List Made → ℕ → ℕ → Bool
+decides_at link earlier place pid =
+    if link.child == pid then (if nat_lt place link.place then not (is_made pid earlier) else true) else false
 
 -- the space of a number at a place, by who made whom, the latest first: a thread is of its maker's, and a process that
 -- shares it until its execve is too
 abbrev pub space_at : List Made → ℕ → ℕ → Space
-space_at [] place pid = record { first = pid; made = false }
+space_at [] place pid = record { id = pid; made = false }
 space_at (link ∷ earlier) place pid =
-    if link.child == pid then led (has_left link.kind link.exec place) pid (space_at earlier link.place link.parent) else space_at earlier place pid
+    if decides_at link earlier place pid then led (has_left link.kind link.exec place) link.place (space_at earlier link.place link.parent)
+    else space_at earlier place pid
+
+-- it is the space of the process that the line at a place made
+abbrev pub is_born : Space → ℕ → Bool
+is_born space place = if space.made then place == space.id else false
+
+-- it is the space of a number that no line made
+abbrev pub is_first : Space → ℕ → Bool
+is_first space pid = if space.made then false else pid == space.id
 
 -- a process in its own space ends the search there, and goes on with its maker's lines before it was made
-abbrev pub before_by : Bool → ℕ → ℕ → ℕ → Option ℕ → Option ℕ → Option ℕ
-before_by true pid limit first made shared = if pid == first then Some limit else made
-before_by false pid limit first made shared = shared
+abbrev pub before_by : Bool → ℕ → ℕ → Space → Option ℕ → Option ℕ → Option ℕ
+before_by true place limit space made shared = if is_born space place then Some limit else made
+before_by false place limit space made shared = shared
 
--- the place before which lines of a space, that has this first number, are of the past of a number, whose own are
+-- the place before which lines of a space are of the past of a number, by the last link that made it, whose own are
 -- before this one
-abbrev pub before_in : List Made → ℕ → ℕ → ℕ → Option ℕ
-before_in [] pid limit first = if pid == first then Some limit else None
-before_in (link ∷ earlier) pid limit first =
-    if link.child == pid then before_by (has_left link.kind link.exec limit) pid limit first (before_in earlier link.parent link.place first)
-    (before_in earlier link.parent limit first)
-    else before_in earlier pid limit first
+abbrev pub before_in : List Made → ℕ → ℕ → Space → Option ℕ
+before_in [] pid limit space = if is_first space pid then Some limit else None
+before_in (link ∷ earlier) pid limit space =
+    if link.child == pid then before_by (has_left link.kind link.exec limit) link.place limit space (before_in earlier link.parent link.place space)
+    (before_in earlier link.parent limit space)
+    else before_in earlier pid limit space
 
 -- ---- lines that are written
 
@@ -109,7 +130,7 @@ is_before place (Some limit) = nat_lt place limit
 -- lines of a space at this place are written: those of the program, or of the past of the process that was asked for
 abbrev pub of_process : Option ℕ → List Made → ℕ → ℕ → Space → Bool
 of_process None made count place space = not space.made
-of_process (Some asked) made count place space = is_before place (before_in made asked count space.first)
+of_process (Some asked) made count place space = is_before place (before_in made asked count space)
 
 -- a line at this place, of so many, is written, or would be if a later one didn't leave it out
 abbrev pub has_line : Option ℕ → List Made → ℕ → ℕ → Told → Bool
@@ -124,11 +145,6 @@ speaks pid (told ∷ tolds) = if told.pid == pid then true else speaks pid tolds
 abbrev pub silent : List Made → List Told → ℕ
 silent [] tolds = 0
 silent (link ∷ earlier) tolds = if speaks link.child tolds then silent earlier tolds else silent earlier tolds + 1
-
--- a link made the number
-abbrev pub is_made : ℕ → List Made → Bool
-is_made pid [] = false
-is_made pid (link ∷ earlier) = if link.child == pid then true else is_made pid earlier
 
 -- how many links made a number that an earlier one made
 abbrev pub twice : List Made → ℕ

@@ -1,9 +1,11 @@
 -- What the private functions of this crate say of what they hold: lines as numbered texts, what was read of a log so
--- far, and what was found of spaces. It ties the code to the other definitions, which speak of texts.
-use Rattle.std.specs.Prelude.{All, ◌≤◌, ◌≡◌, ℕ, ◌+◌, List, [], ◌∷◌, length, drop, Option, Some, None, option_map, Bool, true, false, if◌then◌else◌}
+-- far, and what was found of spaces. It ties the code to the other definitions, which speak of texts. `AreShort` is also
+-- cited by `read_log` and by `raw_trace`.
+use Rattle.std.specs.Prelude.{All, ◌≤◌, ◌<◌, ◌≡◌, ℕ, zero, suc, ◌+◌, List, [], ◌∷◌, length, drop, Option, Some, None, option_map, is_some, Bool, true, false, if◌then◌else◌}
 use Rattle.std.specs.BTreeMap.{BTreeMap, get}
 use Rattle.std.specs.BTreeSet.{BTreeSet, contains}
-use Rattle.std.specs.Ordering.{nat_cmp}
+use Rattle.std.specs.Ordering.{nat_cmp, ordering_then}
+use Rattle.std.specs.declared.cmp.Ordering.{Ordering}
 use Rattle.strace_reader.specs.Grammar.{IsBracketed}
 use Rattle.raw_lines.specs.declared.makers.Making.{Making}
 use Rattle.raw_lines.specs.declared.makers.Making.TheVariants.{Makes, Ends}
@@ -18,6 +20,7 @@ use Rattle.raw_logs.specs.declared.spaces.Chooser.{Chooser}
 use Rattle.raw_logs.specs.declared.spaces.Home.{Home}
 use Rattle.raw_logs.specs.declared.spaces.Made.{Made}
 use Rattle.raw_logs.specs.declared.spaces.Makers.{Makers}
+use Rattle.raw_logs.specs.declared.spaces.Past.{Past}
 use Rattle.raw_logs.specs.declared.spaces.Space.{Space}
 use Rattle.raw_logs.specs.declared.told.Form.{Form}
 use Rattle.raw_logs.specs.declared.told.Form.TheVariants.{Blank, Unknown, Long, TooLong, Whole}
@@ -25,7 +28,7 @@ use Rattle.raw_logs.specs.declared.told.Told.{Told}
 use Rattle.raw_logs.specs.Choosing.{Picked, picked}
 use Rattle.raw_logs.specs.Log.{Numbered, line_of, LineKind, IsKind, Each, healed, changed, count_changes, IsStripped}
 use Rattle.raw_logs.specs.Numbering.{IsRenumbered}
-use Rattle.raw_logs.specs.Spaces.{made_from, ended_by, exec_place, has_left, led, space_at, before_in, speaks, is_made, is_known}
+use Rattle.raw_logs.specs.Spaces.{made_from, ended_by, exec_place, has_left, led, space_at, is_first, before_in, speaks, is_made, is_known}
 use Rattle.raw_logs.specs.Told.{AreTold}
 
 -- no text is longer than a line may be
@@ -88,29 +91,74 @@ pub record HasMade (makers : Makers) (place : ℕ) (tolds : List Told) : Type 0 
   pub ended : (pid : ℕ) → get nat_cmp makers.ended pid ≡ ended_by pid tolds
   pub execs : (pid : ℕ) → get nat_cmp makers.execs pid ≡ exec_place pid place tolds
 
--- the space that a map has for a number at a place, or its own
-abbrev pub space_or : ℕ → ℕ → Option Home → Space
-space_or pid place None = record { first = pid; made = false }
-space_or pid place (Some home) = led (has_left home.kind home.exec place) pid home.maker
+-- each of these links stands before a place
+abbrev pub AreBefore : ℕ → List Made → Type 0
+AreBefore place [] = Unit {0}
+AreBefore place (link ∷ earlier) = (link.place < place) × AreBefore place earlier
 
-abbrev pub space_in : BTreeMap ℕ Home → ℕ → ℕ → Space
-space_in homes pid place = space_or pid place (get nat_cmp homes pid)
+-- later links stand first
+abbrev pub AreLatestFirst : List Made → Type 0
+AreLatestFirst [] = Unit {0}
+AreLatestFirst (link ∷ earlier) = AreBefore link.place earlier × AreLatestFirst earlier
+
+-- the order of numbers with places
+abbrev pub pair_cmp : ℕ × ℕ → ℕ × ℕ → Ordering
+pair_cmp = λ a b. ordering_then (nat_cmp a.0 b.0) (nat_cmp a.1 b.1)
+
+-- the home of a number from a place on, where a link gave it one there; the first of a number has place 0
+abbrev pub home_at : BTreeMap (ℕ × ℕ) Home → ℕ → ℕ → Option Home
+home_at homes pid place = get pair_cmp homes (pid, place)
+
+-- the first, where there is one, or the other
+abbrev pub home_or : Option Home → Option Home → Option Home
+home_or None other = other
+home_or (Some home) other = Some home
+
+-- the last of homes up to a place
+abbrev pub last_at : (ℕ → Option Home) → ℕ → Option Home
+last_at at zero = at 0
+last_at at (suc place) = home_or (at (suc place)) (last_at at place)
+
+-- the space of a number at a place, by its home, or its own
+abbrev pub space_or : ℕ → ℕ → Option Home → Space
+space_or pid place None = record { id = pid; made = false }
+space_or pid place (Some home) = led (has_left home.kind home.exec place) home.place home.maker
+
+abbrev pub space_in : BTreeMap (ℕ × ℕ) Home → ℕ → ℕ → Space
+space_in homes pid place = space_or pid place (last_at (home_at homes pid) place)
 
 -- the map has the space of each number at each place, by who made whom
-abbrev pub HasSpaces : BTreeMap ℕ Home → List Made → Type 0
-HasSpaces homes made = (pid place : ℕ) → space_in homes pid place ≡ space_at made place pid
+pub record AreSpaces (homes : BTreeMap (ℕ × ℕ) Home) (made : List Made) : Type 0 where
+  pub spaces : (pid place : ℕ) → space_in homes pid place ≡ space_at made place pid
+  -- the first home of a number is at 0
+  pub first : (pid : ℕ) → is_some (home_at homes pid 0) ≡ is_made pid made
+  pub none : (pid : ℕ) → is_made pid made ≡ false → (place : ℕ) → home_at homes pid place ≡ None
+  -- none is behind the links
+  pub behind : (pid place : ℕ) → AreBefore place made → home_at homes pid place ≡ None
+
+-- it has them, where the links stand so
+abbrev pub HasSpaces : BTreeMap (ℕ × ℕ) Home → List Made → Type 0
+HasSpaces homes made = AreLatestFirst made → AreSpaces homes made
 
 -- the first, where there is one, or the other
 abbrev pub or_else : Option ℕ → Option ℕ → Option ℕ
 or_else None other = other
 or_else (Some n) other = Some n
 
--- the map has the places before which lines of a space are of the past of a process
-abbrev pub IsPast : BTreeMap ℕ ℕ → List Made → ℕ → ℕ → Type 0
-IsPast past made asked count = (first : ℕ) → get nat_cmp past first ≡ before_in made asked count first
+-- the place that a map has for the space of a process that a line made
+abbrev pub born_in : BTreeMap ℕ ℕ → Space → Option ℕ
+born_in past space = if space.made then get nat_cmp past space.id else None
+
+-- the place before which lines of a space are of the past
+abbrev pub limit_in : Past → Space → Option ℕ
+limit_in past space = or_else (born_in past.born space) (if is_first space past.first then Some past.limit else None)
+
+-- it has the places before which lines of a space are of the past of a process
+abbrev pub IsPast : Past → List Made → ℕ → ℕ → Type 0
+IsPast past made asked count = (space : Space) → limit_in past space ≡ before_in made asked count space
 
 -- the past is that of the process that was asked for, where one was
-abbrev pub IsPastOf : Option ℕ → List Made → ℕ → Option (BTreeMap ℕ ℕ) → Type 0
+abbrev pub IsPastOf : Option ℕ → List Made → ℕ → Option Past → Type 0
 IsPastOf None made count None = Unit {0}
 IsPastOf None made count (Some past) = ⊥
 IsPastOf (Some asked) made count None = ⊥
@@ -118,7 +166,7 @@ IsPastOf (Some asked) made count (Some past) = IsPast past made asked count
 
 -- it chooses lines by who made whom, and by the process that was asked for
 pub record IsChooser (process : Option ℕ) (made : List Made) (count : ℕ) (chooser : Chooser) : Type 0 where
-  pub homes : HasSpaces chooser.homes made
+  pub homes : AreSpaces chooser.homes made
   pub past : IsPastOf process made count chooser.past
 
 -- the set has the numbers that links made

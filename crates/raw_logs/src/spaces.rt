@@ -6,13 +6,14 @@ ghost use Rattle.std.specs.Prelude.{◌≡◌, ◌+◌, ◌++◌, ◌∷◌, [],
 ghost use Rattle.std.specs.BTreeMap.{get};
 ghost use Rattle.std.specs.BTreeSet.{contains};
 ghost use Rattle.std.specs.Ordering.{nat_cmp};
-ghost use Rattle.std.specs.Prelude.{◌≢◌, ◌<◌, ◌^◌, ◌==◌, Some, None, true, if◌then◌else◌};
+ghost use Rattle.std.specs.Prelude.{◌≢◌, ◌<◌, ◌^◌, ◌==◌, Some, None, is_some, true, if◌then◌else◌};
 ghost use Rattle.raw_logs.specs.declared.spaces.Made.{Made as MadeOf};
 ghost use Rattle.raw_logs.specs.declared.told.Told.{Told as ToldOf};
 ghost use Rattle.raw_logs.specs.Spaces.{links, made_from, has_left, led, has_line, speaks, silent, twice, unmade, foreign};
 ghost use Rattle.raw_logs.specs.Counting.{within_32_bits};
 ghost use Rattle.raw_logs.specs.Told.{AreTold};
-ghost use Rattle.raw_logs.specs.Stages.{HasMade, space_in, HasSpaces, IsPast, IsChooser, or_else, HasSpeakers, HasNumbers, HasKnown};
+ghost use Rattle.raw_logs.specs.Stages.{HasMade, AreLatestFirst, pair_cmp, home_at, last_at, space_in, HasSpaces};
+ghost use Rattle.raw_logs.specs.Stages.{IsPast, limit_in, IsChooser, or_else, HasSpeakers, HasNumbers, HasKnown};
 
 use crate::lines::Lines;
 use crate::told::{Told, told_of};
@@ -173,8 +174,8 @@ pub(crate) fn all_made(alloc: Global, lines: &Lines) -> Result<Vec<Made>, AllocE
 /// An address space.
 #[derive(Clone, Copy, PartialEq, Eq, Debug)]
 pub(crate) struct Space {
-    /// The number of its first thread.
-    pub(crate) first: u32,
+    /// The place of the line that made it, or, where none did, the number of its first thread.
+    pub(crate) id: u32,
     /// A line of the log made it: it isn't the program's.
     pub(crate) made: bool,
 }
@@ -184,6 +185,8 @@ pub(crate) struct Space {
 pub(crate) struct Home {
     /// The space of its maker.
     pub(crate) maker: Space,
+    /// The place of the line that made it.
+    pub(crate) place: u32,
     /// As what it was made.
     pub(crate) kind: MadeAs,
     /// The place where it tells of execve(2).
@@ -205,57 +208,89 @@ fn has_left(kind: MadeAs, exec: Option<u32>, place: u32) -> bool
     }
 }
 
-/// The space of a number that was made, and has left that of its maker or hasn't.
-fn led(left: bool, child: u32, maker: Space) -> Space
-    ensures { result ≡ led left child maker }
+/// The space of a number that the line at this place made, and that has left that of its maker or hasn't.
+fn led(left: bool, place: u32, maker: Space) -> Space
+    ensures { result ≡ led left place maker }
 {
     if left {
         return Space {
-            first: child,
+            id: place,
             made: true,
         };
     }
     maker
 }
 
+/// The last home of a number up to a place.
+fn last_home(homes: &BTreeMap<(u32, u32), Home>, pid: u32, place: u32) -> Option<Home>
+    ensures { result ≡ last_at (home_at homes.now pid) place }
+{
+    let mut found = homes.range((pid, 0)..=(pid, place));
+    match found.next_back() {
+        Some((_, home)) => Some(*home),
+        None => None,
+    }
+}
+
 /// The space of a number at a place: its own, where nothing says another.
-fn space_in(homes: &BTreeMap<u32, Home>, pid: u32, place: u32) -> Space
+fn space_in(homes: &BTreeMap<(u32, u32), Home>, pid: u32, place: u32) -> Space
     ensures { result ≡ space_in homes.now pid place }
 {
-    match homes.get(&pid) {
-        Some(home) => led(has_left(home.kind, home.exec, place), pid, home.maker),
+    match last_home(homes, pid, place) {
+        Some(home) => led(
+            has_left(home.kind, home.exec, place),
+            home.place,
+            home.maker,
+        ),
         None => Space {
-            first: pid,
+            id: pid,
             made: false,
         },
     }
 }
 
-/// Gives a number a home.
-fn put_home(homes: &mut BTreeMap<u32, Home>, pid: u32, home: Home) -> Result<(), AllocError>
-    ensures is { OnOk result (get nat_cmp homes.new pid ≡ Some home) }
-    ensures others { OnOk result ((q : ℕ) → q ≢ pid → get nat_cmp homes.new q ≡ get nat_cmp homes.old q) }
+/// The place from which on a home counts: 0 for the first of its number.
+fn from_of(homes: &BTreeMap<(u32, u32), Home>, pid: u32, place: u32) -> u32
+    ensures { result ≡ (if is_some (home_at homes.now pid 0) then place else 0) }
 {
-    match homes.insert(pid, home) {
+    if homes.contains_key(&(pid, 0)) {
+        place
+    } else {
+        0
+    }
+}
+
+/// Gives a number a home from a place on.
+fn put_home(
+    homes: &mut BTreeMap<(u32, u32), Home>,
+    key: (u32, u32),
+    home: Home,
+) -> Result<(), AllocError>
+    ensures is { OnOk result (get pair_cmp homes.new key ≡ Some home) }
+    ensures others { OnOk result ((q : ℕ × ℕ) → q ≢ key → get pair_cmp homes.new q ≡ get pair_cmp homes.old q) }
+{
+    match homes.insert(key, home) {
         Ok(_) => Ok(()),
         Err(_) => Err(AllocError),
     }
 }
 
-/// Adds what a link says of the space of the number that it made.
-fn add_home(homes: &mut BTreeMap<u32, Home>, link: Made) -> Result<(), AllocError>
+/// Adds what a link says of the space of the number that it made, behind earlier ones.
+fn add_home(homes: &mut BTreeMap<(u32, u32), Home>, link: Made) -> Result<(), AllocError>
     ensures { OnOk result ((made : List MadeOf) → HasSpaces homes.old made → HasSpaces homes.new (link ∷ made)) }
 {
     let home = Home {
         maker: space_in(homes, link.parent, link.place),
+        place: link.place,
         kind: link.kind,
         exec: link.exec,
     };
-    put_home(homes, link.child, home)
+    let from = from_of(homes, link.child, link.place);
+    put_home(homes, (link.child, from), home)
 }
 
 /// Where all numbers that were made are at home.
-fn all_homes(alloc: Global, made: &[Made]) -> Result<BTreeMap<u32, Home>, AllocError>
+fn all_homes(alloc: Global, made: &[Made]) -> Result<BTreeMap<(u32, u32), Home>, AllocError>
     ensures { IfOk result (λ homes. HasSpaces homes made.now) }
 {
     let mut homes = BTreeMap::new(alloc);
@@ -267,34 +302,40 @@ fn all_homes(alloc: Global, made: &[Made]) -> Result<BTreeMap<u32, Home>, AllocE
     Ok(homes)
 }
 
+/// Up to which place lines of spaces are of the past of a process.
+#[derive(Drop)]
+pub(crate) struct Past {
+    /// Of spaces that lines made, by the places of those.
+    born: BTreeMap<u32, u32>,
+    /// The number that no line made, where the past begins.
+    first: u32,
+    /// Its limit.
+    limit: u32,
+}
+
 /// Puts in up to which place lines of a space are of the past.
-fn put_limit(past: &mut BTreeMap<u32, u32>, first: u32, limit: u32) -> Result<(), AllocError>
-    ensures is { OnOk result (get nat_cmp past.new first ≡ Some limit) }
-    ensures others { OnOk result ((q : ℕ) → q ≢ first → get nat_cmp past.new q ≡ get nat_cmp past.old q) }
+fn put_limit(past: &mut BTreeMap<u32, u32>, place: u32, limit: u32) -> Result<(), AllocError>
+    ensures is { OnOk result (get nat_cmp past.new place ≡ Some limit) }
+    ensures others { OnOk result ((q : ℕ) → q ≢ place → get nat_cmp past.new q ≡ get nat_cmp past.old q) }
 {
-    match past.insert(first, limit) {
+    match past.insert(place, limit) {
         Ok(_) => Ok(()),
         Err(_) => Err(AllocError),
     }
 }
 
 /// Puts in up to which place lines of a space are of the past, where it isn't there yet.
-fn add_past(past: &mut BTreeMap<u32, u32>, first: u32, limit: u32) -> Result<(), AllocError>
-    ensures { OnOk result ((q : ℕ) → get nat_cmp past.new q ≡ or_else (get nat_cmp past.old q) (if first == q then Some limit else None)) }
+fn add_past(past: &mut BTreeMap<u32, u32>, place: u32, limit: u32) -> Result<(), AllocError>
+    ensures { OnOk result ((q : ℕ) → get nat_cmp past.new q ≡ or_else (get nat_cmp past.old q) (if place == q then Some limit else None)) }
 {
-    match past.get(&first) {
+    match past.get(&place) {
         Some(_) => Ok(()),
-        None => put_limit(past, first, limit),
+        None => put_limit(past, place, limit),
     }
 }
 
 /// Of each space of which lines are of the past of a process, the place before which they are.
-fn past_of(
-    alloc: Global,
-    made: &[Made],
-    asked: u32,
-    count: u32,
-) -> Result<BTreeMap<u32, u32>, AllocError>
+fn past_of(alloc: Global, made: &[Made], asked: u32, count: u32) -> Result<Past, AllocError>
     ensures { IfOk result (λ past. IsPast past made.now asked count) }
 {
     let mut past = BTreeMap::new(alloc);
@@ -307,22 +348,44 @@ fn past_of(
             continue;
         }
         if has_left(link.kind, link.exec, limit) {
-            add_past(&mut past, pid, limit)?;
+            add_past(&mut past, link.place, limit)?;
             limit = link.place;
         }
         pid = link.parent;
     }
-    add_past(&mut past, pid, limit)?;
-    Ok(past)
+    Ok(Past {
+        born: past,
+        first: pid,
+        limit,
+    })
+}
+
+impl Past {
+    /// The place before which lines of a space are of the past.
+    fn limit_of(&self, space: Space) -> Option<u32>
+        ensures { result ≡ limit_in self.now space }
+    {
+        if space.made {
+            return match self.born.get(&space.id) {
+                Some(limit) => Some(*limit),
+                None => None,
+            };
+        }
+        if self.first == space.id {
+            Some(self.limit)
+        } else {
+            None
+        }
+    }
 }
 
 /// Which lines are written.
 #[derive(Drop)]
 pub(crate) struct Chooser {
     /// Where the numbers that were made are at home.
-    homes: BTreeMap<u32, Home>,
+    homes: BTreeMap<(u32, u32), Home>,
     /// The past of the process that is asked for; the program's lines are written where none is.
-    past: Option<BTreeMap<u32, u32>>,
+    past: Option<Past>,
 }
 
 impl Chooser {
@@ -338,8 +401,8 @@ impl Chooser {
         let Some(past) = &self.past else {
             return !space.made;
         };
-        match past.get(&space.first) {
-            Some(limit) => place < *limit,
+        match past.limit_of(space) {
+            Some(limit) => place < limit,
             None => false,
         }
     }
@@ -352,7 +415,7 @@ pub(crate) fn chooser_of(
     process: Option<u32>,
     count: u32,
 ) -> Result<Chooser, AllocError>
-    ensures { IfOk result (IsChooser process made.now count) }
+    ensures { IfOk result (λ chooser. AreLatestFirst made.now → IsChooser process made.now count chooser) }
 {
     let homes = all_homes(alloc, made)?;
     let past = match process {
