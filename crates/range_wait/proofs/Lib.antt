@@ -1,0 +1,2 @@
+mod Waited
+mod Opened
