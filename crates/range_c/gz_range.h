@@ -40,11 +40,11 @@
      on the same word. Two readers are in no order to each other, and neither are ranges that don't overlap. This isn't
      proved of your memory: it rests on each step of the library being sequentially consistent, and on a compiler that
      moves no access across a call.
-   - No call sleeps but gz_range_acquire_until, and none takes a lock but in malloc and free. Only gz_range_acquire waits
-     without a bound, by trying again; gz_range_try and gz_range_pause wait a bounded number of turns. Only open,
-     open_cut, share and close call the allocator, and only the first three can fail for want of memory. A table takes 2 to 25 KB for 1 to 16
-     seats, once for each of its lists, twice as much while it is opened, and 8 bytes for each client word; each further
-     handle takes 128 bytes.
+   - No call sleeps but gz_range_acquire and gz_range_acquire_until, and none takes a lock but in malloc and free. Only
+     gz_range_acquire waits without a bound, by trying again; gz_range_try and gz_range_pause wait a bounded number of
+     turns. Only open, open_cut, share and close call the allocator, and only the first three can fail for want of
+     memory. A table takes 2 to 25 KB for 1 to 16 seats, once for each of its lists, twice as much while it is opened,
+     and 8 bytes for each client word; each further handle takes 128 bytes.
 
    What you owe. Nothing checks it:
    - A handle begins as GZ_RANGE_CLOSED, and afterwards only these calls write or copy it.
@@ -52,10 +52,13 @@
    - A handle goes to another thread by a lock, by a thread's start or join, or by a sequentially consistent atomic.
    - A pointer is to a live object of its type that nobody else uses meanwhile. None is null; without client words use
      gz_range_open_plain, and without busy gz_range_try_plain.
-   - No call is made in a signal handler. In the forked child of a process that had threads gz_range_forget alone is
-     called with a handle from before the fork; a table that is opened there is like any other, if malloc may be called
-     there, as glibc allows. No call is left by longjmp or by an asynchronous cancel. Only gz_range_acquire_until is a cancellation point, where it sleeps; the handle
-     holds nothing then.
+   - A signal handler calls gz_range_try with tries 1, in its three forms, gz_range_release, gz_range_held and the four
+     on client words alone, by a handle that nobody else has. These wait for nobody, take no memory and leave errno
+     alone.
+   - In the forked child of a process that had threads gz_range_forget alone is called with a handle from before the
+     fork; a table that is opened there is like any other, if malloc may be called there, as glibc allows.
+   - No call is left by longjmp or by an asynchronous cancel. None is a cancellation point: a thread that is cancelled
+     while it sleeps goes on waiting, as in pthread_mutex_lock, at most until its moment.
    - malloc, realloc and free belong to one allocator, which aligns a block to each power of two up to 16 that divides
      its size.
    - A thread that ends without closing its handle leaves its range held and its seat taken for ever.
@@ -80,8 +83,8 @@
    when a program for the version before may no longer compile, or may mean something else.
    1.1 has gz_range_open_cut, BAD_CUT, gz_range_held, gz_range_pause and the names of the modes; gz_range_end refuses an
    open `next`; what gz_range_try waits between two tries grows; the seat of a closed handle is shared again.
-   1.2 has gz_range_try_counted, 1.3 gz_range_acquire_until, gz_range_forget, gz_range_scan, FULL and
-   gz_range_counts. */
+   1.2 has gz_range_try_counted, 1.3 gz_range_acquire_until, gz_range_acquire_spinning, gz_range_forget, gz_range_scan,
+   FULL and gz_range_counts. */
 #define GZ_RANGE_VERSION 103
 #define GZ_RANGE_VERSION_TEXT "1.3.0"
 
@@ -136,7 +139,7 @@ typedef struct gz_busy {
    try may do better (gz_range_may_retry): BUSY tells of a range in conflict, and the other three of another thread's
    work in the list, so that a caller treats them alike. NO_NODE comes often where there are more threads than
    processors: a thread that loses its processor inside a call keeps the nodes that all others gave back from being
-   ready, until it runs again. More tries don't help then; a sleep between them does (gz_range_acquire_until).
+   ready, until it runs again. More tries don't help then; a sleep between them does (gz_range_acquire).
    The examples meet each answer but AGAIN, LONG and NO_NODE, which need another thread inside a call. */
 typedef enum gz_range_answer {
     GZ_RANGE_DONE = 0,       /* the call did what it is for */
@@ -258,7 +261,7 @@ GZ_RANGE_MUST_CHECK
 gz_range_answer gz_range_try_counted(gz_range *handle, uint64_t lo, uint64_t hi, bool writer, uint32_t tries,
                                      gz_busy *busy, uint32_t *made);
 
-/* Waits as gz_range_acquire does between two tries, for a program with a loop of its own: *turns turns of the
+/* Waits as gz_range_acquire does between its first tries, for a program with a loop of its own: *turns turns of the
    processor's pause, but at least 1,024 and at most 8,192. *turns is 0 at first, and becomes twice what was waited, at
    most 8,192. How long a turn takes depends on the processor; at 4 to 12 ns, as were seen, 8,192 take some 30 to 100
    microseconds. The call doesn't yield the processor.
@@ -436,16 +439,6 @@ static inline gz_range_answer gz_range_try_plain(gz_range *handle, uint64_t lo, 
     return gz_range_try(handle, lo, hi, writer, tries, &busy);
 }
 
-/* Closes a handle: gives back what it holds, and its seat with those that it had left to share, which later shares of
-   the table may take. Closing the last handle of a table frees the table.
-   DONE; IS_CLOSED if it was already closed. The handle is closed after both.
-   The thread that has the handle. */
-GZ_RANGE_NONNULL
-static inline gz_range_answer gz_range_close(gz_range *handle) {
-    gz_range closed = GZ_RANGE_CLOSED;
-    return gz_range_end(handle, closed);
-}
-
 /* Makes a handle closed and leaves its table alone: what it holds stays held, its seat stays taken, and no memory is
    freed. It is for the child after a fork, whose copy of a table other threads may have left in the middle of a call;
    there it opens a table of its own. The example forks.c does it by pthread_atfork.
@@ -482,26 +475,325 @@ static inline void gz_range_count(gz_range_counts *counts, gz_range_answer answe
     if (answer != GZ_RANGE_DONE) __atomic_fetch_add(&counts->refused[answer], 1, __ATOMIC_RELAXED);
 }
 
+/* How callers sleep. All that follows up to gz_range_acquire_spinning is this header's own.
+   A caller that is going to sleep takes one of 64 places, which all tables of the process share: `asleep` has a bit for
+   each that is taken. There it writes its range, and then it tries once more. Refused again, it writes which range was
+   in its way, puts ASLEEP into its word where nobody has put NOTIFIED, and sleeps on that word by futex(2).
+   Who gives a range back looks at `asleep` after that. Either it finds the caller's bit, or the caller counted itself
+   later, and its try comes later still and finds the range given back. Where it finds bits, it puts NOTIFIED into the
+   word of each whose range is in conflict with its own, and which is awake between its count and its sleep, or met the
+   range that is gone, or was left for a later turn (`any`); and it wakes those that slept. Of two that are in conflict
+   with each other it notifies the older one; the other is left for a later turn, unless the older one has gone by then.
+   A caller that is refused once more, or that gives up, passes on its turn so, as its own node may have been in the way
+   of others. What still has nobody who tells of it costs a sleep of 1 to 16 ms and no more, since no sleep is longer: a
+   try that isn't one of gz_range_acquire, and was refused; who was left behind one that another range keeps; a release
+   by the archive's own symbol, as from another language; tables of two shared objects that don't share this symbol; two
+   tables with the same ranges and seats; and a sixty-fifth caller, which sleeps without a place. */
+enum { GZ_RANGE_SLEEP_PLACES = 64, GZ_RANGE_SLEEP_AWAKE = 0, GZ_RANGE_SLEEP_ASLEEP = 1, GZ_RANGE_SLEEP_NOTIFIED = 2 };
+
+/* A place: the range that its caller waits for, and the one that it met when it fell asleep. `age` is 0 while the place
+   is free or not yet written, and of a later caller higher. */
+typedef struct gz_range_sleep_place {
+    uint64_t age, lo, hi, met_lo, met_hi;
+    uint32_t writer, met_by, any, word, process, unused;
+} gz_range_sleep_place;
+
+typedef struct gz_range_sleep_table {
+    uint64_t asleep, ages;
+    gz_range_sleep_place places[GZ_RANGE_SLEEP_PLACES];
+} gz_range_sleep_table;
+
+__attribute__((weak, visibility("default"), aligned(64))) gz_range_sleep_table gz_range_sleepers;
+
+#define GZ_RANGE_SLEEP_LOAD(at) __atomic_load_n(at, __ATOMIC_SEQ_CST)
+#define GZ_RANGE_SLEEP_STORE(at, value) __atomic_store_n(at, value, __ATOMIC_SEQ_CST)
+
+/* Whether a caller is counted: one load. */
+static inline bool gz_range_sleep_any(void) {
+    return __builtin_expect(GZ_RANGE_SLEEP_LOAD(&gz_range_sleepers.asleep) != 0, 0);
+}
+
+/* A system call of Linux. It leaves errno alone, and no declaration of it is hidden by a program's -std=c11. */
+static inline int64_t gz_range_sleep_ask(int64_t call, const void *at, int64_t what, int64_t value,
+                                         const struct timespec *time) {
+    int64_t answer;
+    register const struct timespec *fourth __asm__("r10") = time;
+    register int64_t fifth __asm__("r8") = 0;
+    register int64_t sixth __asm__("r9") = UINT32_MAX;
+    __asm__ volatile("syscall"
+                     : "=a"(answer)
+                     : "0"(call), "D"(at), "S"(what), "d"(value), "r"(fourth), "r"(fifth), "r"(sixth)
+                     : "rcx", "r11", "memory");
+    return answer;
+}
+
+/* The process, by getpid(2). The child of a fork has the places of its parent's callers, and passes over them. */
+static inline uint32_t gz_range_sleep_process(void) { return (uint32_t)gz_range_sleep_ask(39, NULL, 0, 0, NULL); }
+
+/* A range's seat and mode as one number. */
+static inline uint32_t gz_range_sleep_by(const gz_busy *range) { return 2 * range->owner + (range->writer ? 1 : 0); }
+
+static inline bool gz_range_sleep_conflict(const gz_busy *a, const gz_busy *b) {
+    return a->lo < b->hi && b->lo < a->hi && (a->writer || b->writer);
+}
+
+/* Frees a place. */
+static inline void gz_range_sleep_end(unsigned i) {
+    if (i == GZ_RANGE_SLEEP_PLACES) return;
+    GZ_RANGE_SLEEP_STORE(&gz_range_sleepers.places[i].age, 0);
+    __atomic_fetch_and(&gz_range_sleepers.asleep, ~(UINT64_C(1) << i), __ATOMIC_SEQ_CST);
+}
+
+/* Notifies callers after `gone`, or where it is null any range, was given back or withdrawn; `own` is the place of the
+   one that tells, if it has one.
+   Those in conflict with `in_way`, which a caller met that passes on its turn, are left for that one's release. */
+__attribute__((noinline, unused)) static void gz_range_sleep_wake(const gz_busy *gone, const gz_busy *in_way,
+                                                                  unsigned own) {
+    const gz_busy unknown = { 0, UINT64_MAX, UINT32_MAX, true };
+    gz_busy ranges[GZ_RANGE_SLEEP_PLACES];
+    uint64_t ages[GZ_RANGE_SLEEP_PLACES], left = 0, notified = 0;
+    if (!gone) gone = &unknown;
+    const uint32_t process = gz_range_sleep_process();
+    for (uint64_t rest = GZ_RANGE_SLEEP_LOAD(&gz_range_sleepers.asleep); rest; rest &= rest - 1) {
+        const unsigned i = (unsigned)__builtin_ctzll(rest);
+        gz_range_sleep_place *place = &gz_range_sleepers.places[i];
+        ages[i] = GZ_RANGE_SLEEP_LOAD(&place->age);
+        if (i == own || ages[i] == 0) continue;
+        uint32_t its = GZ_RANGE_SLEEP_LOAD(&place->process);
+        if (its != process) {
+            /* Of the parent. The one thread that finds its number there frees the place. */
+            if (its && __atomic_compare_exchange_n(&place->process, &its, 0, false, __ATOMIC_SEQ_CST, __ATOMIC_SEQ_CST))
+                gz_range_sleep_end(i);
+            continue;
+        }
+        const bool awake = GZ_RANGE_SLEEP_LOAD(&place->word) != GZ_RANGE_SLEEP_ASLEEP;
+        ranges[i].lo = GZ_RANGE_SLEEP_LOAD(&place->lo);
+        ranges[i].hi = GZ_RANGE_SLEEP_LOAD(&place->hi);
+        ranges[i].writer = GZ_RANGE_SLEEP_LOAD(&place->writer) != 0;
+        if (!gz_range_sleep_conflict(&ranges[i], gone)) continue;
+        if (!awake && !GZ_RANGE_SLEEP_LOAD(&place->any) && gone->owner != UINT32_MAX &&
+            (GZ_RANGE_SLEEP_LOAD(&place->met_lo) != gone->lo || GZ_RANGE_SLEEP_LOAD(&place->met_hi) != gone->hi ||
+             GZ_RANGE_SLEEP_LOAD(&place->met_by) != gz_range_sleep_by(gone)))
+            continue;
+        left |= UINT64_C(1) << i;
+    }
+    while (left) {
+        unsigned i = (unsigned)__builtin_ctzll(left);
+        for (uint64_t rest = left; rest; rest &= rest - 1)
+            if (ages[__builtin_ctzll(rest)] < ages[i]) i = (unsigned)__builtin_ctzll(rest);
+        gz_range_sleep_place *place = &gz_range_sleepers.places[i];
+        left &= ~(UINT64_C(1) << i);
+        bool later = in_way && gz_range_sleep_conflict(&ranges[i], in_way);
+        if (later) GZ_RANGE_SLEEP_STORE(&place->any, 1);
+        for (uint64_t rest = notified; rest && !later; rest &= rest - 1) {
+            const unsigned older = (unsigned)__builtin_ctzll(rest);
+            if (!gz_range_sleep_conflict(&ranges[i], &ranges[older])) continue;
+            GZ_RANGE_SLEEP_STORE(&place->any, 1);
+            later = GZ_RANGE_SLEEP_LOAD(&gz_range_sleepers.places[older].age) == ages[older];
+        }
+        if (later) continue;
+        notified |= UINT64_C(1) << i;
+        if (__atomic_exchange_n(&place->word, GZ_RANGE_SLEEP_NOTIFIED, __ATOMIC_SEQ_CST) == GZ_RANGE_SLEEP_ASLEEP)
+            gz_range_sleep_ask(202, &place->word, 129, 1, NULL); /* futex(2), FUTEX_WAKE_PRIVATE */
+    }
+}
+
+/* Takes a place for a caller, or GZ_RANGE_SLEEP_PLACES where none is free. */
+static inline unsigned gz_range_sleep_begin(const gz_busy *wanted) {
+    uint64_t taken = GZ_RANGE_SLEEP_LOAD(&gz_range_sleepers.asleep), bit;
+    do {
+        if (!~taken) return GZ_RANGE_SLEEP_PLACES;
+        bit = ~taken & (taken + 1);
+    } while (!__atomic_compare_exchange_n(&gz_range_sleepers.asleep, &taken, taken | bit, true, __ATOMIC_SEQ_CST,
+                                          __ATOMIC_SEQ_CST));
+    const unsigned i = (unsigned)__builtin_ctzll(bit);
+    gz_range_sleep_place *place = &gz_range_sleepers.places[i];
+    GZ_RANGE_SLEEP_STORE(&place->lo, wanted->lo);
+    GZ_RANGE_SLEEP_STORE(&place->hi, wanted->hi);
+    GZ_RANGE_SLEEP_STORE(&place->writer, wanted->writer);
+    GZ_RANGE_SLEEP_STORE(&place->process, gz_range_sleep_process());
+    GZ_RANGE_SLEEP_STORE(&place->age, __atomic_add_fetch(&gz_range_sleepers.ages, 1, __ATOMIC_SEQ_CST));
+    return i;
+}
+
+/* Sleeps at a place, for so many nanoseconds at most, and not past the moment, unless it was notified since its last
+   try. After BUSY, `met` was in the way. Whether it slept to the end. */
+static inline bool gz_range_sleep_at(unsigned i, gz_range_answer answer, const gz_busy *met, int64_t most,
+                                     const struct timespec *moment, gz_range_counts *counts) {
+    gz_range_sleep_place alone = { 0, 0, 0, 0, 0, 0, 0, 0, 0, 0, 0 };
+    gz_range_sleep_place *place = i == GZ_RANGE_SLEEP_PLACES ? &alone : &gz_range_sleepers.places[i];
+    uint32_t word = GZ_RANGE_SLEEP_AWAKE;
+    GZ_RANGE_SLEEP_STORE(&place->met_lo, met->lo);
+    GZ_RANGE_SLEEP_STORE(&place->met_hi, met->hi);
+    GZ_RANGE_SLEEP_STORE(&place->met_by, gz_range_sleep_by(met));
+    if (answer != GZ_RANGE_BUSY) GZ_RANGE_SLEEP_STORE(&place->any, 1);
+    if (!__atomic_compare_exchange_n(&place->word, &word, GZ_RANGE_SLEEP_ASLEEP, false, __ATOMIC_SEQ_CST,
+                                     __ATOMIC_SEQ_CST))
+        return false;
+    if (counts) __atomic_fetch_add(&counts->sleeps, 1, __ATOMIC_RELAXED);
+    const struct timespec time = { 0, (long)most };
+    /* futex(2): FUTEX_WAIT_PRIVATE takes a time, FUTEX_WAIT_BITSET_PRIVATE a moment of CLOCK_MONOTONIC. ETIMEDOUT. */
+    return gz_range_sleep_ask(202, &place->word, moment ? 137 : 128, GZ_RANGE_SLEEP_ASLEEP,
+                              moment ? moment : &time) == -110;
+}
+
+/* The nanoseconds until a moment of CLOCK_MONOTONIC: 0 or below when it has passed, and 10^9 if it is far or null. A
+   program that is compiled for ISO C alone, as by -std=c11, has no CLOCK_MONOTONIC unless _POSIX_C_SOURCE is 199309L or
+   above. */
+static inline int64_t gz_range_left(const struct timespec *moment) {
+    const int64_t second = 1000000000;
+#ifdef CLOCK_MONOTONIC
+    struct timespec now;
+    if (moment) {
+        clock_gettime(CLOCK_MONOTONIC, &now);
+        if (moment->tv_sec < now.tv_sec) return 0;
+        if (moment->tv_sec <= now.tv_sec + 1)
+            return (moment->tv_sec - now.tv_sec) * second + moment->tv_nsec - now.tv_nsec;
+    }
+#else
+    (void)moment;
+#endif
+    return second;
+}
+
+/* One try of a caller that may have a place, where it is awake from then on. */
+GZ_RANGE_FIRST
+static inline gz_range_answer gz_range_sleep_try(gz_range *handle, const gz_busy *wanted, unsigned i,
+                                                 gz_range_counts *counts, gz_busy *met) {
+    if (i != GZ_RANGE_SLEEP_PLACES) {
+        GZ_RANGE_SLEEP_STORE(&gz_range_sleepers.places[i].any, 0);
+        GZ_RANGE_SLEEP_STORE(&gz_range_sleepers.places[i].word, GZ_RANGE_SLEEP_AWAKE);
+    }
+    const gz_range_answer answer = gz_range_try(handle, wanted->lo, wanted->hi, wanted->writer, 1, met);
+    gz_range_count(counts, answer);
+    return answer;
+}
+
+/* Goes on after a first try that was answered so. */
+__attribute__((noinline, unused)) static gz_range_answer gz_range_sleep_on(gz_range *handle, gz_busy *own,
+                                                                           const struct timespec *moment,
+                                                                           gz_range_counts *counts, gz_busy *met,
+                                                                           gz_range_answer answer) {
+    const int64_t longest = 16000000, longest_alone = 1000000;
+    int64_t most = 1000000, alone = 50000;
+    gz_busy before = { 0, 0, 0, false };
+    unsigned place = GZ_RANGE_SLEEP_PLACES;
+    uint32_t turns = 0, refused = 0, same = 0;
+    bool counted = false;
+    for (;; answer = gz_range_sleep_try(handle, own, place, counts, met)) {
+        const bool busy = answer == GZ_RANGE_BUSY;
+        const int64_t left = gz_range_may_retry(answer) ? gz_range_left(moment) : 0;
+        if (left <= 0) {
+            gz_range_sleep_end(place);
+            if (counted && answer != GZ_RANGE_DONE && gz_range_sleep_any())
+                gz_range_sleep_wake(own, busy ? met : NULL, GZ_RANGE_SLEEP_PLACES);
+            return answer;
+        }
+        if (answer == GZ_RANGE_AGAIN) continue;
+        if (counted) {
+            if (gz_range_sleep_any()) gz_range_sleep_wake(own, busy ? met : NULL, place);
+            const bool told = busy && place != GZ_RANGE_SLEEP_PLACES;
+            int64_t *time = told ? &most : &alone;
+            const int64_t end = told ? longest : longest_alone;
+            if (gz_range_sleep_at(place, answer, met, *time, left < *time ? moment : NULL, counts))
+                *time = 2 * *time < end ? 2 * *time : end;
+            continue;
+        }
+        const bool stays = busy && met->owner == before.owner && met->lo == before.lo && met->hi == before.hi;
+        before = *met;
+        same = stays ? same + 1 : 1;
+        if (same == 4 || ++refused == 8) {
+            gz_busy held;
+            counted = true;
+            (void)gz_range_held(handle, &held); /* for the number of the seat */
+            own->owner = held.owner;
+            place = gz_range_sleep_begin(own);
+            continue;
+        }
+        if (counts) __atomic_fetch_add(&counts->waits, 1, __ATOMIC_RELAXED);
+        (void)gz_range_pause(&turns);
+    }
+}
+
+/* What gz_range_acquire_until does, and after BUSY *met is the range that was in the way. */
+GZ_RANGE_FIRST
+static inline gz_range_answer gz_range_sleep_until(gz_range *handle, uint64_t lo, uint64_t hi, bool writer,
+                                                   const struct timespec *moment, gz_range_counts *counts,
+                                                   gz_busy *met) {
+    gz_busy own = { lo, hi, 0, writer };
+    const gz_range_answer answer = gz_range_try(handle, lo, hi, writer, 1, met);
+    gz_range_count(counts, answer);
+    if (!gz_range_may_retry(answer)) return answer;
+    return gz_range_sleep_on(handle, &own, moment, counts, met, answer);
+}
+
+/* What a release and an end do: they take note of what the handle holds where somebody is counted, and look again when
+   that is given back. Where nobody is these are two loads of one word. */
+#define GZ_RANGE_SLEEP_GIVE_BACK(handle, call)                                                                      \
+    gz_busy gone;                                                                                                   \
+    gz_range_answer looked = GZ_RANGE_OTHER;                                                                        \
+    if (gz_range_sleep_any()) looked = gz_range_held(handle, &gone);                                                \
+    const gz_range_answer answer = call;                                                                            \
+    if (gz_range_sleep_any() && (looked == GZ_RANGE_DONE || looked == GZ_RANGE_OTHER))                              \
+        gz_range_sleep_wake(looked == GZ_RANGE_DONE ? &gone : NULL, NULL, GZ_RANGE_SLEEP_PLACES);                   \
+    return answer
+
+GZ_RANGE_NONNULL
+static inline gz_range_answer gz_range_sleep_release(gz_range *handle) {
+    GZ_RANGE_SLEEP_GIVE_BACK(handle, gz_range_release(handle));
+}
+
+GZ_RANGE_NONNULL
+static inline gz_range_answer gz_range_sleep_close(gz_range *handle, gz_range next) {
+    GZ_RANGE_SLEEP_GIVE_BACK(handle, gz_range_end(handle, next));
+}
+
+#undef gz_range_release
+#undef gz_range_end
+#define gz_range_release gz_range_sleep_release
+#define gz_range_end gz_range_sleep_close
+
+/* Closes a handle: gives back what it holds, and its seat with those that it had left to share, which later shares of
+   the table may take. Closing the last handle of a table frees the table.
+   DONE; IS_CLOSED if it was already closed. The handle is closed after both.
+   The thread that has the handle. */
+GZ_RANGE_NONNULL
+static inline gz_range_answer gz_range_close(gz_range *handle) {
+    gz_range closed = GZ_RANGE_CLOSED;
+    return gz_range_end(handle, closed);
+}
+
 /* Holds a range, however long that takes, as pthread_mutex_lock does. It tries once. After BUSY, LONG or NO_NODE it
-   waits and tries again: 1,024 turns of gz_range_pause at first, then twice as many each time, up to 8,192; after each
-   wait of 8,192 it lets other threads run. After AGAIN it tries again at once. So a range that is given back may be
-   free for as long as a wait before a waiting thread takes it.
-   Nothing is claimed of when it returns, or of any order among those that wait. In a table of several regions callers
-   of ranges in one region may keep out one that asks for a range in several, for as long as they come. Measured for ten
-   seconds with threads that take one range of 256 slots again and again, 60 in 100 as readers, on four processors
-   (bench/figures.d/peers_tables.md of the repository): four threads had 0.90 million turns a second, a mean wait of 3.3
-   microseconds and a longest one of 4.4 ms; over a table of regions 0.80, 3.8 and 5.3; under a pthread_mutex 0.53, 4.8
-   and 5.4. Of sixteen threads the longest wait in three rounds of 80 ms was 12, 9.3 and 15 ms. Longer runs may have
-   longer waits.
-   It uses its processor as long as it waits, and under SCHED_FIFO, where sched_yield gives nothing to threads of lower
-   priority, it may try for ever. gz_range_acquire_until sleeps between its tries; the example waiting.c sleeps until
-   another thread gives a range back.
+   waits as long as gz_range_pause does, and tries again; after AGAIN at once. Refused four times running by the same
+   range, or eight times in all, it counts itself, tries once more and sleeps, until the range that was in its way is
+   given back; then it tries again. No sleep is longer than 16 ms, and after LONG or NO_NODE a millisecond, so
+   that it tries again where nobody tells it. A signal ends a sleep, and then it tries again too. So it leaves its
+   processor to others, also to threads of a lower priority under SCHED_FIFO.
+   Nothing is claimed of when it returns, or of any order among those that wait: who comes at the right moment is first,
+   and callers of narrow ranges may keep out one of a wide range for as long as they come.
    counts is null, or what this call met is added to it.
    DONE; IS_CLOSED, HAS_ONE or BAD_RANGE at once, with the handle as it was.
-   The thread that has the handle. */
+   The thread that has the handle. It isn't a cancellation point. */
 GZ_RANGE_FIRST
 static inline gz_range_answer gz_range_acquire_counted(gz_range *handle, uint64_t lo, uint64_t hi, bool writer,
                                                        gz_range_counts *counts) {
+    gz_busy met;
+    return gz_range_sleep_until(handle, lo, hi, writer, NULL, counts, &met);
+}
+
+/* The same, and nothing is counted. */
+GZ_RANGE_MUST_CHECK
+static inline gz_range_answer gz_range_acquire(gz_range *handle, uint64_t lo, uint64_t hi, bool writer) {
+    return gz_range_acquire_counted(handle, lo, hi, writer, NULL);
+}
+
+/* The same without sleep, where ranges are held so shortly that a sleep costs more than it saves: 1,024 turns of
+   gz_range_pause at first, then twice as many each time, up to 8,192; after each wait of 8,192 it lets other threads
+   run by sched_yield. It uses its processor as long as it waits, and under SCHED_FIFO, where sched_yield gives nothing
+   to threads of lower priority, it may try for ever. A table may have callers of both kinds. */
+GZ_RANGE_FIRST
+static inline gz_range_answer gz_range_acquire_spinning(gz_range *handle, uint64_t lo, uint64_t hi, bool writer,
+                                                        gz_range_counts *counts) {
     uint32_t turns = 0;
     for (;;) {
         gz_range_answer answer = gz_range_try_plain(handle, lo, hi, writer, 1);
@@ -513,56 +805,18 @@ static inline gz_range_answer gz_range_acquire_counted(gz_range *handle, uint64_
     }
 }
 
-/* The same, and nothing is counted. */
-GZ_RANGE_MUST_CHECK
-static inline gz_range_answer gz_range_acquire(gz_range *handle, uint64_t lo, uint64_t hi, bool writer) {
-    return gz_range_acquire_counted(handle, lo, hi, writer, NULL);
-}
-
-/* A program that is compiled for ISO C alone, as by -std=c11, has no CLOCK_MONOTONIC unless _POSIX_C_SOURCE is 199309L
-   or above, and then none of these three. */
 #ifdef CLOCK_MONOTONIC
-/* The nanoseconds until a moment of CLOCK_MONOTONIC: 0 or below when it has passed, and 10^9 if it is far. */
-static inline int64_t gz_range_left(const struct timespec *moment) {
-    const int64_t second = 1000000000;
-    struct timespec now;
-    clock_gettime(CLOCK_MONOTONIC, &now);
-    if (moment->tv_sec < now.tv_sec) return 0;
-    if (moment->tv_sec > now.tv_sec + 1) return second;
-    return (moment->tv_sec - now.tv_sec) * second + moment->tv_nsec - now.tv_nsec;
-}
-
-/* Holds a range as gz_range_acquire does, but gives up when a moment of CLOCK_MONOTONIC has passed, and sleeps after its
-   first waits, so that it leaves the processor to others, also under SCHED_FIFO. It tries at least once: with a moment
-   in the past it is one try. After a try that is refused it looks at the clock. Then it waits by gz_range_pause, and
-   after the first wait of 8,192 turns it sleeps instead: 50 microseconds, then twice as long each time, at most a
-   millisecond, and never past the moment. A signal ends a sleep, and then it tries again. So a range that is given back
-   may be free for a millisecond before a waiting thread takes it.
+/* Holds a range as gz_range_acquire does, but gives up when a moment of CLOCK_MONOTONIC has passed, and sleeps no
+   longer. It tries at least once: with a moment in the past it is one try. After a try that is refused it looks at the
+   clock.
    DONE; IS_CLOSED, HAS_ONE or BAD_RANGE at once, with the handle as it was; or BUSY, AGAIN, LONG or NO_NODE when the
    moment has passed: why the last try was refused, with nothing held. counts as with gz_range_acquire_counted.
-   The thread that has the handle. */
+   The thread that has the handle. It isn't a cancellation point. */
 GZ_RANGE_FIRST
 static inline gz_range_answer gz_range_acquire_until_counted(gz_range *handle, uint64_t lo, uint64_t hi, bool writer,
                                                              const struct timespec *moment, gz_range_counts *counts) {
-    const int64_t shortest = 50000, longest = 1000000;
-    uint32_t turns = 0;
-    int64_t sleep = 0;
-    for (;;) {
-        gz_range_answer answer = gz_range_try_plain(handle, lo, hi, writer, 1);
-        gz_range_count(counts, answer);
-        int64_t left = gz_range_may_retry(answer) ? gz_range_left(moment) : 0;
-        if (left <= 0) return answer;
-        if (answer == GZ_RANGE_AGAIN) continue;
-        if (sleep > 0) {
-            struct timespec time = { 0, (long)(left < sleep ? left : sleep) };
-            if (counts) __atomic_fetch_add(&counts->sleeps, 1, __ATOMIC_RELAXED);
-            nanosleep(&time, NULL);
-            sleep = 2 * sleep < longest ? 2 * sleep : longest;
-        } else {
-            if (counts) __atomic_fetch_add(&counts->waits, 1, __ATOMIC_RELAXED);
-            if (gz_range_pause(&turns)) sleep = shortest;
-        }
-    }
+    gz_busy met;
+    return gz_range_sleep_until(handle, lo, hi, writer, moment, counts, &met);
 }
 
 /* The same, and nothing is counted. */

@@ -28,9 +28,9 @@
      seat may outlive its table, and a range may stay where it is while its seat moves.
    - To read a result that was refused ends the program by abort.
 
-   What you owe, as in C: a seat and the range that it holds are used by one thread at a time, and so is a table; no call
-   is made in a signal handler, and in the forked child of a process that had threads none but forget() with what is from
-   before the fork.
+   What you owe, as in C: a seat and the range that it holds are used by one thread at a time, and so is a table; a
+   signal handler makes no call, since C alone says which it may; in the forked child of a process that had threads none
+   but forget() is made with what is from before the fork.
 
    The calls of the archive are proved; this header isn't. */
 #ifndef GZ_RANGE_HPP
@@ -47,7 +47,6 @@
 #include <cstdlib>
 #include <new>
 #include <optional>
-#include <thread>
 #include <utility>
 
 #ifdef __cpp_exceptions
@@ -191,12 +190,14 @@ using read_range = held_range<false>;
 class seat {
   public:
     seat() noexcept = default;
-    seat(seat &&from) noexcept : place_(std::exchange(from.place_, nullptr)), counts_(from.counts_) {}
+    seat(seat &&from) noexcept
+        : place_(std::exchange(from.place_, nullptr)), counts_(from.counts_), spinning_(from.spinning_) {}
     seat &operator=(seat &&from) noexcept {
         if (this != &from) {
             close();
             place_ = std::exchange(from.place_, nullptr);
             counts_ = from.counts_;
+            spinning_ = from.spinning_;
         }
         return *this;
     }
@@ -220,14 +221,14 @@ class seat {
         return try_hold<false>(lo, hi, tries, made);
     }
 
-    /* Each holds them however long that takes: gz_range_acquire. In a table of several regions, callers of ranges in
-       one region may keep out a caller of a range in several, for as long as they come. */
+    /* Each holds them however long that takes, asleep after its first tries: gz_range_acquire. Callers of narrow ranges
+       may keep out a caller of a wide one for as long as they come. */
     result<write_range> write(uint64_t lo, uint64_t hi) noexcept { return hold<true>(lo, hi); }
     result<read_range> read(uint64_t lo, uint64_t hi) noexcept { return hold<false>(lo, hi); }
 
     /* The same, for so long at most, or until a moment, as try_lock_for and try_lock_until of std::timed_mutex. Each
-       tries at least once. Between two tries it waits as gz_range_acquire_until does, also asleep. Where the time is
-       over the error says why the last try was refused. */
+       tries at least once, and waits as gz_range_acquire_until does. Where the time is over the error says why the
+       last try was refused. */
     template <class Rep, class Period>
     result<write_range> try_write_for(uint64_t lo, uint64_t hi, const std::chrono::duration<Rep, Period> &time) {
         return hold_until<true>(lo, hi, std::chrono::steady_clock::now() + time);
@@ -263,6 +264,9 @@ class seat {
     /* From now on what the seat's calls for a range meet is added to this, or to nothing: gz_range_counts. It has to be
        there as long as the seat is. */
     void count_in(gz_range_counts *counts) noexcept { counts_ = counts; }
+
+    /* From now on write and read don't sleep, or do again: gz_range_acquire_spinning. */
+    void set_spinning(bool spinning) noexcept { spinning_ = spinning; }
 
     /* One more seat of the same table, where one is free: gz_range_share. */
     result<seat> share() noexcept {
@@ -338,38 +342,37 @@ class seat {
 
     template <bool Writes> result<held_range<Writes>> hold(uint64_t lo, uint64_t hi) noexcept {
         if (!place_) return GZ_RANGE_IS_CLOSED;
-        gz_range_answer answer = gz_range_acquire_counted(&place_->handle, lo, hi, Writes, counts_);
+        gz_range_answer answer = spinning_ ? gz_range_acquire_spinning(&place_->handle, lo, hi, Writes, counts_)
+                                           : gz_range_acquire_counted(&place_->handle, lo, hi, Writes, counts_);
         if (answer != GZ_RANGE_DONE) return answer;
         return held_range<Writes>(place_, lo, hi);
     }
 
+    /* Of another clock than the steady one it asks again where that one's time is over, since the other may be set. */
     template <bool Writes, class Clock, class Time>
     result<held_range<Writes>> hold_until(uint64_t lo, uint64_t hi,
                                           const std::chrono::time_point<Clock, Time> &moment) {
-        using std::chrono::microseconds;
-        uint32_t turns = 0;
-        microseconds sleep(0);
+        using steady = std::chrono::steady_clock;
+        using std::chrono::nanoseconds;
+        if (!place_) return GZ_RANGE_IS_CLOSED;
         for (;;) {
-            auto held = try_hold<Writes>(lo, hi, 1);
-            gz_range_count(counts_, held.answer());
-            if (held || !held.error().may_retry()) return held;
+            const nanoseconds longest = std::chrono::hours(1);
             auto left = moment - Clock::now();
-            if (left <= left.zero()) return held;
-            if (held.answer() == GZ_RANGE_AGAIN) continue;
-            if (sleep > sleep.zero()) {
-                if (counts_) __atomic_fetch_add(&counts_->sleeps, 1, __ATOMIC_RELAXED);
-                if (left < sleep) std::this_thread::sleep_for(left);
-                else std::this_thread::sleep_for(sleep);
-                sleep = sleep < microseconds(500) ? 2 * sleep : microseconds(1000);
-            } else {
-                if (counts_) __atomic_fetch_add(&counts_->waits, 1, __ATOMIC_RELAXED);
-                if (gz_range_pause(&turns)) sleep = microseconds(50);
-            }
+            nanoseconds time(0);
+            if (left >= longest) time = longest;
+            else if (left > left.zero()) time = std::chrono::duration_cast<nanoseconds>(left);
+            const int64_t until = nanoseconds(steady::now().time_since_epoch() + time).count();
+            const timespec end = { static_cast<time_t>(until / 1000000000), static_cast<long>(until % 1000000000) };
+            refusal why;
+            why.answer = gz_range_sleep_until(&place_->handle, lo, hi, Writes, &end, counts_, &why.busy);
+            if (why.answer == GZ_RANGE_DONE) return held_range<Writes>(place_, lo, hi);
+            if (!why.may_retry() || moment <= Clock::now()) return why;
         }
     }
 
     detail::place *place_ = nullptr;
     gz_range_counts *counts_ = nullptr;
+    bool spinning_ = false;
 };
 
 /* One range of a seat as std's locks take it, Lockable and TimedLockable: unique_lock, scoped_lock, lock_guard and

@@ -48,10 +48,10 @@
    - What a thread wrote before it gave pages back, or before a call that isn't held, is seen by each thread whose later
      call takes one of these pages, unless both are faults that aren't alone. This isn't proved of your memory: it rests
      on each step of the library being sequentially consistent, and on a compiler that moves no access across a call.
-   - No call sleeps, and none takes a lock but in malloc and free. The calls that are written in this header wait
-     without a bound, by trying again; the three that try once pause a bounded number of turns. That a call which waits
-     ever returns isn't claimed. Only open, share and close call the allocator, and only the first two can
-     fail for want of memory.
+   - None takes a lock but in malloc and free. The calls that are written in this header wait without a bound, by trying
+     again, and sleep between two tries; those that try once pause a bounded number of turns. That a call which waits
+     ever returns isn't claimed. Only open, share and close call the allocator, and only the first two can fail for want
+     of memory.
    - A space takes some 2.1 MB, written at its opening, and each caller 1 MB that is reserved and mostly not touched;
      for a moment the opening takes some 8.4 MB. It is that much at once since no call may fail later for want of
      memory: a call is refused with ENOMEM exactly where it would leave more than 131,061 rows, so there is room for all
@@ -75,10 +75,10 @@
 #ifndef GZ_SPACE_H
 #define GZ_SPACE_H
 
-#include <sched.h>
 #include <stdbool.h>
 #include <stddef.h>
 #include <stdint.h>
+#include <time.h>
 
 #ifndef __x86_64__
 #error "gz_space.h: the address space's archive is for x86-64"
@@ -355,10 +355,10 @@ gz_space_answer gz_space_done(gz_space *handle);
 GZ_SPACE_NONNULL
 gz_space_answer gz_space_held(const gz_space *handle, gz_space_range *held);
 
-/* Waits as the calls below do between two tries, for a program with a loop of its own: *turns turns of the processor's
-   pause, but at least 1,024 and at most 8,192. *turns is 0 at first, and becomes twice what was waited, at most 8,192.
-   The call doesn't yield the processor.
-   true if this wait was one of 8,192 turns: then let other threads run, by sched_yield or a sleep.
+/* Waits as the calls below do between their first tries, for a program with a loop of its own: *turns turns of the
+   processor's pause, but at least 1,024 and at most 8,192. *turns is 0 at first, and becomes twice what was waited, at
+   most 8,192. The call doesn't yield the processor.
+   true if this wait was one of 8,192 turns: then let other threads run, by a sleep.
    Any thread. */
 GZ_SPACE_NONNULL
 bool gz_space_pause(uint32_t *turns);
@@ -473,17 +473,28 @@ static inline gz_space_answer gz_space_close(gz_space *handle) {
 GZ_SPACE_NONNULL
 static inline bool gz_space_is_open(const gz_space *handle) { return handle->opened != 0; }
 
-/* What stands between two tries: after LATER a wait of 1,024 turns of gz_space_pause at first, then twice as many each
-   time, up to 8,192; after each wait of 8,192 other threads may run. After AT_ONCE nothing. false where the call isn't
-   to be tried again. */
+/* Sleeps 100 microseconds, by nanosleep(2), which a signal ends. It leaves errno alone, is no cancellation point, and
+   no declaration of it is hidden by a program's -std=c11. */
+static inline void gz_space_nap(void) {
+    const struct timespec time = { 0, 100000 };
+    long answer;
+    __asm__ volatile("syscall" : "=a"(answer) : "0"(35L), "D"(&time), "S"(NULL) : "rcx", "r11", "memory");
+    (void)answer;
+}
+
+/* What stands between two tries: after LATER waits of 1,024, 2,048 and 4,096 turns of gz_space_pause, and then sleeps
+   of 100 microseconds. After AT_ONCE nothing. false where the call isn't to be tried again. */
 static inline bool gz_space_again(gz_space_answer answer, uint32_t *turns) {
-    if (answer == GZ_SPACE_LATER && gz_space_pause(turns)) sched_yield();
+    if (answer == GZ_SPACE_LATER) {
+        if (*turns < 8192) (void)gz_space_pause(turns);
+        else gz_space_nap();
+    }
     return answer == GZ_SPACE_LATER || answer == GZ_SPACE_AT_ONCE;
 }
 
 /* Makes a call other than a fault, however long that takes: gz_space_try until it is DONE. The calls below are this
-   one, each with its arguments. It uses its processor as long as it waits, and under SCHED_FIFO, where sched_yield
-   gives nothing to threads of lower priority, it may try for ever.
+   one, each with its arguments. After three waits it sleeps between two tries, 100 microseconds at a time, so that it
+   leaves its processor to others, also to threads of a lower priority under SCHED_FIFO.
    DONE; IS_CLOSED, BAD_CALL, HOLDS or SPENT at once, with the handle as it was.
    The thread that has the handle. */
 GZ_SPACE_MUST_CHECK

@@ -222,9 +222,9 @@ static void counts_of(gz_range *a, gz_range *b) {
     moment.tv_sec += moment.tv_nsec >= 998000000;
     moment.tv_nsec = (moment.tv_nsec + 2000000) % 1000000000;
     says("another's, for 2 ms", gz_range_acquire_until_counted(b, 3, 4, GZ_RANGE_WRITER, &moment, &counts));
-    printf("    each try but the first refused: %s; a wait or a sleep between two: %s\n",
+    printf("    each try but the first refused: %s; a wait or a sleep between two, but once: %s\n",
            counts.tries == counts.refused[GZ_RANGE_BUSY] + 1 ? "yes" : "no",
-           counts.tries == counts.waits + counts.sleeps + 3 ? "yes" : "no");
+           counts.tries - counts.waits - counts.sleeps - 3 <= 1 ? "yes" : "no");
     says("release", gz_range_release(a));
 }
 

@@ -1,25 +1,33 @@
-/* Two ways to wait for a range without using a processor meanwhile. gz_range_acquire tries again and again, at most
-   some 100 microseconds apart; that is quickest where ranges are held shortly, and wrong where a thread may wait long,
-   or runs under SCHED_FIFO, where sched_yield gives nothing to threads of lower priority.
+/* How callers wait: asleep after their first tries, until the range in their way is given back or a moment has passed.
+   Each case is a sentence of gz_range.h: deadlines, signals during a sleep, a cancel from without, a signal handler
+   that has a handle of its own, a fork while threads sleep, a waiter of a higher SCHED_FIFO priority than the holder's
+   on one processor, and many turns of sixteen threads under a watchdog.
 
-   - gz_range_acquire_until sleeps between its tries, longer each time, and gives up at a moment.
-   - A `door` is a mutex with a condition variable, beside the table. enter sleeps until another thread gives a range
-     back by leave. While threads wait so, each range of the table is taken by enter and given back by leave.
+       waiting [TURNS]
 
-   A client word can't be slept on, as C has no address of it; the door's own counter is what a futex would be put on.
-   What is printed is the same whatever the threads' schedule is. */
+   A thread makes so many turns in the last case, 1,000 if none is named. The program ends itself where it takes longer
+   than 100 seconds and 10 more for each 10,000 of these. It prints the same whatever the threads' schedule is. */
 #define _GNU_SOURCE
 #include "gz_range.h"
 
+#include <errno.h>
 #include <pthread.h>
-#include <stdatomic.h>
+#include <sched.h>
+#include <signal.h>
 #include <stdio.h>
 #include <stdlib.h>
-#include <time.h>
+#include <string.h>
+#include <sys/time.h>
+#include <sys/wait.h>
+#include <unistd.h>
 
-enum { WAITING = 3, TURNS = 3000, CELLS = 8, MILLI = 1000000 };
+enum { SEATS = 16, CELLS = 64, MILLI = 1000000 };
 
-/* A time of CLOCK_MONOTONIC, in nanoseconds. */
+static gz_range handles[SEATS]; /* all 0, so each handle is closed */
+static uint64_t cells[CELLS];
+static unsigned long turns = 1000;
+
+/* A time of a clock, in nanoseconds. */
 static long long now(clockid_t clock) {
     struct timespec t;
     clock_gettime(clock, &t);
@@ -30,90 +38,17 @@ static struct timespec time_of(long long nanoseconds) {
     return (struct timespec){ nanoseconds / 1000000000, nanoseconds % 1000000000 };
 }
 
-/* How many tries to make before a sleep. They wait some 40 microseconds in all, less than a sleep costs. */
-enum { TRIES = 3 };
-
-/* What threads sleep at. `waiting` counts those that are in enter with its mutex, or sleep there. */
-typedef struct door {
-    pthread_mutex_t mutex;
-    pthread_cond_t opened;
-    atomic_uint waiting;
-} door;
-
-static door entrance = { .mutex = PTHREAD_MUTEX_INITIALIZER };
-
-/* Sleeps until the door is told to open; at most a fifth of a millisecond where nobody will tell it. */
-static void sleep_at(door *door, bool told) {
-    if (told) {
-        pthread_cond_wait(&door->opened, &door->mutex);
-        return;
-    }
-    struct timespec soon = time_of(now(CLOCK_MONOTONIC) + MILLI / 5);
-    pthread_cond_timedwait(&door->opened, &door->mutex, &soon);
+/* Sleeps so many milliseconds, whatever signals come. */
+static void rest(int milliseconds) {
+    struct timespec end = time_of(now(CLOCK_MONOTONIC) + milliseconds * (long long)MILLI);
+    while (clock_nanosleep(CLOCK_MONOTONIC, TIMER_ABSTIME, &end, NULL) == EINTR) continue;
 }
 
-/* Holds a range, and sleeps while another thread is in the way. Why no thread sleeps too long:
-   - Who gives a range back looks at `waiting` after that. Who tries has counted itself before. So either the try sees
-     the range as free, or the other one sees somebody waiting and tells the door; and it can't tell it before the
-     sleep, since that needs the mutex.
-   - BUSY may also come of a thread that only asked for a range and was refused itself. Two that are in here exclude
-     each other by the mutex; one that isn't tells the door when it comes in, behind its refused tries.
-   - After AGAIN, LONG and NO_NODE nobody tells the door, so the sleep is short.
-   DONE; IS_CLOSED, HAS_ONE or BAD_RANGE at once. */
-static gz_range_answer enter(door *door, gz_range *handle, uint64_t lo, uint64_t hi, bool writer) {
-    gz_range_answer answer = gz_range_try_plain(handle, lo, hi, writer, TRIES);
-    if (!gz_range_may_retry(answer)) return answer;
-    pthread_mutex_lock(&door->mutex);
-    if (atomic_fetch_add(&door->waiting, 1) > 0) pthread_cond_broadcast(&door->opened);
-    for (;;) {
-        answer = gz_range_try_plain(handle, lo, hi, writer, TRIES);
-        if (!gz_range_may_retry(answer)) break;
-        sleep_at(door, answer == GZ_RANGE_BUSY);
-    }
-    atomic_fetch_sub(&door->waiting, 1);
-    pthread_mutex_unlock(&door->mutex);
-    return answer;
-}
+static void say(const char *what, bool it_is) { printf("%s: %s\n", what, it_is ? "yes" : "no"); }
 
-/* Gives the range back, and tells who sleeps at the door. */
-static gz_range_answer leave(door *door, gz_range *handle) {
-    gz_range_answer answer = gz_range_release(handle);
-    if (atomic_load(&door->waiting) > 0) {
-        pthread_mutex_lock(&door->mutex);
-        pthread_cond_broadcast(&door->opened);
-        pthread_mutex_unlock(&door->mutex);
-    }
-    return answer;
-}
-
-typedef struct worker {
-    pthread_t thread;
-    gz_range handle;
-    unsigned number;
-    unsigned failed;   /* answers that were not DONE */
-    long long used;    /* processor time until the first range was held, in nanoseconds */
-} worker;
-
-static uint64_t cells[CELLS];
-
-/* Waits at the door for what main holds, and then counts in cells, two at a time. */
-static void *work(void *argument) {
-    worker *me = argument;
-    if (enter(&entrance, &me->handle, 0, CELLS, GZ_RANGE_READER)) me->failed++;
-    me->used = now(CLOCK_THREAD_CPUTIME_ID);
-    if (leave(&entrance, &me->handle)) me->failed++;
-    for (unsigned turn = 0; turn < TURNS; turn++) {
-        uint64_t cell = (turn + me->number) % (CELLS - 1);
-        if (enter(&entrance, &me->handle, cell, cell + 2, GZ_RANGE_WRITER)) me->failed++;
-        cells[cell]++, cells[cell + 1]++;
-        if (leave(&entrance, &me->handle)) me->failed++;
-    }
-    return NULL;
-}
-
-static const char *says(bool it_is) { return it_is ? "yes" : "no"; }
-
-static void show_deadline(gz_range *holder, gz_range *other) {
+static void show_deadlines(void) {
+    gz_range *holder = &handles[0], *other = &handles[1];
+    if (gz_range_acquire(holder, 0, CELLS, GZ_RANGE_WRITER)) exit(1);
     long long begun = now(CLOCK_MONOTONIC), used = now(CLOCK_THREAD_CPUTIME_ID);
     struct timespec past = time_of(begun), soon = time_of(begun + 200 * MILLI), far = { INT64_MAX, 999999999 };
     gz_range_answer answer = gz_range_acquire_until(other, 5, 6, GZ_RANGE_WRITER, &past);
@@ -122,7 +57,7 @@ static void show_deadline(gz_range *holder, gz_range *other) {
     long long took = now(CLOCK_MONOTONIC) - begun;
     used = now(CLOCK_THREAD_CPUTIME_ID) - used;
     printf("at its deadline: %s\n", gz_range_text(answer));
-    printf("it waited until the deadline: %s, asleep: %s\n", says(took >= 200 * MILLI), says(used < 50 * MILLI));
+    say("it waited until the deadline, asleep", took >= 200 * MILLI && used < 50 * MILLI);
     gz_range_release(holder);
     answer = gz_range_acquire_until(other, 5, 6, GZ_RANGE_WRITER, &past);
     printf("when the other one has given it back: %s\n", gz_range_text(answer));
@@ -134,38 +69,256 @@ static void show_deadline(gz_range *holder, gz_range *other) {
     gz_range_release(other);
 }
 
-int main(void) {
-    static worker workers[WAITING]; /* all 0, so each handle is closed */
-    gz_range mine = GZ_RANGE_CLOSED;
-    pthread_condattr_t monotonic;
-    if (pthread_condattr_init(&monotonic) || pthread_condattr_setclock(&monotonic, CLOCK_MONOTONIC)) return 1;
-    if (pthread_cond_init(&entrance.opened, &monotonic)) return 1;
-    if (gz_range_open_plain(WAITING + 1, &mine)) return 1;
-    for (unsigned i = 0; i < WAITING; i++) {
-        workers[i].number = i;
-        if (gz_range_share(&mine, &workers[i].handle)) return 1;
-    }
-    if (gz_range_acquire(&mine, 0, CELLS, GZ_RANGE_WRITER)) return 1;
-    show_deadline(&mine, &workers[0].handle);
+/* A thread that waits for all cells, and what it met. */
+typedef struct waiter {
+    pthread_t thread;
+    gz_range *handle;
+    const struct timespec *moment; /* or none */
+    bool held;
+    long long used; /* processor time until the range was held, in nanoseconds */
+    unsigned long tries;
+} waiter;
 
-    if (gz_range_acquire(&mine, 0, CELLS, GZ_RANGE_WRITER)) return 1;
-    for (unsigned i = 0; i < WAITING; i++)
-        if (pthread_create(&workers[i].thread, NULL, work, &workers[i])) return 1;
-    struct timespec while_they_wait = time_of(300 * MILLI);
-    clock_nanosleep(CLOCK_MONOTONIC, 0, &while_they_wait, NULL);
-    if (leave(&entrance, &mine)) return 1;
-    unsigned failed = 0;
+static void *wait_for_cells(void *argument) {
+    waiter *me = argument;
+    gz_range_counts counts = { 0 };
+    gz_range_answer answer = me->moment
+        ? gz_range_acquire_until_counted(me->handle, 0, CELLS, GZ_RANGE_READER, me->moment, &counts)
+        : gz_range_acquire_counted(me->handle, 0, CELLS, GZ_RANGE_READER, &counts);
+    me->used = now(CLOCK_THREAD_CPUTIME_ID);
+    me->tries = counts.tries;
+    __atomic_store_n(&me->held, answer == GZ_RANGE_DONE, __ATOMIC_SEQ_CST);
+    if (answer == GZ_RANGE_DONE) gz_range_release(me->handle);
+    pthread_testcancel();
+    return me;
+}
+
+static void start(waiter *waiter, int seat, const struct timespec *moment) {
+    waiter->handle = &handles[seat];
+    waiter->moment = moment;
+    waiter->held = false;
+    if (pthread_create(&waiter->thread, NULL, wait_for_cells, waiter)) exit(1);
+}
+
+static bool holds(waiter *waiter) { return __atomic_load_n(&waiter->held, __ATOMIC_SEQ_CST); }
+
+static void on_signal(int number) { (void)number; }
+
+/* Three readers sleep while the cells are held for 300 ms, and are woken together. */
+static void show_sleep(void) {
+    waiter readers[3];
     bool asleep = true;
-    for (unsigned i = 0; i < WAITING; i++) {
-        pthread_join(workers[i].thread, NULL);
-        failed += workers[i].failed;
-        asleep = asleep && workers[i].used < 100 * MILLI;
-        gz_range_close(&workers[i].handle);
+    if (gz_range_acquire(&handles[0], 0, CELLS, GZ_RANGE_WRITER)) exit(1);
+    for (int i = 0; i < 3; i++) start(&readers[i], i + 1, NULL);
+    rest(300);
+    gz_range_release(&handles[0]);
+    for (int i = 0; i < 3; i++) {
+        pthread_join(readers[i].thread, NULL);
+        asleep = asleep && holds(&readers[i]) && readers[i].used < 100 * MILLI && readers[i].tries < 100;
     }
-    gz_range_close(&mine);
+    say("three readers waited asleep", asleep);
+}
+
+static void show_signals(void) {
+    const struct sigaction action = { .sa_handler = on_signal };
+    waiter one;
+    sigaction(SIGUSR1, &action, NULL);
+    if (gz_range_acquire(&handles[0], 0, CELLS, GZ_RANGE_WRITER)) exit(1);
+    start(&one, 1, NULL);
+    for (int i = 0; i < 20; i++) {
+        rest(5);
+        pthread_kill(one.thread, SIGUSR1);
+    }
+    bool waits = !holds(&one);
+    gz_range_release(&handles[0]);
+    pthread_join(one.thread, NULL);
+    say("it went on waiting after signals", waits && holds(&one));
+}
+
+static void show_cancel(void) {
+    const struct timespec far = { INT64_MAX, 0 };
+    waiter one;
+    void *ended;
+    if (gz_range_acquire(&handles[0], 0, CELLS, GZ_RANGE_WRITER)) exit(1);
+    start(&one, 1, &far);
+    rest(50);
+    pthread_cancel(one.thread);
+    rest(50);
+    bool waits = !holds(&one);
+    gz_range_release(&handles[0]);
+    pthread_join(one.thread, &ended);
+    gz_busy held;
+    say("a thread that was cancelled went on waiting", waits && holds(&one));
+    say("and ended with nothing held", ended == PTHREAD_CANCELED &&
+        gz_range_held(one.handle, &held) == GZ_RANGE_HAS_NONE);
+}
+
+static volatile sig_atomic_t alarms, granted, wrong;
+
+/* A try waits for nobody and takes no memory, so a handler may make one by a handle that no one else uses. */
+static void on_alarm(int number) {
+    gz_busy busy;
+    gz_range_answer answer = gz_range_try(&handles[2], 0, 8, GZ_RANGE_WRITER, 1, &busy);
+    (void)number;
+    alarms = alarms + 1;
+    if (answer == GZ_RANGE_DONE) {
+        granted = granted + 1;
+        if (gz_range_release(&handles[2])) wrong = wrong + 1;
+    } else if (!gz_range_may_retry(answer)) {
+        wrong = wrong + 1;
+    }
+}
+
+static void show_handler(void) {
+    const struct sigaction action = { .sa_handler = on_alarm }, ignored = { .sa_handler = SIG_IGN };
+    const struct itimerval each = { { 0, 1000 }, { 0, 1000 } }, never = { { 0, 0 }, { 0, 0 } };
+    unsigned failed = 0;
+    sigaction(SIGALRM, &action, NULL);
+    setitimer(ITIMER_REAL, &each, NULL);
+    while (alarms < 100 || granted == 0) {
+        if (gz_range_acquire(&handles[0], 4, 12, GZ_RANGE_WRITER) || gz_range_release(&handles[0])) failed++;
+        if (alarms >= 50) sched_yield();
+    }
+    setitimer(ITIMER_REAL, &never, NULL);
+    sigaction(SIGALRM, &ignored, NULL);
+    say("a signal handler has a handle of its own", wrong == 0 && failed == 0);
+}
+
+/* The child has the places of its parent's sleeping callers, and not these threads. */
+static void show_fork(void) {
+    waiter one;
+    int status = 1;
+    if (gz_range_acquire(&handles[0], 0, CELLS, GZ_RANGE_WRITER)) exit(1);
+    start(&one, 1, NULL);
+    rest(50);
+    pid_t child = fork();
+    if (child == 0) {
+        gz_range own = GZ_RANGE_CLOSED, second = GZ_RANGE_CLOSED;
+        struct timespec soon = time_of(now(CLOCK_MONOTONIC) + 20 * MILLI);
+        for (int i = 0; i < SEATS; i++) gz_range_forget(&handles[i]);
+        bool right = gz_range_open_plain(2, &own) == GZ_RANGE_DONE && gz_range_share(&own, &second) == GZ_RANGE_DONE &&
+                     gz_range_acquire(&own, 0, CELLS, GZ_RANGE_WRITER) == GZ_RANGE_DONE &&
+                     gz_range_acquire_until(&second, 0, 1, GZ_RANGE_READER, &soon) == GZ_RANGE_BUSY &&
+                     gz_range_release(&own) == GZ_RANGE_DONE && gz_range_close(&second) == GZ_RANGE_DONE &&
+                     gz_range_close(&own) == GZ_RANGE_DONE;
+        _exit(right ? 0 : 1);
+    }
+    if (child < 0 || waitpid(child, &status, 0) != child) status = 1;
+    gz_range_release(&handles[0]);
+    pthread_join(one.thread, NULL);
+    say("a child of a fork waits in a table of its own", status == 0 && holds(&one));
+}
+
+static pthread_barrier_t both;
+
+/* Holds the cells at the lowest priority, and gives them back after 20 ms of its own processor time. */
+static void *hold_low(void *argument) {
+    if (gz_range_acquire(&handles[0], 0, CELLS, GZ_RANGE_WRITER)) exit(1);
+    pthread_barrier_wait(&both);
+    while (now(CLOCK_THREAD_CPUTIME_ID) < 20 * MILLI) continue;
+    gz_range_release(&handles[0]);
+    return argument;
+}
+
+static void *wait_high(void *argument) {
+    pthread_barrier_wait(&both);
+    return wait_for_cells(argument);
+}
+
+/* Starts a thread on processor `on` with this priority of SCHED_FIFO; what is wrong else. */
+static int start_fifo(pthread_t *thread, int on, int priority, void *(*run)(void *), void *argument) {
+    pthread_attr_t attributes;
+    const struct sched_param param = { .sched_priority = priority };
+    cpu_set_t one;
+    CPU_ZERO(&one);
+    CPU_SET(on, &one);
+    pthread_attr_init(&attributes);
+    pthread_attr_setinheritsched(&attributes, PTHREAD_EXPLICIT_SCHED);
+    pthread_attr_setschedpolicy(&attributes, SCHED_FIFO);
+    pthread_attr_setschedparam(&attributes, &param);
+    pthread_attr_setaffinity_np(&attributes, sizeof one, &one);
+    int failed = pthread_create(thread, &attributes, run, argument);
+    pthread_attr_destroy(&attributes);
+    return failed;
+}
+
+static void *return_at_once(void *argument) { return argument; }
+
+static void show_priorities(void) {
+    static waiter high;
+    pthread_t low;
+    int on = sched_getcpu(), failed = start_fifo(&low, on, 1, return_at_once, NULL);
+    if (failed) {
+        fprintf(stderr, "passed over: priorities, as SCHED_FIFO can't be had here: %s\n", strerror(failed));
+    } else {
+        pthread_join(low, NULL);
+        high.handle = &handles[1];
+        pthread_barrier_init(&both, NULL, 2);
+        if (start_fifo(&low, on, 1, hold_low, NULL) || start_fifo(&high.thread, on, 2, wait_high, &high)) exit(1);
+        pthread_join(high.thread, NULL);
+        pthread_join(low, NULL);
+    }
+    say("a waiter let a holder of a lower priority run", failed || holds(&high));
+}
+
+/* Counts in one cell, in a few or in all, and looks into some. */
+static void *count(void *argument) {
+    const unsigned me = (unsigned)(uintptr_t)argument;
+    uint64_t drawn = 1 + me, sum = 0;
+    for (unsigned long turn = 0; turn < turns; turn++) {
+        drawn = drawn * 6364136223846793005u + 1442695040888963407u;
+        uint64_t lo = (drawn >> 33) % CELLS, length = turn % 64 == me ? CELLS : 1 + (drawn >> 50) % 4;
+        if (lo + length > CELLS) lo = CELLS - length;
+        const bool writer = (drawn >> 60) < 7;
+        if (gz_range_acquire(&handles[me], lo, lo + length, writer)) exit(1);
+        if (writer) cells[lo]++;
+        else sum += cells[lo];
+        if (turn % 16 == 0) sched_yield();
+        if (gz_range_release(&handles[me])) exit(1);
+        if (writer) __atomic_fetch_add(&granted, 1, __ATOMIC_RELAXED);
+    }
+    return (void *)(uintptr_t)(sum & 1);
+}
+
+static void show_turns(void) {
+    pthread_t threads[SEATS];
     uint64_t sum = 0;
+    granted = 0;
+    for (unsigned i = 0; i < SEATS; i++)
+        if (pthread_create(&threads[i], NULL, count, (void *)(uintptr_t)i)) exit(1);
+    for (unsigned i = 0; i < SEATS; i++) pthread_join(threads[i], NULL);
     for (int i = 0; i < CELLS; i++) sum += cells[i];
-    printf("at the door they waited asleep: %s, calls that were refused: %u\n", says(asleep), failed);
-    printf("counted: %lu of %d\n", (unsigned long)sum, WAITING * TURNS * 2);
+    say("sixteen threads came to their turns", sum == (uint64_t)granted);
+}
+
+/* Ends the program where it doesn't end. The case of the handler has SIGALRM. */
+static void *watch(void *argument) {
+    rest((int)(100000 + turns));
+    fprintf(stderr, "somebody waits still\n");
+    abort();
+    return argument;
+}
+
+int main(int count, char **words) {
+    pthread_t watchdog;
+    sigset_t alarm;
+    if (count > 1) turns = strtoul(words[1], NULL, 10);
+    sigemptyset(&alarm);
+    sigaddset(&alarm, SIGALRM);
+    pthread_sigmask(SIG_BLOCK, &alarm, NULL); /* for the watchdog */
+    if (pthread_create(&watchdog, NULL, watch, NULL)) return 1;
+    pthread_sigmask(SIG_UNBLOCK, &alarm, NULL);
+    if (gz_range_open_plain(SEATS, &handles[0])) return 1;
+    for (int i = 1; i < SEATS; i++)
+        if (gz_range_share(&handles[0], &handles[i])) return 1;
+    show_deadlines();
+    show_sleep();
+    show_signals();
+    show_cancel();
+    show_handler();
+    show_fork();
+    show_priorities();
+    show_turns();
+    for (int i = 0; i < SEATS; i++) gz_range_close(&handles[i]);
     return 0;
 }

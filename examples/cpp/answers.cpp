@@ -169,10 +169,11 @@ void looks(gz::seat &first, gz::seat &second) {
     held->release();
     show("a range that is free", second.write(15, 16));
     second.count_in(nullptr);
+    second.set_spinning(true);
     show("one that isn't counted", second.write(15, 16));
-    std::printf("each try but one was refused: %s, and a wait or a sleep was between two: %s\n",
+    std::printf("each try but one was refused: %s, and a wait or a sleep was between two, but once: %s\n",
                 counts.tries == counts.refused[GZ_RANGE_BUSY] + 1 ? "yes" : "no",
-                counts.tries == counts.waits + counts.sleeps + 2 ? "yes" : "no");
+                counts.tries - counts.waits - counts.sleeps - 2 <= 1 ? "yes" : "no");
 }
 
 void closed_tables() {

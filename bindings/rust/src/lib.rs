@@ -18,7 +18,6 @@ use std::ops::Range;
 use std::ptr::{self, NonNull};
 use std::sync::atomic::{AtomicU64, Ordering::Relaxed};
 use std::sync::Arc;
-use std::thread;
 use std::time::{Duration, Instant};
 
 /// The most seats that a table has.
@@ -173,19 +172,6 @@ impl Counts {
     pub fn sleeps(&self) -> u64 {
         self.0.sleeps.load(Relaxed)
     }
-
-    fn count(&self, tried: &Result<(), Refused>) {
-        let answer = tried.as_ref().map_or_else(Refused::number, |()| raw::DONE);
-        let Some(refused) = self.0.refused.get(answer as usize) else { return };
-        count_one(Some(&self.0.tries));
-        count_one((answer != raw::DONE).then_some(refused));
-    }
-}
-
-fn count_one(count: Option<&AtomicU64>) {
-    if let Some(count) = count {
-        count.fetch_add(1, Relaxed);
-    }
 }
 
 /// What an answer of the library means for a call that gives back nothing.
@@ -315,6 +301,7 @@ pub struct Seat {
     table: u64,
     /// Where it counts what it meets.
     counts: Option<Arc<Counts>>,
+    spinning: bool,
     /// A handle is in one call at a time, so no two threads may have it.
     _one_thread: PhantomData<*mut Handle>,
 }
@@ -339,7 +326,7 @@ impl Seat {
         };
         let answer = open(place.as_ptr());
         if answer == raw::DONE {
-            return Ok(Seat { place, table, counts: None, _one_thread: PhantomData });
+            return Ok(Seat { place, table, counts: None, spinning: false, _one_thread: PhantomData });
         }
         // SAFETY: the handle is closed still, and of this layout.
         unsafe { dealloc(place.as_ptr().cast(), Layout::new::<Handle>()) };
@@ -391,7 +378,7 @@ impl Seat {
     }
 
     /// Holds the range as a writer, or is refused as the last try was when so long has passed. It tries at least once.
-    /// Between two tries it waits longer each time, after a few of them asleep for at most a millisecond.
+    /// It waits as [`Seat::write`] does.
     pub fn try_write_for(&mut self, range: Range<u64>, time: Duration) -> Result<WriteRange<'_>, Refused> {
         self.hold_until(&range, true, Instant::now().checked_add(time))?;
         Ok(WriteRange::of(self, range))
@@ -415,7 +402,8 @@ impl Seat {
         Ok(ReadRange::of(self, range))
     }
 
-    /// Holds the range as a writer, however long that takes. Nothing is claimed of when it returns.
+    /// Holds the range as a writer, however long that takes. After its first tries it sleeps until the range that is in
+    /// its way is given back. Nothing is claimed of when it returns.
     pub fn write(&mut self, range: Range<u64>) -> Result<WriteRange<'_>, Refused> {
         self.hold(&range, true)?;
         Ok(WriteRange::of(self, range))
@@ -439,43 +427,29 @@ impl Seat {
     }
 
     fn hold(&mut self, range: &Range<u64>, writer: bool) -> Result<(), Refused> {
-        let counts = self.counts.as_ref().map_or(ptr::null(), |counts| ptr::addr_of!(counts.0));
+        let (lo, hi, spinning) = (range.start, range.end, self.spinning);
         // SAFETY: the handle is live and this seat's alone, and the counts are there as long as it is.
-        checked(unsafe { raw::gz_rust_acquire(self.handle(), range.start, range.end, writer, counts) })
+        checked(unsafe { raw::gz_rust_acquire(self.handle(), lo, hi, writer, spinning, self.counts_at()) })
     }
 
-    /// As `gz_range_acquire_until` of the header waits, so with what was in the way of the last try. None is a moment
-    /// that never comes.
+    /// As `gz_range_acquire_until` of the header, with what was in the way of the last try. None is a moment that never
+    /// comes.
     fn hold_until(&mut self, range: &Range<u64>, writer: bool, moment: Option<Instant>) -> Result<(), Refused> {
-        const SHORTEST: Duration = Duration::from_micros(50);
-        const LONGEST: Duration = Duration::from_millis(1);
-        let (mut turns, mut sleep) = (0, Duration::ZERO);
-        loop {
-            let tried = self.try_hold(range, writer, 1).0;
-            let counts = self.counts.as_deref();
-            if let Some(counts) = counts {
-                counts.count(&tried);
-            }
-            let Err(why) = tried else { return Ok(()) };
-            let left = moment.map_or(LONGEST, |moment| moment.saturating_duration_since(Instant::now()));
-            if !why.may_retry() || left.is_zero() {
-                return Err(why);
-            }
-            if why == Refused::Again {
-                continue;
-            }
-            if !sleep.is_zero() {
-                count_one(counts.map(|counts| &counts.0.sleeps));
-                thread::sleep(sleep.min(left));
-                sleep = (2 * sleep).min(LONGEST);
-                continue;
-            }
-            count_one(counts.map(|counts| &counts.0.waits));
-            // SAFETY: `turns` is a place of its own.
-            if unsafe { raw::gz_range_pause(&mut turns) } {
-                sleep = SHORTEST;
-            }
+        const LONGEST: Duration = Duration::from_secs(1_000_000_000);
+        let left = moment.map_or(LONGEST, |moment| moment.saturating_duration_since(Instant::now()).min(LONGEST));
+        let (lo, hi, time) = (range.start, range.end, left.as_nanos() as u64);
+        let mut busy = Busy::default();
+        // SAFETY: as above, and `busy` is a place of its own.
+        let answer =
+            unsafe { raw::gz_rust_acquire_for(self.handle(), lo, hi, writer, time, self.counts_at(), &mut busy) };
+        match answer {
+            raw::DONE => Ok(()),
+            _ => Err(Refused::of(answer, busy)),
         }
+    }
+
+    fn counts_at(&self) -> *const raw::Counts {
+        self.counts.as_ref().map_or(ptr::null(), |counts| ptr::addr_of!(counts.0))
     }
 
     /// Shows who has or wants what in the table: the ranges that a scan of its lists goes past. It waits for nobody. Other
@@ -500,6 +474,12 @@ impl Seat {
         self.counts = Some(Arc::clone(counts));
     }
 
+    /// From now on [`Seat::write`] and [`Seat::read`] don't sleep, or do again. Without sleep they use their processor as
+    /// long as they wait, which serves ranges that are held very shortly.
+    pub fn set_spinning(&mut self, spinning: bool) {
+        self.spinning = spinning;
+    }
+
     /// What the seat holds. Beside a guard that is the guard's range; after a guard was forgotten it is held still.
     pub fn holding(&self) -> Option<Holding> {
         let mut held = Busy::default();
@@ -519,7 +499,7 @@ impl Seat {
     /// Gives back what a forgotten guard left held. Says whether there was anything.
     pub fn release(&mut self) -> bool {
         // SAFETY: the handle is live and this seat's alone.
-        unsafe { raw::gz_range_release(self.handle()) == raw::DONE }
+        unsafe { raw::gz_rust_release(self.handle()) == raw::DONE }
     }
 
     /// Loads client word `i`, counted from 0. This and the next three are each one sequentially consistent step, for

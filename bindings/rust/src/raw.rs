@@ -70,8 +70,6 @@ extern "C" {
         busy: *mut Busy,
         made: *mut u32,
     ) -> u32;
-    pub fn gz_range_pause(turns: *mut u32) -> bool;
-    pub fn gz_range_release(handle: *mut Handle) -> u32;
     pub fn gz_range_held(handle: *mut Handle, held: *mut Busy) -> u32;
     pub fn gz_range_scan_into(
         handle: *mut Handle,
@@ -86,7 +84,24 @@ extern "C" {
     pub fn gz_range_exchange(handle: *mut Handle, i: u32, expected: *mut u64, value: u64) -> u32;
 
     // Of src/header.c.
-    pub fn gz_rust_acquire(handle: *mut Handle, lo: u64, hi: u64, writer: bool, counts: *const Counts) -> u32;
+    pub fn gz_rust_acquire(
+        handle: *mut Handle,
+        lo: u64,
+        hi: u64,
+        writer: bool,
+        spinning: bool,
+        counts: *const Counts,
+    ) -> u32;
+    pub fn gz_rust_acquire_for(
+        handle: *mut Handle,
+        lo: u64,
+        hi: u64,
+        writer: bool,
+        nanoseconds: u64,
+        counts: *const Counts,
+        busy: *mut Busy,
+    ) -> u32;
+    pub fn gz_rust_release(handle: *mut Handle) -> u32;
     pub fn gz_rust_close(handle: *mut Handle) -> u32;
     pub fn gz_rust_text(answer: u32) -> *const c_char;
 }
