@@ -6,4 +6,4 @@ mod looking;
 #[cfg(test)]
 mod tests;
 
-pub use looking::{area_by, areas_by};
+pub use looking::{area_by, areas_by, counts_by, fill_by};

@@ -1,7 +1,7 @@
 //! Worked cases of looks on spaces of both kinds.
 ghost use Rattle.test_crews.specs.Crews.{IsCrew};
 
-use crate::looking::{area_by, areas_by};
+use crate::looking::{area_by, areas_by, counts_by, fill_by};
 use area_rows::{Caller, Space};
 use list_cuts::Cut;
 use page_types::{Kind, LIMIT, Prot, Span};
@@ -147,4 +147,83 @@ fn the_area_at_a_page_has_its_own_ends(rt: HostRuntime) {
         assert_eq!(rt; area_read(&rt, &space, callers, LIMIT - 3), None);
         assert_eq!(rt; area_read(&rt, &space, callers, LIMIT - 1), Some(last));
     }
+}
+
+/// How many areas and pages a span has, by `counts` and by a round that puts the areas into places, which say the same.
+fn count_read<R: Abort + Wait>(
+    rt: &R,
+    space: &Space,
+    callers: &mut [Caller],
+    span: Span,
+    into: &mut [Area],
+) -> (u64, u64)
+    requires crew { IsCrew space.now.table space.now.seats callers.old }
+    ensures crew { IsCrew space.now.table space.now.seats callers.new }
+{
+    let counted = counts_by(rt, space, callers, span);
+    let filled = fill_by(space, callers, span, into).expect(rt, "nobody else holds it");
+    assert_eq!(rt; filled.areas, counted.areas);
+    assert_eq!(rt; filled.pages, counted.pages);
+    (counted.areas, counted.pages)
+}
+
+/// Fewer places than areas: the first areas are there, and all are counted.
+fn count_all<R: Abort + Wait>(rt: &R, alloc: Global, keeps: bool) {
+    let start = start_areas();
+    let [first, read, _, _, _] = start;
+    let (space, mut callers) = open(rt, alloc, keeps, &[1], &start);
+    let mut places = [area(1, 2, Prot::EXEC); 2];
+    let span = Span { lo: 0, hi: LIMIT };
+    let (areas, pages) = count_read(rt, &space, callers.as_mut_slice(), span, &mut places);
+    assert_eq!(rt; areas, 5);
+    assert_eq!(rt; pages, 8);
+    let [one, two] = places;
+    assert_eq!(rt; one, first);
+    assert_eq!(rt; two, read);
+}
+
+/// A span that ends within two areas: they are clipped to it, and a place that is too many stays as it was.
+fn count_cut<R: Abort + Wait>(rt: &R, alloc: Global, keeps: bool) {
+    let (space, mut callers) = open(rt, alloc, keeps, &[1], &start_areas());
+    let other = area(1, 2, Prot::EXEC);
+    let mut places = [other; 3];
+    let span = Span { lo: 17, hi: 19 };
+    let (areas, pages) = count_read(rt, &space, callers.as_mut_slice(), span, &mut places);
+    assert_eq!(rt; areas, 2);
+    assert_eq!(rt; pages, 2);
+    let [one, two, three] = places;
+    assert_eq!(rt; one, area(17, 18, Prot::READ));
+    assert_eq!(rt; two, area(18, 19, Prot::WRITE));
+    assert_eq!(rt; three, other);
+}
+
+/// A gap has no area and no page.
+fn count_gap<R: Abort + Wait>(rt: &R, alloc: Global, keeps: bool) {
+    let (space, mut callers) = open(rt, alloc, keeps, &[1], &start_areas());
+    let other = area(1, 2, Prot::EXEC);
+    let mut places = [other; 1];
+    let span = Span { lo: 20, hi: 30 };
+    let (areas, pages) = count_read(rt, &space, callers.as_mut_slice(), span, &mut places);
+    assert_eq!(rt; areas, 0);
+    assert_eq!(rt; pages, 0);
+    let [one] = places;
+    assert_eq!(rt; one, other);
+}
+
+#[test]
+fn areas_are_counted_with_fewer_places(rt: HostRuntime) {
+    count_all(&rt, rt.alloc(), true);
+    count_all(&rt, rt.alloc(), false);
+}
+
+#[test]
+fn counted_areas_are_clipped(rt: HostRuntime) {
+    count_cut(&rt, rt.alloc(), true);
+    count_cut(&rt, rt.alloc(), false);
+}
+
+#[test]
+fn a_gap_counts_nothing(rt: HostRuntime) {
+    count_gap(&rt, rt.alloc(), true);
+    count_gap(&rt, rt.alloc(), false);
 }
