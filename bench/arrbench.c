@@ -11,10 +11,11 @@
 
    It writes a line for each peer and load, separated by tabs: the kind of range, readers in 100, threads, the peer's
    name, million turns in a second (the middle one of three rounds), the least share of a thread in hundredths of an even
-   one (of three rounds), the longest single wait in microseconds (of three rounds) and the mean one. It ends with status
+   one (of three rounds), the longest single wait in microseconds (of three rounds) and the mean one, and the turns of the
+   slowest round and of the fastest. It ends with status
    1 where a peer didn't exclude. Where other work disturbs the machine it ends with status 75, at once, or behind all
-   lines with a second word; rounds of 1 ms, to try the peers, are measured whatever disturbs them. Of `wide` the last
-   three columns are of the wide caller: thousand turns in a second, the longest wait and the mean one. */
+   lines with a second word; rounds of 1 ms, to try the peers, are measured whatever disturbs them. Of `wide` the sixth
+   to eighth column are of the wide caller: thousand turns in a second, the longest wait and the mean one. */
 #define _GNU_SOURCE
 #include "rounds.h"
 
@@ -23,7 +24,11 @@
 static const peer *const peers[] = { &range_list,  &range_regions,  &one_mutex,    &one_rwlock, &striped, &rwlocks_16,
                                      &rwlocks_256, &tree_shared, &tree_exclusive, &fifo, &record_locks,
                                      &no_lock };
-static const peer *const waiters[] = { &range_list, &range_regions, &one_mutex, &one_rwlock, &tree_shared, &fifo,
+static const peer *const waiters[] = { &range_list, &range_regions,
+#ifdef HAS_SPINNING
+                                       &spinning_list, &spinning_regions,
+#endif
+                                       &one_mutex, &one_rwlock, &tree_shared, &fifo,
 #ifdef HAS_ABSL
                                        &absl_btree,
 #endif
@@ -43,8 +48,9 @@ static void measure_one(unsigned count, draw draw, unsigned in_100, unsigned thr
     outcome outcomes[PEERS];
     measure(peers, count, &load, nanoseconds, outcomes);
     for (unsigned p = 0; p < count; p++)
-        printf("%s\t%u\t%u\t%s\t%.3f\t%.0f\t%.0f\t%.1f\n", kinds[draw], in_100, threads, peers[p]->name,
-               outcomes[p].rate / 1e6, outcomes[p].least_share, outcomes[p].longest_wait / 1e3, outcomes[p].mean_wait / 1e3);
+        printf("%s\t%u\t%u\t%s\t%.3f\t%.0f\t%.0f\t%.1f\t%.3f\t%.3f\n", kinds[draw], in_100, threads, peers[p]->name,
+               outcomes[p].rate / 1e6, outcomes[p].least_share, outcomes[p].longest_wait / 1e3, outcomes[p].mean_wait / 1e3,
+               outcomes[p].least_rate / 1e6, outcomes[p].most_rate / 1e6);
 }
 
 /* Peers beside each other where threads hold their ranges for a microsecond. */
@@ -54,9 +60,9 @@ static void measure_waiting(const char *kind, const load *load, long long nanose
     for (unsigned p = 0; p < WAITING_PEERS; p++) {
         const outcome *o = &outcomes[p];
         bool wide = load->draw == WIDE;
-        printf("%s\t%u\t%u\t%s\t%.3f\t%.1f\t%.0f\t%.1f\n", kind, load->readers, load->threads, waiters[p]->name, o->rate / 1e6,
-               wide ? o->first_rate / 1e3 : o->least_share, (wide ? o->first_longest : o->longest_wait) / 1e3,
-               (wide ? o->first_mean : o->mean_wait) / 1e3);
+        printf("%s\t%u\t%u\t%s\t%.3f\t%.1f\t%.0f\t%.1f\t%.3f\t%.3f\n", kind, load->readers, load->threads, waiters[p]->name,
+               o->rate / 1e6, wide ? o->first_rate / 1e3 : o->least_share, (wide ? o->first_longest : o->longest_wait) / 1e3,
+               (wide ? o->first_mean : o->mean_wait) / 1e3, o->least_rate / 1e6, o->most_rate / 1e6);
     }
 }
 

@@ -14,7 +14,7 @@
     if (figure > most[key]) most[key] = figure
 }
 END {
-    print "Nanoseconds; the least of the runs, what it is compared with in that run, and the range over the runs."
+    print "Nanoseconds of wall time over the calls of all threads; the least of the runs, what it is compared with in that run, and the range over the runs."
     print ""
     print "| Subject | Workload | Threads | ns | Compared | Range |"
     print "|---|---|---|---|---|---|"

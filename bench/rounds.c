@@ -217,6 +217,8 @@ void measure(const peer *const peers[], unsigned count, const load *load, long l
     for (unsigned p = 0; p < count; p++) {
         qsort(rates[p], ROUNDS, sizeof(double), compare);
         outcomes[p].rate = rates[p][ROUNDS / 2];
+        outcomes[p].least_rate = rates[p][0];
+        outcomes[p].most_rate = rates[p][ROUNDS - 1];
         outcomes[p].mean_wait /= ROUNDS;
         outcomes[p].first_rate /= ROUNDS;
         outcomes[p].first_mean /= ROUNDS;

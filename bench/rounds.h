@@ -24,6 +24,7 @@ typedef struct load {
 
 typedef struct outcome {
     double rate;          /* turns of all threads in a second */
+    double least_rate, most_rate; /* the same of the slowest round and of the fastest */
     double least_share;   /* the turns of the thread that made fewest, in hundredths of an even share */
     double mean_wait;     /* nanoseconds that a take lasted in the mean; 0 where waits aren't timed */
     double longest_wait;  /* nanoseconds that a single take lasted at most; 0 likewise */

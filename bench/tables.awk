@@ -137,14 +137,15 @@ function print_crowd(    p, t, name, head, line, cells) {
     }
 }
 
-# The better of two rates of the range lock, over the best rate of the other peers, with that one's name.
-function ratio(mode, threads, work,    p, mine, best, name) {
-    for (p = 1; p <= count["peers"]; p++) {
-        name = item["peers", p]
-        if (p <= 2) { if (rate[mode, threads, work, name] > mine) mine = rate[mode, threads, work, name] }
-        else if (rate[mode, threads, work, name] > best) { best = rate[mode, threads, work, name]; best_name = name }
-    }
-    return sprintf(" %.2f (%s) |", best > 0 ? mine / best : 0, best_name)
+# The rates of the range lock with one list and with regions, over the best rate of the other peers, with that one's name.
+function ratio(mode, threads, work,    p, best, name) {
+    for (p = 3; p <= count["peers"]; p++)
+        if (rate[mode, threads, work, item["peers", p]] > best) {
+            name = item["peers", p]
+            best = rate[mode, threads, work, name]
+        }
+    if (best == 0) return " - |"
+    return sprintf(" %.2f / %.2f (%s) |", rate[mode, threads, work, item["peers", 1]] / best, rate[mode, threads, work, item["peers", 2]] / best, name)
 }
 
 function print_ratios(    m, t, w, head, line, cells) {
@@ -152,7 +153,7 @@ function print_ratios(    m, t, w, head, line, cells) {
         head = head " W of " time_of(item["works", w]) " |"
         line = line "---|"
     }
-    print "Holds a second of the range lock, with one list or with regions, over those of the best other lock, which is named:\n"
+    print "Holds a second of the range lock, with one list / with regions, over those of the best other lock, which is named:\n"
     print "| threads | who |" head
     print "|---|---|" line
     for (t = 2; t <= count["threads"]; t++)

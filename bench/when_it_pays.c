@@ -5,8 +5,8 @@
        when_it_pays MILLISECONDS [anyway]       how long a round is
 
    It writes a line for each peer and load, separated by tabs: who holds what, threads, nanoseconds of work, the peer's
-   name, thousand holds in a second of all threads together (the middle one of three rounds). Its status is as that of
-   arrbench. The table of regions has 16, in blocks of 256 pages. */
+   name, thousand holds in a second of all threads together (the middle one of three rounds, the least and the greatest).
+   Its status is as that of arrbench. The table of regions has 16, in blocks of 256 pages. */
 #include "rounds.h"
 
 #include <string.h>
@@ -30,7 +30,8 @@ static void measure_one(const struct mode *mode, unsigned threads, unsigned work
     outcome outcomes[PEERS];
     measure(peers, PEERS, &load, nanoseconds, outcomes);
     for (int p = 0; p < PEERS; p++)
-        printf("%s\t%u\t%u\t%s\t%.1f\n", mode->name, threads, work, peers[p]->name, outcomes[p].rate / 1e3);
+        printf("%s\t%u\t%u\t%s\t%.1f\t%.1f\t%.1f\n", mode->name, threads, work, peers[p]->name, outcomes[p].rate / 1e3,
+               outcomes[p].least_rate / 1e3, outcomes[p].most_rate / 1e3);
 }
 
 int main(int count, char **words) {

@@ -27,7 +27,7 @@ typedef struct peer {
 } peer;
 
 extern const peer range_list, range_regions, one_mutex, one_rwlock, striped, rwlocks_16, rwlocks_256, tree_shared,
-    tree_exclusive, fifo, record_locks, no_lock, absl_btree, interval_map;
+    tree_exclusive, fifo, record_locks, no_lock, absl_btree, interval_map, spinning_list, spinning_regions;
 
 /* Ends the program where a call of the system failed. */
 static inline void must(bool well, const char *what) {

@@ -1,5 +1,6 @@
 /* The range lock of this repository, by gz_range_acquire, with one list of all ranges, or with a list for each region of
-   the slots. As many regions are asked for as suit the load; each is one block of slots. */
+   the slots. As many regions are asked for as suit the load; each is one block of slots. Where the header has
+   gz_range_acquire_spinning, whose callers don't sleep, both stand here with it too. */
 #include "gz_range.h"
 #include "peer.h"
 
@@ -46,3 +47,12 @@ static void close_all(void) {
 
 const peer range_list = { "range lock, one list", true, open_list, take, give_back, close_all };
 const peer range_regions = { "range lock, regions", true, open_regions, take, give_back, close_all };
+
+#ifdef HAS_SPINNING
+static void take_spinning(unsigned thread, uint64_t lo, uint64_t hi, bool writer) {
+    if (gz_range_acquire_spinning(&handles[thread], lo, hi, writer, NULL)) abort();
+}
+
+const peer spinning_list = { "spinning, one list", true, open_list, take_spinning, give_back, close_all };
+const peer spinning_regions = { "spinning, regions", true, open_regions, take_spinning, give_back, close_all };
+#endif
